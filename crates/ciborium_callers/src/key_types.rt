@@ -4,6 +4,10 @@ ghost use Rattle.std.specs.Cmp.Lexicographic.{slice_cmp};
 ghost use Rattle.std.specs.Ordering.{nat_cmp, ordering_then};
 ghost use Rattle.ciborium.specs.Readings.{ordered_by};
 ghost use Rattle.ciborium.specs.ReadsBack.{string_back};
+ghost use Rattle.ciborium.specs.FormsReadBack.{string-form};
+ghost use Rattle.ciborium.specs.lemmas.FormsReadBackNumbers.{u8_form};
+ghost use Rattle.ciborium.specs.lemmas.FormsReadBackStructs.{field_form, fields_form};
+ghost use Rattle.ciborium.specs.lemmas.FormsReadBackStructs.{no_field_form};
 ghost use Rattle.ciborium.specs.lemmas.ReadsBackNumbers.{u8_back};
 ghost use Rattle.ciborium.specs.lemmas.ReadsBackStructs.{field_back, fields_read_back};
 ghost use Rattle.ciborium.specs.lemmas.ReadsBackStructs.{no_field_back};
@@ -13,7 +17,7 @@ ghost use Rattle.ciborium.specs.WrittenContents.{field_alike, fields_alike};
 ghost use Rattle.ciborium.specs.WrittenContents.{no_field_alike, string-alike, unsigned-alike};
 
 use ciborium::de::{Deserialize, Key, Source, Wanted, read_fields, required};
-use ciborium::laws::{ReadsBack, WritesContent};
+use ciborium::laws::{FormReadsBack, ReadsBack, WritesContent};
 use ciborium::ser::{Field, NoField, Serialize, Sink};
 use ciborium::value::Kind;
 use std::alloc::Global;
@@ -65,6 +69,14 @@ impl ReadsBack for Release {
         (field_back (codes "version") ⟦<u8 as Deserialize>⟧.reading (u8_back r.version held)
         (field_back (codes "name") ⟦<String as Deserialize>⟧.reading (string_back r.name tt)
         no_field_back)) refl };
+}
+
+impl FormReadsBack for Release {
+    ghost form_reads_back = { λ order r held. fields_form order
+        (field_form order (codes "version") ⟦<u8 as Deserialize>⟧.reading
+        (u8_form order r.version held)
+        (field_form order (codes "name") ⟦<String as Deserialize>⟧.reading
+        (string-form order r.name tt) (no_field_form order))) refl };
 }
 
 impl WritesContent for Release {

@@ -6,9 +6,14 @@ ghost use Rattle.ciborium.specs.Places.{dictionary, sequence};
 ghost use Rattle.ciborium.specs.Readings.{below, such_that, tuple2_of};
 ghost use Rattle.ciborium.specs.ReadsBack.{string_back};
 ghost use Rattle.ciborium.specs.FormsReadBack.{string-form};
-ghost use Rattle.ciborium.specs.lemmas.FormsReadBackNumbers.{u8_form};
+ghost use Rattle.ciborium.specs.NeverWritten.{byte_strings, never-number};
+ghost use Rattle.ciborium.specs.lemmas.FormsReadBackNumbers.{u64_form, u8_form};
+ghost use Rattle.ciborium.specs.lemmas.FormsReadBackParts.{tuple2-form};
 ghost use Rattle.ciborium.specs.lemmas.FormsReadBackStructs.{field_form, fields_form};
-ghost use Rattle.ciborium.specs.lemmas.FormsReadBackStructs.{no_field_form};
+ghost use Rattle.ciborium.specs.lemmas.FormsReadBackStructs.{no_field_form, such_that_form};
+ghost use Rattle.ciborium.specs.lemmas.FormsReadBackTags.{required-form};
+ghost use Rattle.ciborium.specs.lemmas.FormsReadBackVariants.{data_variant_form};
+ghost use Rattle.ciborium.specs.lemmas.FormsReadBackVariants.{unit_variant_form};
 ghost use Rattle.ciborium.specs.lemmas.ReadsBackNumbers.{u64_back, u8_back};
 ghost use Rattle.ciborium.specs.lemmas.ReadsBackParts.{such_that_back, tuple2-back};
 ghost use Rattle.ciborium.specs.lemmas.ReadsBackStructs.{field_back, fields_read_back};
@@ -172,6 +177,15 @@ impl ReadsBack for Figure {
         ] };
 }
 
+impl FormReadsBack for Figure {
+    ghost form_reads_back = { λ order. let variants = unit_variant (codes "Point") Point
+        ∷ data_variant (codes "Circle") Circle (below 256) ∷ [] in elim [
+          | Point ↦ λ held. unit_variant_form order variants (codes "Point") refl
+          | Circle r ↦ λ held. data_variant_form order variants (codes "Circle") Circle (below 256)
+              (λ i. refl) (u8_form order r held)
+        ] };
+}
+
 impl WritesContent for Figure {
     ghost writes_content = { from_content ⟦<Figure as Serialize>⟧.written _ };
 }
@@ -285,6 +299,11 @@ impl ReadsBack for Moment {
     ghost reads_back = { λ m held. required-back 1 (u64_back m.seconds held) };
 }
 
+impl FormReadsBack for Moment {
+    ghost form_reads_back = { λ order m held. required-form order 1
+        (never-number byte_strings (pos m.seconds)) (u64_form order m.seconds held) };
+}
+
 impl WritesContent for Moment {
     ghost writes_content = { from_content (λ n. tag_of 1 (Ok (number_item (pos n)))) _ };
 }
@@ -331,6 +350,11 @@ impl ReadsBack for Span {
     ghost reads_back = { λ s held. such_that_back (λ p. nat_le p.0 p.1) Range
         (tuple2-back (u8_back s.start held.0)
         (u8_back s.end held.1)) held.2 };
+}
+
+impl FormReadsBack for Span {
+    ghost form_reads_back = { λ order s held. such_that_form order (λ p. nat_le p.0 p.1) Range
+        (tuple2-form order (u8_form order s.start held.0) (u8_form order s.end held.1)) held.2 };
 }
 
 impl WritesContent for Span {

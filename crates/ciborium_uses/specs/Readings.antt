@@ -4,10 +4,8 @@ use Rattle.std.specs.Option.{option_map}
 use Rattle.std.specs.Prelude.{ℕ, ◌<◌, ◌^◌, ℤ, pos, List, [], ◌∷◌, Option, Some, None, Ok, IfSome}
 use Rattle.std.specs.Prelude.{String, codes, string_bytes}
 use Rattle.std.specs.declared.alloc.Global.{Global}
-use Rattle.ciborium.specs.ReadsBack.{IsNameRead}
 use Rattle.ciborium.specs.Readings.{IsBounded}
 use Rattle.ciborium.specs.Sinks.{Named, named_text, number_item}
-use Rattle.ciborium.specs.Taken.{Taken}
 use Rattle.ciborium_uses.specs.declared.frames.reading.Reading.{Reading}
 
 -- what counts of a reading: its fields, and of the sensor's name the bytes of its UTF-8
@@ -28,14 +26,3 @@ reading_fields sensor at level =
 -- the numbers of a reading fit their types, as those of every reading in a program do
 abbrev pub IsReading : Reading → Type 0
 IsReading r = (r.at < 2 ^ 64) × IfSome r.level (IsBounded (2 ^ 15))
-
--- what is read back where there is nothing, and where there is something, is read back of every
--- option
-pub either_way_back :
-    {A C : Type 0} {n : ℕ} {taken : Taken C} (named : Option A → Named) (content : Option A → C)
-    (IsHeld : A → Type 0) →
-    IsNameRead (named None) taken (content None) n →
-    ((v : A) → IsHeld v → IsNameRead (named (Some v)) taken (content (Some v)) n) →
-    (o : Option A) → IfSome o IsHeld → IsNameRead (named o) taken (content o) n
-either_way_back named content IsHeld nothing something None held = nothing
-either_way_back named content IsHeld nothing something (Some v) held = something v held

@@ -16,8 +16,9 @@ use Rattle.ciborium_value.specs.Sinks.{Named, and_then, contained, fields_of, na
 use Rattle.ciborium_value.specs.StructReadings.{Fields, FieldsTaken, field, field_from, field_or}
 use Rattle.ciborium_value.specs.StructReadings.{field_taken, no_field, required, take_fields}
 use Rattle.ciborium_value.specs.StructReadings.{take_named, taken_fields}
-use Rattle.ciborium_value.specs.Taken.{Taken, decided, gives, outcome, outcome_map, settled}
-use Rattle.ciborium_value.specs.Taken.{taken_name, then_take, unpack_pairs}
+use Rattle.ciborium_value.specs.Taken.{Taken, chosen, decided, give, gives, outcome, outcome_map}
+use Rattle.ciborium_value.specs.Taken.{refuse, refuses, settled, taken_name, then_take}
+use Rattle.ciborium_value.specs.Taken.{unpack_pairs}
 use Rattle.ciborium_value.specs.TakenParts.{taken_then}
 use Rattle.ciborium_value.specs.Tree as trees
 use Rattle.ciborium_value.specs.Tree.{Tree, TreePairs, no_tree_pairs, tree_pair}
@@ -271,3 +272,12 @@ module _ (o : KeyOrder) where
       IsFormRead o (if t then r else s) taken (content t)
   either_form content true h k = h
   either_form content false h k = k
+
+  -- what passes the test of a type (`such_that`)
+  pub such_that_form : {C : Type 0} (test : C → Bool) (kind : Kind) {w : Named} {taken : Taken C}
+      {c : C} → IsFormRead o w taken c → test c ≡ true →
+      IsFormRead o w (taken_then taken (λ v. chosen (test v) (give v) (refuse kind))) c
+  such_that_form test kind {taken = taken} {c = c} law passes = record {
+    back = λ i e t form. ap (λ p. then_take p (λ v. if test v then gives v else refuses kind))
+        (law.back i e t form) ∙ ap (λ t. if t then gives c else refuses kind) passes;
+  }

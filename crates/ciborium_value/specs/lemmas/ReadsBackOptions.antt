@@ -64,3 +64,13 @@ optional-back {taken = taken} back never (Some v) held =
 pub always : {T : Type 0} (o : Option T) → IfSome o (λ v. Unit {0})
 always None = tt
 always (Some v) = tt
+
+-- what is read back where there is nothing, and where there is something, is read back of every
+-- option, as of a struct of which a field is left out where there is nothing
+pub either_way_back : {A C : Type 0} {n : ℕ} {taken : Taken C} (named : Option A → Named)
+    (content : Option A → C) (IsHeld : A → Type 0) →
+    IsNameRead (named None) taken (content None) n →
+    ((v : A) → IsHeld v → IsNameRead (named (Some v)) taken (content (Some v)) n) →
+    (o : Option A) → IfSome o IsHeld → IsNameRead (named o) taken (content o) n
+either_way_back named content IsHeld nothing something None held = nothing
+either_way_back named content IsHeld nothing something (Some v) held = something v held
