@@ -1,6 +1,6 @@
 #!/usr/bin/env python3
-"""Makes hostile lines of the forms that `typed_lines` does not make: all types, and `det`, `next`, `write`, `sort` and
-`faults`.
+"""Makes hostile lines of the forms that `typed_lines` does not make: all types, and `det`, `next`, `write`, `sort`,
+`faults` and `loaded`.
 
     python3 line_maker.py SEED COUNT
     python3 line_maker.py SEED COUNT forms
@@ -90,6 +90,30 @@ class LineMaker(typed_lines.Maker):
             spelling = typed_model.encode(tree)
         return self.damaged(spelling) if self.chance(0.2) else spelling
 
+    def loaded(self):
+        """What a type is saved as, or that with a byte changed, one less or one more, or any item."""
+        name = self.pick(TYPE_NAMES)
+        word, rank = self.pick((("loaded", typed_model.canonical_rank), ("loaded-core", line_model.bytewise_rank)))
+        a_type = typed_model.TYPES[name]
+        saved = None
+        for _ in range(30):
+            spelling = self.spelling()
+            try:
+                value = a_type.read(typed_model.ByteSource(spelling, typed_model.NO_LIMIT))
+                saved = line_model.encode_due(a_type, value, rank)
+                break
+            except (typed_model.Refusal, line_model.NoForm):
+                pass
+        if saved is not None and self.chance(0.9):
+            spelling = saved
+            form = self.random.random()
+            if form < 0.4 and spelling:
+                at = self.below(len(spelling))
+                spelling = spelling[:at] + bytes([self.below(256)]) + spelling[at + 1:]
+            elif form < 0.5:
+                spelling = spelling[:-1] if self.chance(0.5) else spelling + bytes([self.below(256)])
+        return "%s %s %d %s" % (word, name, self.limit(), spelling.hex())
+
     def sorted_items(self):
         items = []
         while len(items) < self.pick((1, 2, 3, 5)):
@@ -138,6 +162,8 @@ class LineMaker(typed_lines.Maker):
         form = self.random.random()
         if form < 0.08:
             return "%s %s" % (self.pick(("notation", "indented")), self.shown().hex())
+        if form < 0.2:
+            return self.loaded()
         if form < 0.4:
             return "%s %d %s" % (self.pick(TYPE_NAMES), self.limit(), self.spelling().hex())
         if form < 0.5:

@@ -77,6 +77,8 @@ def find_type(name):
 class StrictSource(model.ByteSource):
     """Reads the one deterministic encoding of a value. A head is judged before the limit and any payload."""
 
+    rank = staticmethod(model.canonical_rank)
+
     def judge(self, head):
         what, number, offset = head
         if what == model.SIMPLE:
@@ -101,7 +103,7 @@ class StrictSource(model.ByteSource):
         while self.next(sequence):
             offset = self.position
             key = self.value()
-            rank = model.canonical_rank(model.encode(key))
+            rank = self.rank(model.encode(key))
             if last is not None and rank <= last:
                 raise self.refuse("keyorder", offset)
             last = rank
@@ -377,6 +379,52 @@ def forming(rank):
     return answer_form
 
 
+# --- Loading: all of the bytes, in the one encoding of what they give -----------------------------------------------
+
+
+def encode_due(a_type, value, rank):
+    """The encoding of the form of what a value of a type writes."""
+    tree = model.read_tree(a_type.write(value))[0]
+    if tree is None:
+        raise NoForm("toolarge")
+    return encode_form(tree, rank)
+
+
+def first_difference(left, right):
+    return next((at for at, (a, b) in enumerate(zip(left, right)) if a != b), min(len(left), len(right)))
+
+
+def loading(rank):
+    def answer_loaded(rest):
+        name, limit, digits = split(rest, 3)
+        data = parse_pieces(digits)
+        limit = parse_limit(limit)
+        a_type = find_type(name)
+        source = model.ByteSource(data, limit)
+        try:
+            value = a_type.read(source)
+        except model.Refusal as refusal:
+            return str(refusal)
+        if source.position < len(data):
+            return "semantic %d trailingdata" % source.position
+        try:
+            due = encode_due(a_type, value, rank)
+        except NoForm as reason:
+            return "semantic - %s" % reason
+        if due == data:
+            return "loaded"
+        strict = StrictSource(data, limit)
+        strict.rank = rank
+        try:
+            model.VALUE.read(strict)
+        except model.Refusal as refusal:
+            if str(refusal).startswith("semantic "):
+                return str(refusal)
+        return "semantic %d notdeterministic" % first_difference(data, due)
+
+    return answer_loaded
+
+
 def answer_falling(rest):
     if not NUMBER.match(rest):
         raise Unknown
@@ -570,6 +618,8 @@ FORMS = {
     "visits-core": not_answered,
     "form": forming(model.canonical_rank),
     "form-core": forming(bytewise_rank),
+    "loaded": loading(model.canonical_rank),
+    "loaded-core": loading(bytewise_rank),
     "falling": answer_falling,
     "falling-core": answer_falling,
     "literal": answer_literal,
