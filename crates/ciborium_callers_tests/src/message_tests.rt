@@ -7,7 +7,7 @@ use std::alloc::{AllocError, AllocFailed};
 use std::io;
 use std::test::Fail;
 
-const KINDS: [(Kind, &str); 24] = [
+const KINDS: [(Kind, &str); 25] = [
     (Kind::Float, "a floating-point number"),
     (Kind::Simple, "an unassigned simple value"),
     (Kind::Break, "a break where an item has to stand"),

@@ -11,7 +11,7 @@ pub mod setting;
 pub mod topic;
 
 use ciborium::de::Deserialize;
-use ciborium::laws::{ReadsBack, have_one_form, is_saved_loaded};
+use ciborium::laws::{FormReadsBack, ReadsBack, have_one_form, is_saved_loaded};
 use ciborium::ser::{self, Serialize};
 use ciborium::value::KeyOrder;
 use ciborium::{from_slice_deterministic, into_writer_deterministic};
@@ -60,10 +60,19 @@ pub fn through_memory(alloc: Global, settings: &Settings) -> Result<Settings, Se
     ensures { ⟦<Settings as ReadsBack>⟧.is_held settings.now → IfOk result
         (λ again. settings_content again ≡ settings_content settings.now) }
 {
+    save_and_load::<Settings>(alloc, settings)
+}
+
+// The same of every type whose deterministic form is read back.
+fn save_and_load<T: FormReadsBack>(alloc: Global, value: &T) -> Result<T, SettingsError>
+    ensures { T.is_held value.now → IfOk result
+        (λ again. T.reading.content again ≡ T.reading.content value.now) }
+{
     let mut saved = Vec::new(alloc);
-    into_writer_deterministic(alloc, settings, ORDER, &mut saved)?;
-    let again = from_slice_deterministic::<Settings>(alloc, &saved, ORDER, LEVELS)?;
-    is_saved_loaded(settings, &again, ORDER, LEVELS, &saved);
+    into_writer_deterministic(alloc, value, ORDER, &mut saved)?;
+    let bytes: &[u8] = &saved;
+    let again = from_slice_deterministic::<T>(alloc, bytes, ORDER, LEVELS)?;
+    is_saved_loaded(value, &again, ORDER, LEVELS, bytes);
     Ok(again)
 }
 
