@@ -139,9 +139,9 @@ pub fn store_is_deterministic<O: EncodingOrder>(store: &BTreeMap<OrderedValue<O>
 }
 
 /// What is saved is loaded: where a value names the item of a tree that has an accepted spelling by
-/// an order of keys, the deterministic reader of that order takes just its bytes, whatever follows them, and `deserialized` makes
-/// the value's content from the result, unless the reader or an allocation failed (RFC 8949,
-/// section 4.2). It rests on the type's own law (`ReadsBack`).
+/// an order of keys, the deterministic reader of that order takes just its bytes, whatever follows
+/// them, and `deserialized` makes the value's content from the result, unless the reader or an
+/// allocation failed (RFC 8949, section 4.2). It rests on the type's own law (`ReadsBack`).
 pub fn loaded_as_saved<T: ReadsBack>()
     ensures loaded { LoadedAsSaved T.is_held T.written T.reading }
     // The same of what was returned, as a caller has it after its calls.

@@ -1,5 +1,6 @@
-//! Settings that are saved deterministically (RFC 8949, section 4.2), and loaded only from the bytes
-//! that saving writes: equal settings are equal bytes, which can be compared, hashed or signed.
+//! Settings that are saved deterministically (RFC 8949, section 4.2), and loaded from the bytes
+//! that saving writes alone: equal settings are equal bytes, which can be compared, hashed or
+//! signed.
 ghost use Rattle.std.specs.Prelude.{IfOk, map, ◌≡◌};
 ghost use Rattle.ciborium.specs.DeterministicWrites.{WritesForm, named_form};
 ghost use Rattle.ciborium_value.specs.declared.key_order.KeyOrder.TheVariants.{LengthFirst};

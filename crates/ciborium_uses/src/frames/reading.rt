@@ -109,8 +109,8 @@ impl FormReadsBack for Reading {
         (field_form order (codes "sensor") ⟦<String as Deserialize>⟧.reading
         (string-form order r.sensor tt)
         (field_form order (codes "at") ⟦<u64 as Deserialize>⟧.reading (u64_form order r.at held.0)
-        (field_from_form order (codes "level") (option_of ⟦<i16 as Deserialize>⟧.reading) (Some None)
-        (option-form order (i16_form order) (never-number nulls) (Some z) fits)
+        (field_from_form order (codes "level") (option_of ⟦<i16 as Deserialize>⟧.reading)
+        (Some None) (option-form order (i16_form order) (never-number nulls) (Some z) fits)
         (no_field_form order)))) refl)
         r.level held.1 };
 }
