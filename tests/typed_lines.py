@@ -26,6 +26,9 @@ TYPE_NAMES = (
     "BTreeMap<String,u8>",
     "Figure",
     "Message",
+    "Order",
+    "KeyHeader",
+    "UniqueKeys<String,u8>",
     "Captured<Value>",
 )
 
@@ -333,6 +336,55 @@ class Maker:
         self.random.shuffle(pairs)
         return self.tags() + self.map(pairs)
 
+    def order_item(self):
+        pairs = [self.order_field(name) for name in ("amount", "note")]
+        pairs += [self.order_field(self.pick(("amount", "note", "x"))) for _ in range(self.pick((0, 0, 1)))]
+        self.random.shuffle(pairs)
+        return self.tags() + self.map(pairs)
+
+    def header_item(self):
+        """A map by the numbers 1, 4 and -1, or seldom by others, names, or what is neither."""
+        pairs = [self.header_field(label) for label in (1, 4, -1) if label == 1 or self.chance(0.5)]
+        pairs += [self.header_field(self.pick((1, 4, -1, 0, 2, -2, 257, "1", None))) for _ in range(self.pick((0, 0, 1)))]
+        self.random.shuffle(pairs)
+        return self.tags() + self.map(pairs)
+
+    def header_field(self, label):
+        if label is None:
+            key = self.pick(SIMPLE + FAULTY + (b"\x80", b"\xa0"))
+        elif isinstance(label, str):
+            key = self.name(label)
+        else:
+            key = self.integer(label)
+        if label == 4:
+            content = self.pick(SIMPLE[2:]) if self.chance(0.3) else self.word()
+        elif label == -1:
+            content = self.pick(SIMPLE[2:]) if self.chance(0.3) else self.record_item()
+        else:
+            content = self.small()
+        return self.plain_tags() + key, content
+
+    def record_item(self):
+        pairs = [self.record_field(name) for name in ("id", "name", "seq", "tags", "on") if self.chance(0.95)]
+        pairs += [self.record_field(self.pick(("id", "seq", "x"))) for _ in range(self.pick((0, 0, 0, 1)))]
+        self.random.shuffle(pairs)
+        return self.tags() + self.map(pairs)
+
+    def record_field(self, name):
+        if name == "name":
+            content = self.word()
+        elif name == "tags":
+            content = self.array([self.word() for _ in range(self.pick((0, 1, 2)))])
+        elif name == "on":
+            content = self.pick(SIMPLE[:2])
+        else:
+            content = self.small()
+        return self.tags() + self.name(name), content
+
+    def order_field(self, name):
+        content = self.small() if name == "amount" else self.pick(SIMPLE[2:]) if self.chance(0.3) else self.word()
+        return self.tags() + self.name(name), content
+
     def other_field(self):
         return self.field(self.pick(("version", "body", "x", "", "bodies", "\u00fc", "x", "x")))
 
@@ -359,6 +411,9 @@ class Maker:
             "BTreeMap<String,u8>": self.dictionary_item,
             "Figure": self.figure_item,
             "Message": self.message_item,
+            "Order": self.order_item,
+            "KeyHeader": self.header_item,
+            "UniqueKeys<String,u8>": self.dictionary_item,
             "Captured<Value>": self.captured_item,
         }
         return makers[type_name]()

@@ -228,6 +228,9 @@ class ByteSource:
     def syntax(self, offset):
         return Refusal("syntax %d" % offset)
 
+    def offset(self):
+        return self.position if self.pushed is None else self.pushed[2]
+
     def refuse(self, kind, offset=None):
         return Refusal("semantic %s %s" % ("-" if offset is None else offset, kind))
 
@@ -340,6 +343,17 @@ class ByteSource:
             return self.byte_string(head).decode("utf-8")
         except UnicodeDecodeError:
             raise self.refuse("name", head[2]) from None
+
+    def label(self):
+        """A key of a struct: a number, a name, or None for what is neither, which is read as a value and dropped."""
+        head = self.pull()
+        self.push(head)
+        if head[0] in (POSITIVE, NEGATIVE) or head[0] == TAG and head[1] in BIGNUM_TAGS:
+            return self.integer()
+        if head[0] in (BYTES, TEXT, TAG):
+            return self.name()
+        self.value()
+        return None
 
     def begin_tag(self):
         """The number of the tag ahead, or None. Both cost a level, after the head was read."""
@@ -477,7 +491,10 @@ class TreeSource:
     def __init__(self, value):
         self.waiting = [value]
 
-    def refuse(self, kind):
+    def offset(self):
+        return None
+
+    def refuse(self, kind, offset=None):
         return Refusal("custom " + kind)
 
     def bare_value(self):
@@ -502,6 +519,15 @@ class TreeSource:
         if number is None:
             raise self.refuse("toolarge")
         return number
+
+    def label(self):
+        word = self.waiting[-1][0]
+        if word == "integer" or word == "tag" and self.waiting[-1][1] in BIGNUM_TAGS:
+            return self.integer()
+        if word in ("bytes", "text", "tag"):
+            return self.name()
+        self.value()
+        return None
 
     def content_of(self, word):
         value = self.bare_value()
@@ -698,14 +724,18 @@ def tuple_of(*parts):
     return Type(read, lambda values: encode_array([part.write(each) for part, each in zip(parts, values)]))
 
 
-def map_of(key_type, content_type):
-    """A map, written in the order of its keys. Of two equal ones the later content is kept."""
+def map_of(key_type, content_type, once=False):
+    """A map, written in the order of its keys. Of two equal ones the later content is kept, or where each may occur but
+    once, the later one is refused at its offset, before its content is read."""
 
     def read(source):
         sequence = source.begin_map()
         entries = {}
         while source.next(sequence):
+            offset = source.offset()
             key = key_type.read(source)
+            if once and key_type.write(key) in entries:
+                raise source.refuse("duplicatekey", offset)
             entries[key_type.write(key)] = (key, content_type.read(source))
         return sorted(entries.values(), key=lambda entry: key_type.rank(entry[0]))
 
@@ -796,20 +826,30 @@ def enum_of(variants):
 
 
 MISSING = object()
+LEFT_OUT = object()
 
 
-def struct_of(fields):
-    """A struct by the names of its fields, each a name, a type, and what counts where it is missing. Of a repeated name
-    the last one counts; what stands under another name is read as a value and dropped."""
+def struct_of(fields, once=False, closed=False):
+    """A struct by the labels of its fields, each a name or a number, a type, and what counts where it is missing; one
+    that is LEFT_OUT where it is missing is not written where there is nothing. Of a repeated label the last one counts;
+    what stands under another key is read as a value and dropped. Or a repeated label is refused, or another key, at its
+    offset, before its content is read."""
     types = {name: field_type for name, field_type, _ in fields}
 
     def read(source):
         sequence = source.begin_map()
-        found = {name: default for name, _, default in fields}
+        found = {name: None if default is LEFT_OUT else default for name, _, default in fields}
+        met = set()
         while source.next(sequence):
-            name = source.name()
+            offset = source.offset()
+            name = source.label()
             if name in types:
+                if once and name in met:
+                    raise source.refuse("duplicatekey", offset)
+                met.add(name)
                 found[name] = types[name].read(source)
+            elif closed:
+                raise source.refuse("unknownfield", offset)
             else:
                 source.value()
         for name, _, _ in fields:
@@ -818,7 +858,10 @@ def struct_of(fields):
         return found
 
     def write(found):
-        return encode_map([(encode_text(name), field_type.write(found[name])) for name, field_type, _ in fields])
+        return encode_map([
+            (encode_text(name) if isinstance(name, str) else encode_integer(name), field_type.write(found[name]))
+            for name, field_type, default in fields if default is not LEFT_OUT or found[name] is not None
+        ])
 
     return Type(read, write)
 
@@ -879,6 +922,10 @@ FIGURE = enum_of({"Point": None, "Circle": U8})
 LETTER = enum_of({"A": None, "B": U8})
 MESSAGE = struct_of((("version", U8, MISSING), ("body", STRING, MISSING)))
 ENDS = struct_of((("first", U8, MISSING), ("second", U8, MISSING)))
+RECORD = struct_of((
+    ("id", unsigned(32), MISSING), ("name", STRING, MISSING), ("seq", option_of(unsigned(64)), LEFT_OUT),
+    ("tags", list_of(STRING), MISSING), ("on", BOOL, MISSING),
+))
 FORM = enum_of({"Unit": None, "Newtype": U8, "Tuple": PAIR, "Struct": ENDS})
 
 # The types by their names.
@@ -922,6 +969,8 @@ TYPES = {
     "BTreeMap<String,String>": map_of(STRING, STRING),
     "BTreeMap<String,u8>": map_of(STRING, U8),
     "BTreeMap<Value,u8>": map_of(VALUE, U8),
+    "UniqueKeys<u8,bool>": map_of(U8, BOOL, once=True),
+    "UniqueKeys<String,u8>": map_of(STRING, U8, once=True),
     "BTreeMap<CanonicalValue,u8>": map_of(CANONICAL_VALUE, U8),
     "BTreeMap<CanonicalValue,Value>": map_of(CANONICAL_VALUE, VALUE),
     "(u8,)": tuple_of(U8),
@@ -952,6 +1001,14 @@ TYPES = {
     "Foo": struct_of((("bar", U8, MISSING),)),
     "Reply": struct_of((("title", STRING, MISSING), ("number", U8, 200), ("text", option_of(STRING), None))),
     "Ends": ENDS,
+    "Order": struct_of((("amount", U8, MISSING), ("note", option_of(STRING), None)), once=True, closed=True),
+    "Header": struct_of((("version", U8, MISSING), ("kind", U8, MISSING)), once=True),
+    "Record": RECORD,
+    "Vec<Record>": list_of(RECORD),
+    "KeyHeader": struct_of(
+        ((1, signed(16), MISSING), (4, option_of(STRING), LEFT_OUT), (-1, option_of(RECORD), LEFT_OUT)),
+        once=True, closed=True,
+    ),
     "Form": FORM,
     "Span": Type(read_span, PAIR.write),
     "Sample": tuple_of(unsigned(64), signed(16), signed(16), signed(16), BOOL),
@@ -1170,7 +1227,7 @@ Message 1 a244626f647961614776657273696f6e182a
 Message 256 a0 => semantic - other | custom other
 Message 256 a16776657273696f6e01 => semantic - other | custom other
 Message 256 a164626f64796161 => semantic - other | custom other
-Message 256 a101f6 => semantic 1 name | custom name
+Message 256 a101f6 => semantic - other | custom other
 Message 256 a16178f93c00 => semantic 3 float | none
 Message 1 a1617880 => nesting | custom other
 Message 2 a1617880 => semantic - other | custom other

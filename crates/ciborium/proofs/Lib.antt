@@ -6,3 +6,4 @@ mod Items
 mod Payloads
 mod Containers
 mod Writing
+pub mod Refusals

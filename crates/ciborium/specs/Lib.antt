@@ -2,6 +2,7 @@ pub mod Errors
 pub mod Writes
 pub mod DeterministicWrites
 pub mod Tags
+pub mod Literals
 pub mod ItemSequences
 pub mod NextItems
 pub mod SequenceWrites
@@ -13,6 +14,7 @@ pub mod laws
 pub mod lemmas
 pub mod inner
 pub mod TypedAnswers
+pub mod OwnTypes
 pub mod ValueAnswers
 pub mod ValueClauses
 pub use Rattle.ciborium_ll.specs.Bytes
@@ -62,6 +64,7 @@ pub use Rattle.ciborium_value.specs.EnteredSequences
 pub use Rattle.ciborium_value.specs.Readings
 pub use Rattle.ciborium_value.specs.TagReadings
 pub use Rattle.ciborium_value.specs.VariantReadings
+pub use Rattle.ciborium_value.specs.Labels
 pub use Rattle.ciborium_value.specs.StructReadings
 pub use Rattle.ciborium_value.specs.ReadsBack
 pub use Rattle.ciborium_value.specs.NeverWritten
@@ -72,6 +75,7 @@ pub use Rattle.ciborium_value.specs.CanonicalTrees
 pub use Rattle.ciborium_value.specs.DeterministicForms
 pub use Rattle.ciborium_value.specs.SameContents
 pub use Rattle.ciborium_value.specs.FormsReadBack
+pub use Rattle.ciborium_value.specs.Described
 pub use Rattle.ciborium_value.specs.Notation
 pub use Rattle.ciborium_value.specs.TreeAnswers
 pub use Rattle.ciborium_value.specs.ProperTrees

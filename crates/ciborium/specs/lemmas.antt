@@ -2,6 +2,7 @@
 pub mod ReadsBackTags
 pub mod FormsReadBackTags
 pub mod WrittenTags
+pub mod TagDescriptions
 pub use Rattle.ciborium_value.specs.lemmas.KeyOrders
 pub use Rattle.ciborium_value.specs.lemmas.DerivedOrder
 pub use Rattle.ciborium_value.specs.lemmas.ItemsOfTrees
@@ -20,3 +21,7 @@ pub use Rattle.ciborium_value.specs.lemmas.FormsReadBackMaps
 pub use Rattle.ciborium_value.specs.lemmas.FormsReadBackOptions
 pub use Rattle.ciborium_value.specs.lemmas.FormsReadBackStructs
 pub use Rattle.ciborium_value.specs.lemmas.FormsReadBackVariants
+pub use Rattle.ciborium_value.specs.lemmas.Descriptions
+pub use Rattle.ciborium_value.specs.lemmas.ItemDescriptions
+pub use Rattle.ciborium_value.specs.lemmas.VariantDescriptions
+pub use Rattle.ciborium_value.specs.lemmas.MapDescriptions

@@ -31,8 +31,9 @@ pub use buffered::{
 use byte_source::ByteSource;
 use ciborium_ll::{Access, Decoder, Header, Plain};
 pub use ciborium_value::{
-    Array, Deserialize, FieldPlace, Item, Key, Kind, Names, NoField, NoItem, Source, Wanted,
-    WantedFields, WantedItems, read_fields, required,
+    Array, Deserialize, FieldPlace, FieldsEnd, Item, Key, Kind, Label, LabelKind, Labels, NoField,
+    NoFieldTwice, NoItem, NoOtherField, SoughtLabel, Source, UniqueKeys, Wanted, WantedFields,
+    WantedItems, found_or, read_fields, required,
 };
 pub use deterministic::{
     from_buf_reader_deterministic, from_buf_reader_deterministic_with_order,

@@ -2,6 +2,7 @@
 #![tactic(auto)]
 
 pub mod de;
+pub mod described;
 pub mod laws;
 #[doc(hidden)]
 pub mod literals;

@@ -1,53 +1,142 @@
-//! What `cbor!` puts together: arrays and maps whose parts have a type each.
+//! What `cbor!` calls: arrays and maps that are put together part by part.
 
-ghost use Rattle.std.specs.Prelude.{ℕ, ◌+◌, ◌∷◌, ◌⊎◌, [], IfErr, IfOk};
+ghost use Rattle.std.specs.Prelude.{◌≡◌, ◌∷◌, [], IfErr, IfOk, Ok, true};
+ghost use Rattle.ciborium.specs.Literals.{and_item, and_pair, array_tree, both_trees, had_memory};
+ghost use Rattle.ciborium.specs.Literals.{item_trees, map_tree, named_tree, part_tree};
+ghost use Rattle.ciborium.specs.Literals.{trees_in_pairs};
 ghost use Rattle.ciborium_value.specs.Places.{dictionary};
-ghost use Rattle.ciborium_value.specs.Progress.{counted_of};
 ghost use Rattle.ciborium_value.specs.Sinks.{IsOwed, container_of};
+ghost use Rattle.ciborium_value.specs.Tree.{null};
 ghost use Rattle.ciborium_value.specs.TreeAnswers.{IsTreeOf, tree_cause};
+ghost use Rattle.ciborium_value.specs.View.{pair_trees, read_as};
 
 use crate::cbor;
-use crate::ser::{Serialize, Sink};
+use crate::ser::Serialize;
 use crate::value::{Error, Value};
-pub use ciborium_value::{Array, Item, NoItem};
-use ciborium_value::{OfMap, Parts, serialize_parts};
 use std::alloc::Global;
 
-/// A key with its value, and the pairs after it.
-#[derive(Drop)]
-pub struct Pair<K, V, R>(pub K, pub V, pub R);
+/// The tree of a part.
+#[inline(always)]
+pub fn part<T: Serialize>(alloc: Global, part: &T) -> Result<Value, Error>
+    ensures { (had_memory result ≡ true) → part_tree result ≡ named_tree (T.written part.now) }
+{
+    Value::serialized(alloc, part)
+}
 
-/// A definite map of the pairs, in their order (section 3.1). More than a `usize` counts, which is
-/// unreachable in practice, are refused as `Kind::Other`.
-#[derive(Drop)]
-pub struct Map<R>(pub R);
+/// The tree of a part that is a literal of the language.
+#[inline(always)]
+pub fn literal<T: Serialize + Drop>(alloc: Global, part: T) -> Result<Value, Error>
+    ensures { (had_memory result ≡ true) → part_tree result ≡ named_tree (T.written part) }
+{
+    Value::serialized(alloc, &part)
+}
 
-impl<K: Serialize, V: Serialize, R: Parts<OfMap>> Parts<OfMap> for Pair<K, V, R> {
-    ghost parts = { λ p. K.written p.0 ∷ V.written p.1 ∷ R.parts p.2 };
+/// Null.
+#[inline(always)]
+pub fn null() -> Result<Value, Error>
+    ensures { part_tree result ≡ Ok null }
+{
+    Ok(Value::Null)
+}
 
-    ghost number = { λ p. R.number p.2 + 1 };
+/// No items.
+#[inline(always)]
+pub fn items(alloc: Global) -> Result<Vec<Value>, Error>
+    ensures { item_trees result ≡ Ok [] }
+{
+    Ok(Vec::new(alloc))
+}
 
-    ghost takes_memory = { K.takes_memory ⊎ (V.takes_memory ⊎ R.takes_memory) };
-
-    fn count(&self) -> Option<usize> {
-        self.2.count()?.checked_add(1)
-    }
-
-    fn write_parts<S: Sink>(&self, sink: &mut S) -> Result<(), S::Error> {
-        let Pair(key, value, behind) = self;
-        key.serialize(sink)?;
-        value.serialize(sink)?;
-        behind.write_parts(sink)
+/// The items with one more behind them, or the first refusal. Want of memory comes before a
+/// refusal.
+#[inline(always)]
+pub fn item(
+    items: Result<Vec<Value>, Error>,
+    item: Result<Value, Error>,
+) -> Result<Vec<Value>, Error>
+    ensures items { (had_memory result ≡ true) → had_memory items ≡ true }
+    ensures item { (had_memory result ≡ true) → had_memory item ≡ true }
+    ensures added { (had_memory result ≡ true) →
+        item_trees result ≡ and_item (item_trees items) (part_tree item) }
+{
+    match (items, item) {
+        (Ok(mut items), Ok(item)) => {
+            items.push(item)?;
+            Ok(items)
+        }
+        (Err(Error::Memory), _) | (_, Err(Error::Memory)) => Err(Error::Memory),
+        (Err(error), _) | (Ok(_), Err(error)) => Err(error),
     }
 }
 
-impl<R: Parts<OfMap>> Serialize for Map<R> {
-    ghost written = { λ m. counted_of dictionary (R.number m.0) (R.parts m.0) };
+/// The array of the items.
+#[inline(always)]
+pub fn array(items: Result<Vec<Value>, Error>) -> Result<Value, Error>
+    ensures items { (had_memory result ≡ true) → had_memory items ≡ true }
+    ensures tree { part_tree result ≡ array_tree (item_trees items) }
+{
+    match items {
+        Ok(items) => Ok(Value::Array(items)),
+        Err(error) => Err(error),
+    }
+}
 
-    ghost takes_memory = { R.takes_memory };
+/// No pairs.
+#[inline(always)]
+pub fn pairs(alloc: Global) -> Result<Vec<(Value, Value)>, Error>
+    ensures { trees_in_pairs result ≡ Ok [] }
+{
+    Ok(Vec::new(alloc))
+}
 
-    fn serialize<S: Sink>(&self, sink: &mut S) -> Result<(), S::Error> {
-        serialize_parts(&self.0, sink)
+// A key with its value, or the first refusal. Want of memory comes before a refusal.
+#[inline(always)]
+fn both(key: Result<Value, Error>, value: Result<Value, Error>) -> Result<(Value, Value), Error>
+    ensures key { (had_memory result ≡ true) → had_memory key ≡ true }
+    ensures value { (had_memory result ≡ true) → had_memory value ≡ true }
+    ensures pair { (had_memory result ≡ true) →
+        read_as pair_trees result ≡ both_trees (part_tree key) (part_tree value) }
+{
+    match (key, value) {
+        (Ok(key), Ok(value)) => Ok((key, value)),
+        (Err(Error::Memory), _) | (_, Err(Error::Memory)) => Err(Error::Memory),
+        (Err(error), _) | (Ok(_), Err(error)) => Err(error),
+    }
+}
+
+/// The pairs with one more behind them, or the first refusal. Want of memory comes before a
+/// refusal.
+#[inline(always)]
+pub fn pair(
+    pairs: Result<Vec<(Value, Value)>, Error>,
+    key: Result<Value, Error>,
+    value: Result<Value, Error>,
+) -> Result<Vec<(Value, Value)>, Error>
+    ensures pairs { (had_memory result ≡ true) → had_memory pairs ≡ true }
+    ensures key { (had_memory result ≡ true) → had_memory key ≡ true }
+    ensures value { (had_memory result ≡ true) → had_memory value ≡ true }
+    ensures added { (had_memory result ≡ true) → trees_in_pairs result ≡
+        and_pair (trees_in_pairs pairs) (both_trees (part_tree key) (part_tree value)) }
+{
+    match (pairs, both(key, value)) {
+        (Ok(mut pairs), Ok(pair)) => {
+            pairs.push(pair)?;
+            Ok(pairs)
+        }
+        (Err(Error::Memory), _) | (_, Err(Error::Memory)) => Err(Error::Memory),
+        (Err(error), _) | (Ok(_), Err(error)) => Err(error),
+    }
+}
+
+/// The map of the pairs.
+#[inline(always)]
+pub fn map(pairs: Result<Vec<(Value, Value)>, Error>) -> Result<Value, Error>
+    ensures pairs { (had_memory result ≡ true) → had_memory pairs ≡ true }
+    ensures tree { part_tree result ≡ map_tree (trees_in_pairs pairs) }
+{
+    match pairs {
+        Ok(pairs) => Ok(Value::Map(pairs)),
+        Err(error) => Err(error),
     }
 }
 

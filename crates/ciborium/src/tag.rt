@@ -6,13 +6,17 @@ ghost use Rattle.ciborium_value.specs.Sinks.{tag_of};
 ghost use Rattle.ciborium_value.specs.TagReadings.{is_no_other_tag, is_tag, tag_accepted};
 ghost use Rattle.ciborium_value.specs.TagReadings.{tag_required, with_tag};
 ghost use Rattle.ciborium.specs.lemmas.FormsReadBackTags.{accepted-form, captured-form};
-ghost use Rattle.ciborium.specs.lemmas.FormsReadBackTags.{required-form};
+ghost use Rattle.ciborium.specs.lemmas.FormsReadBackTags.{not_bytes, required-form};
+ghost use Rattle.ciborium.specs.lemmas.FormsReadBackTags.{whatever_tag};
 ghost use Rattle.ciborium.specs.lemmas.ReadsBackTags.{IsToldApart, accepted-back, captured-back};
 ghost use Rattle.ciborium.specs.lemmas.ReadsBackTags.{captured-never, required-back, tag-never};
+ghost use Rattle.ciborium.specs.lemmas.TagDescriptions.{under_any_tag, under_tag};
+ghost use Rattle.ciborium.specs.lemmas.TagDescriptions.{under_tag_or_none};
 ghost use Rattle.ciborium.specs.Tags.{captured_of};
 ghost use Rattle.ciborium.specs.lemmas.WrittenTags.{captured-alike, tagged-alike};
 
 use crate::de::{Deserialize, Key, Source};
+use crate::described::Described;
 use crate::laws::{Avoidable, ByteString, FormReadsBack, NeverWrites, ReadsBack, WritesContent};
 use crate::ser::{Serialize, Sink};
 use crate::value::Kind;
@@ -177,21 +181,33 @@ impl<V: ReadsBack, const TAG: u64> ReadsBack for Accepted<V, TAG> {
 /// For a content that no tag makes a bignum of.
 impl<V: FormReadsBack + NeverWrites<ByteString>> FormReadsBack for Captured<V> {
     ghost form_reads_back = { λ o c held. captured-form o
-        c.0 held.0 (V.never c.1) (V.form_reads_back o c.1 held.1) };
+        c.0 held.0 (whatever_tag (V.never c.1) c.0) (V.form_reads_back o c.1 held.1) };
 }
 
 /// For a content that no tag makes a bignum of.
 impl<V: FormReadsBack + NeverWrites<ByteString>, const TAG: u64> FormReadsBack
     for Required<V, TAG> {
     ghost form_reads_back = { λ o r held. required-form o
-        TAG (V.never r.0) (V.form_reads_back o r.0 held) };
+        TAG (not_bytes (V.never r.0) TAG) (V.form_reads_back o r.0 held) };
 }
 
 /// For a content that no tag makes a bignum of.
 impl<V: FormReadsBack + NeverWrites<ByteString>, const TAG: u64> FormReadsBack
     for Accepted<V, TAG> {
     ghost form_reads_back = { λ o a held. accepted-form o
-        TAG (V.never a.0) (V.form_reads_back o a.0 held) };
+        TAG (not_bytes (V.never a.0) TAG) (V.form_reads_back o a.0 held) };
+}
+
+impl<V: Described> Described for Captured<V> {
+    ghost description = { under_any_tag (λ c. c.0) (λ c. c.1) V.description };
+}
+
+impl<V: Described, const TAG: u64> Described for Required<V, TAG> {
+    ghost description = { under_tag TAG (λ r. r.0) V.description };
+}
+
+impl<V: Described, const TAG: u64> Described for Accepted<V, TAG> {
+    ghost description = { under_tag_or_none TAG (λ a. a.0) V.description };
 }
 
 impl<V: NeverWrites<I>, I: Avoidable> NeverWrites<I> for Captured<V> {

@@ -1,7 +1,8 @@
 //! A struct by the names of its fields.
 
-ghost use Rattle.std.specs.Prelude.{◌∷◌, List, Ok, [], codes, pos, string_bytes, ℕ};
-ghost use Rattle.ciborium.specs.Sinks.{fields_of, named_text, number_item};
+ghost use Rattle.std.specs.Prelude.{◌∷◌, List, Ok, [], pos, string_bytes, ℕ};
+ghost use Rattle.ciborium.specs.Labels.{fields_of, label};
+ghost use Rattle.ciborium.specs.Sinks.{named_text, number_item};
 ghost use Rattle.ciborium.specs.StructReadings.{field, no_field, struct_of};
 
 use ciborium::de::{Deserialize, Source, Wanted, read_fields, required};
@@ -16,8 +17,8 @@ pub struct Message {
 }
 
 impl Serialize for Message {
-    ghost written = { λ m. fields_of ((codes "version", Ok (number_item (pos m.version))) ∷
-        (codes "body", named_text (string_bytes m.body)) ∷ []) };
+    ghost written = { λ m. fields_of ((label "version", Ok (number_item (pos m.version))) ∷
+        (label "body", named_text (string_bytes m.body)) ∷ []) };
 
     ghost takes_memory = { ⊥ };
 
@@ -30,8 +31,8 @@ impl Deserialize for Message {
     ghost Content = { ℕ × (List ℕ × Unit {0}) };
 
     ghost reading = { struct_of (λ m. (m.version, (string_bytes m.body, tt)))
-        (field (codes "version") ⟦<u8 as Deserialize>⟧.reading
-        (field (codes "body") ⟦<String as Deserialize>⟧.reading no_field)) };
+        (field (label "version") ⟦<u8 as Deserialize>⟧.reading
+        (field (label "body") ⟦<String as Deserialize>⟧.reading no_field)) };
 
     fn deserialize<S: Source>(alloc: Global, source: &mut S) -> Result<Message, S::Error> {
         let mut fields = Wanted("version", None, Wanted("body", None, NoField));

@@ -2,12 +2,16 @@
 use Rattle.std.proofs.Common.{ap, ◌∙◌}
 use Rattle.std.specs.Prelude.{◌≡◌, pos, negsuc, Bool, true, false, ◌&&◌, nat_lt, Some, option_map}
 use Rattle.std.specs.Prelude.{refl}
+use Rattle.ciborium.specs.DeterministicForms.{deterministic_form, deterministic_forms, one_more}
+use Rattle.ciborium.specs.Encoding.{item_of, items_of, written_tree, written_trees}
 use Rattle.ciborium.specs.Folded.{folded, trees_folded}
 use Rattle.ciborium.specs.Meaning.{trees_more}
 use Rattle.ciborium.specs.Number.{number_tree}
+use Rattle.ciborium.specs.Taken.{gives, outcome_map}
 use Rattle.ciborium.specs.Tree as trees
 use Rattle.ciborium.specs.Tree.{Tree, Trees}
 use Rattle.ciborium.specs.View.{trees_from}
+use Rattle.ciborium_value.specs.declared.key_order.KeyOrder.{KeyOrder}
 use Rattle.ciborium_callers.specs.declared.tree_types.NumberTree.{NumberTree, fold-NumberTree}
 use Rattle.ciborium_callers.specs.declared.tree_types.NumberTree.TheOpen.{NumberTree-F}
 
@@ -54,3 +58,20 @@ mutual
       let parts = both (is_number_tree v) (are_number_trees vs) h in
       ap (λ o. trees_more o (trees_folded vs)) (folded-number_tree v parts.0) ∙
       ap (trees_more (Some v)) (folded-number_trees vs parts.1)
+
+-- no map stands in such a tree, so it is its own form
+mutual
+  pub own-number_tree : (o : KeyOrder) (t : Tree) → is_number_tree t ≡ true →
+      deterministic_form o (written_tree (item_of t)) ≡ gives (written_tree (item_of t))
+  own-number_tree o (trees.integer (pos n)) h = refl
+  own-number_tree o (trees.array vs) h = ap (outcome_map trees.array) (own-number_trees o vs h)
+  own-number_tree o _ h = cc
+
+  pub own-number_trees : (o : KeyOrder) (vs : Trees) → are_number_trees vs ≡ true →
+      deterministic_forms o (written_trees (items_of vs)) ≡ gives (written_trees (items_of vs))
+  own-number_trees o trees.no_trees h = refl
+  own-number_trees o (trees.tree v vs) h =
+      let parts = both (is_number_tree v) (are_number_trees vs) h in
+      ap (λ r. one_more r (deterministic_forms o (written_trees (items_of vs))))
+      (own-number_tree o v parts.0) ∙
+      ap (one_more (gives (written_tree (item_of v)))) (own-number_trees o vs parts.1)

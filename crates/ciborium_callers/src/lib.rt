@@ -4,6 +4,8 @@
 pub mod application;
 pub mod array_types;
 pub mod callers;
+pub mod described_callers;
+pub mod described_types;
 pub mod head_callers;
 pub mod key_types;
 pub mod messages;
@@ -14,6 +16,7 @@ pub mod readme;
 pub mod round_trips;
 pub mod sequence_callers;
 pub mod slice_callers;
+pub mod strict_types;
 pub mod struct_types;
 pub mod tag_types;
 pub mod tree_types;

@@ -34,7 +34,8 @@ pub fn bytes_of_circle(alloc: Global, radius: u8) -> Option<Vec<u8>>
 /// The figure that a reader begins with, by the name of its variant.
 pub fn read_figure<R: Read>(alloc: Global, reader: &mut R) -> Result<Figure, de::Error<io::Error>>
     ensures { TakesGiven (Some 256) ⟦<Figure as Deserialize>⟧.reading.taken
-        (R.remaining reader.old) (R.remaining reader.new) (read_as (λ figure. figure) result) }
+        (R.remaining reader.old) (R.remaining reader.new)
+        (read_as ⟦<Figure as Deserialize>⟧.reading.content result) }
 {
     from_reader(alloc, reader)
 }

@@ -1,38 +1,19 @@
 //! Types of a user's own, each with the item that it writes, or with what it reads of an item, as a
 //! user gives them.
-ghost use Rattle.std.specs.Prelude.{◌∷◌, ◌%◌, Err, Ok, [], codes, if◌then◌else◌, map, nat_eq, pos};
-ghost use Rattle.std.specs.Prelude.{◌<◌, ◌≡◌, ◌^◌, List, nat_le, refl, string_bytes, true, ℕ};
+ghost use Rattle.std.specs.Prelude.{◌∷◌, ◌%◌, Err, Ok, [], if◌then◌else◌, map, nat_eq, nat_le, pos};
+ghost use Rattle.std.specs.Prelude.{string_bytes};
+ghost use Rattle.ciborium.specs.OwnTypes.{codes, described, enum_description, inl, inr, label};
+ghost use Rattle.ciborium.specs.OwnTypes.{no_variant, refl, struct_description, tested, then_field};
+ghost use Rattle.ciborium.specs.OwnTypes.{then_no_field, then_unit_variant, then_variant};
+ghost use Rattle.ciborium.specs.OwnTypes.{under_tag};
 ghost use Rattle.ciborium.specs.Places.{dictionary, sequence};
-ghost use Rattle.ciborium.specs.Readings.{below, such_that, tuple2_of};
-ghost use Rattle.ciborium.specs.ReadsBack.{string_back};
-ghost use Rattle.ciborium.specs.FormsReadBack.{string-form};
-ghost use Rattle.ciborium.specs.NeverWritten.{byte_strings, never-number};
-ghost use Rattle.ciborium.specs.lemmas.FormsReadBackNumbers.{u64_form, u8_form};
-ghost use Rattle.ciborium.specs.lemmas.FormsReadBackParts.{tuple2-form};
-ghost use Rattle.ciborium.specs.lemmas.FormsReadBackStructs.{field_form, fields_form};
-ghost use Rattle.ciborium.specs.lemmas.FormsReadBackStructs.{no_field_form, such_that_form};
-ghost use Rattle.ciborium.specs.lemmas.FormsReadBackTags.{required-form};
-ghost use Rattle.ciborium.specs.lemmas.FormsReadBackVariants.{data_variant_form};
-ghost use Rattle.ciborium.specs.lemmas.FormsReadBackVariants.{unit_variant_form};
-ghost use Rattle.ciborium.specs.lemmas.ReadsBackNumbers.{u64_back, u8_back};
-ghost use Rattle.ciborium.specs.lemmas.ReadsBackParts.{such_that_back, tuple2-back};
-ghost use Rattle.ciborium.specs.lemmas.ReadsBackStructs.{field_back, fields_read_back};
-ghost use Rattle.ciborium.specs.lemmas.ReadsBackStructs.{no_field_back};
-ghost use Rattle.ciborium.specs.lemmas.ReadsBackVariants.{data_variant_back, unit_variant_back};
-ghost use Rattle.ciborium.specs.Sinks.{container_of, fields_of, in_turn, named_text};
-ghost use Rattle.ciborium.specs.Sinks.{number_item, open_container_of, tag_of};
-ghost use Rattle.ciborium.specs.StructReadings.{field, no_field, struct_of};
-ghost use Rattle.ciborium.specs.TagReadings.{tag_required};
-ghost use Rattle.ciborium.specs.VariantReadings.{data_variant, enum_of, unit_variant};
+ghost use Rattle.ciborium.specs.Sinks.{container_of, in_turn, named_text};
+ghost use Rattle.ciborium.specs.Sinks.{number_item, open_container_of};
 ghost use Rattle.ciborium_value.specs.declared.kind.Kind.TheVariants.{Other, Range};
-ghost use Rattle.ciborium.specs.WrittenContents.{field_alike, fields_alike, from_content};
-ghost use Rattle.ciborium.specs.WrittenContents.{no_field_alike, string-alike, unsigned-alike};
-ghost use Rattle.ciborium.specs.lemmas.ReadsBackTags.{required-back};
-ghost use Rattle.ciborium_callers.specs.declared.own_types.Figure.{Figure};
 ghost use Rattle.ciborium_callers.specs.declared.own_types.Figure.TheVariants.{Circle, Point};
 
 use ciborium::de::{Deserialize, Source, Wanted, read_fields, required};
-use ciborium::laws::{FormReadsBack, ReadsBack, WritesContent};
+use ciborium::described::{AsDescribed, Described};
 use ciborium::ser::{Field, NoField, Serialize, Sink};
 use ciborium::tag::Required;
 use ciborium::value::Kind;
@@ -46,9 +27,19 @@ pub struct Message {
     pub body: String,
 }
 
+impl Described for Message {
+    ghost description = { struct_description
+        (then_field (label "version") (λ m. m.version) ⟦<u8 as Described>⟧.description
+        (then_field (label "body") (λ m. m.body) ⟦<String as Described>⟧.description
+        then_no_field)) };
+}
+
+impl AsDescribed for Message {
+    ghost as_described = { described ⟦<Message as Described>⟧.description refl };
+}
+
 impl Serialize for Message {
-    ghost written = { λ m. fields_of ((codes "version", Ok (number_item (pos m.version))) ∷
-        (codes "body", named_text (string_bytes m.body)) ∷ []) };
+    ghost written = { ⟦<Message as Described>⟧.description.written };
 
     ghost takes_memory = { ⊥ };
 
@@ -58,11 +49,9 @@ impl Serialize for Message {
 }
 
 impl Deserialize for Message {
-    ghost Content = { ℕ × (List ℕ × Unit {0}) };
+    ghost Content = { ⟦<Message as Described>⟧.description.Content };
 
-    ghost reading = { struct_of (λ m. (m.version, (string_bytes m.body, tt)))
-        (field (codes "version") ⟦<u8 as Deserialize>⟧.reading
-        (field (codes "body") ⟦<String as Deserialize>⟧.reading no_field)) };
+    ghost reading = { ⟦<Message as Described>⟧.description.reading };
 
     fn deserialize<S: Source>(alloc: Global, source: &mut S) -> Result<Message, S::Error> {
         let mut fields = Wanted("version", None, Wanted("body", None, NoField));
@@ -73,32 +62,6 @@ impl Deserialize for Message {
             body: required(source, body)?,
         })
     }
-}
-
-impl ReadsBack for Message {
-    ghost is_held = { λ m. m.version < 2 ^ 8 };
-
-    ghost levels = { λ m. 1 };
-
-    ghost reads_back = { λ m held. fields_read_back
-        (field_back (codes "version") ⟦<u8 as Deserialize>⟧.reading
-        (u8_back m.version held)
-        (field_back (codes "body") ⟦<String as Deserialize>⟧.reading
-        (string_back m.body tt) no_field_back)) refl };
-}
-
-impl FormReadsBack for Message {
-    ghost form_reads_back = { λ order m held. fields_form order
-        (field_form order (codes "version") ⟦<u8 as Deserialize>⟧.reading
-        (u8_form order m.version held)
-        (field_form order (codes "body") ⟦<String as Deserialize>⟧.reading
-        (string-form order m.body tt) (no_field_form order))) refl };
-}
-
-impl WritesContent for Message {
-    ghost writes_content = { λ v w. fields_alike
-        (field_alike (codes "version") (unsigned-alike v.version w.version)
-        (field_alike (codes "body") (string-alike v.body w.body) no_field_alike)) };
 }
 
 /// A struct: an array of its fields.
@@ -126,11 +89,19 @@ pub enum Figure {
     Circle(u8),
 }
 
+impl Described for Figure {
+    ghost description = { enum_description
+        (elim [ Point ↦ inl tt | Circle radius ↦ inr (inl radius) ])
+        (then_unit_variant (codes "Point")
+        (then_variant (codes "Circle") ⟦<u8 as Described>⟧.description no_variant)) };
+}
+
+impl AsDescribed for Figure {
+    ghost as_described = { described ⟦<Figure as Described>⟧.description refl };
+}
+
 impl Serialize for Figure {
-    ghost written = { elim [
-      | Point ↦ named_text (codes "Point")
-      | Circle r ↦ fields_of ((codes "Circle", Ok (number_item (pos r))) ∷ [])
-    ] };
+    ghost written = { ⟦<Figure as Described>⟧.description.written };
 
     ghost takes_memory = { ⊥ };
 
@@ -143,10 +114,9 @@ impl Serialize for Figure {
 }
 
 impl Deserialize for Figure {
-    ghost Content = { Figure };
+    ghost Content = { ⟦<Figure as Described>⟧.description.Content };
 
-    ghost reading = { enum_of (λ figure. figure) (unit_variant (codes "Point") Point
-        ∷ data_variant (codes "Circle") Circle (below 256) ∷ []) };
+    ghost reading = { ⟦<Figure as Described>⟧.description.reading };
 
     fn deserialize<S: Source>(alloc: Global, source: &mut S) -> Result<Figure, S::Error> {
         let (name, level) = source.begin_variant(alloc)?;
@@ -162,32 +132,6 @@ impl Deserialize for Figure {
         }
         Err(source.refuse(Kind::Variant))
     }
-}
-
-impl ReadsBack for Figure {
-    ghost is_held = { elim [ Point ↦ Unit {0} | Circle r ↦ r < 2 ^ 8 ] };
-
-    ghost levels = { λ f. 1 };
-
-    ghost reads_back = { let variants = unit_variant (codes "Point") Point
-        ∷ data_variant (codes "Circle") Circle (below 256) ∷ [] in elim [
-          | Point ↦ λ held. unit_variant_back variants (codes "Point") (λ l. refl)
-          | Circle r ↦ λ held. data_variant_back variants (codes "Circle") Circle (below 256)
-              (λ l i. refl) (u8_back r held)
-        ] };
-}
-
-impl FormReadsBack for Figure {
-    ghost form_reads_back = { λ order. let variants = unit_variant (codes "Point") Point
-        ∷ data_variant (codes "Circle") Circle (below 256) ∷ [] in elim [
-          | Point ↦ λ held. unit_variant_form order variants (codes "Point") refl
-          | Circle r ↦ λ held. data_variant_form order variants (codes "Circle") Circle (below 256)
-              (λ i. refl) (u8_form order r held)
-        ] };
-}
-
-impl WritesContent for Figure {
-    ghost writes_content = { from_content ⟦<Figure as Serialize>⟧.written _ };
 }
 
 /// An even number. An odd one has no item.
@@ -270,8 +214,16 @@ pub struct Moment {
     pub seconds: u64,
 }
 
+impl Described for Moment {
+    ghost description = { under_tag 1 (λ m. m.seconds) ⟦<u64 as Described>⟧.description };
+}
+
+impl AsDescribed for Moment {
+    ghost as_described = { described ⟦<Moment as Described>⟧.description refl };
+}
+
 impl Serialize for Moment {
-    ghost written = { λ m. tag_of 1 (Ok (number_item (pos m.seconds))) };
+    ghost written = { ⟦<Moment as Described>⟧.description.written };
 
     ghost takes_memory = { ⊥ };
 
@@ -281,31 +233,14 @@ impl Serialize for Moment {
 }
 
 impl Deserialize for Moment {
-    ghost Content = { ℕ };
+    ghost Content = { ⟦<Moment as Described>⟧.description.Content };
 
-    ghost reading = { tag_required 1 (λ m. m.seconds) ⟦<u64 as Deserialize>⟧.reading };
+    ghost reading = { ⟦<Moment as Described>⟧.description.reading };
 
     fn deserialize<S: Source>(alloc: Global, source: &mut S) -> Result<Moment, S::Error> {
         let Required(seconds) = Required::<u64, 1>::deserialize(alloc, source)?;
         Ok(Moment { seconds })
     }
-}
-
-impl ReadsBack for Moment {
-    ghost is_held = { λ m. m.seconds < 2 ^ 64 };
-
-    ghost levels = { λ m. 1 };
-
-    ghost reads_back = { λ m held. required-back 1 (u64_back m.seconds held) };
-}
-
-impl FormReadsBack for Moment {
-    ghost form_reads_back = { λ order m held. required-form order 1
-        (never-number byte_strings (pos m.seconds)) (u64_form order m.seconds held) };
-}
-
-impl WritesContent for Moment {
-    ghost writes_content = { from_content (λ n. tag_of 1 (Ok (number_item (pos n)))) _ };
 }
 
 /// Two numbers that do not fall, as an array. Others are refused as out of range.
@@ -315,10 +250,18 @@ pub struct Span {
     pub end: u8,
 }
 
+impl Described for Span {
+    ghost description = { tested (λ s. (s.start, s.end))
+        ⟦<(u8, u8) as Described>⟧.description (λ p. nat_le p.0 p.1) Range };
+}
+
+impl AsDescribed for Span {
+    ghost as_described = { described ⟦<Span as Described>⟧.description refl };
+}
+
 /// An array of both.
 impl Serialize for Span {
-    ghost written = { λ s. container_of sequence
-        (Ok (number_item (pos s.start)) ∷ Ok (number_item (pos s.end)) ∷ []) };
+    ghost written = { ⟦<Span as Described>⟧.description.written };
 
     ghost takes_memory = { ⊥ };
 
@@ -328,10 +271,9 @@ impl Serialize for Span {
 }
 
 impl Deserialize for Span {
-    ghost Content = { ℕ × ℕ };
+    ghost Content = { ⟦<Span as Described>⟧.description.Content };
 
-    ghost reading = { such_that (λ s. (s.start, s.end))
-        (tuple2_of (below 256) (below 256)) (λ p. nat_le p.0 p.1) Range };
+    ghost reading = { ⟦<Span as Described>⟧.description.reading };
 
     fn deserialize<S: Source>(alloc: Global, source: &mut S) -> Result<Span, S::Error> {
         let (start, end) = <(u8, u8)>::deserialize(alloc, source)?;
@@ -340,24 +282,4 @@ impl Deserialize for Span {
         }
         Ok(Span { start, end })
     }
-}
-
-impl ReadsBack for Span {
-    ghost is_held = { λ s. (s.start < 2 ^ 8) × (s.end < 2 ^ 8) × (nat_le s.start s.end ≡ true) };
-
-    ghost levels = { λ s. 1 };
-
-    ghost reads_back = { λ s held. such_that_back (λ p. nat_le p.0 p.1) Range
-        (tuple2-back (u8_back s.start held.0)
-        (u8_back s.end held.1)) held.2 };
-}
-
-impl FormReadsBack for Span {
-    ghost form_reads_back = { λ order s held. such_that_form order (λ p. nat_le p.0 p.1) Range
-        (tuple2-form order (u8_form order s.start held.0) (u8_form order s.end held.1)) held.2 };
-}
-
-impl WritesContent for Span {
-    ghost writes_content = { from_content (λ c. container_of sequence
-        (Ok (number_item (pos c.0)) ∷ Ok (number_item (pos c.1)) ∷ [])) _ };
 }

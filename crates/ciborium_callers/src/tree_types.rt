@@ -1,19 +1,21 @@
 //! A type that holds itself. It is read as a `Value`, of which it is made.
 ghost use Rattle.std.specs.Prelude.{◌≡◌, ◌⊎◌, IfErr, IfOk, Ok, false, map, true};
 ghost use Rattle.ciborium.specs.Encoding.{item_of};
+ghost use Rattle.ciborium.specs.FormsReadBack.{own-form_read};
 ghost use Rattle.ciborium.specs.Nesting.{nesting};
 ghost use Rattle.ciborium.specs.Readings.{such_that};
 ghost use Rattle.ciborium.specs.lemmas.ReadsBackParts.{such_that_back};
 ghost use Rattle.ciborium.specs.lemmas.ReadsBackValues.{value-back};
 ghost use Rattle.ciborium.specs.Tree as trees;
 ghost use Rattle.ciborium.specs.View.{tree_of, trees_of};
+ghost use Rattle.ciborium.specs.WrittenContents.{from_content};
 ghost use Rattle.ciborium_value.specs.declared.kind.Kind.TheVariants.{Other};
 ghost use Rattle.ciborium_value.specs.declared.error.Error.TheVariants.{Custom, Memory};
 ghost use Rattle.ciborium_callers.specs.NumberTrees.{are_number_trees, folded-number_tree};
-ghost use Rattle.ciborium_callers.specs.NumberTrees.{is_number_tree, shape_of};
+ghost use Rattle.ciborium_callers.specs.NumberTrees.{is_number_tree, own-number_tree, shape_of};
 
 use ciborium::de::{Deserialize, Source};
-use ciborium::laws::ReadsBack;
+use ciborium::laws::{FormReadsBack, ReadsBack, WritesContent};
 use ciborium::ser::{Serialize, Sink};
 use ciborium::value::{Error, Kind, Value};
 use std::alloc::Global;
@@ -62,6 +64,18 @@ impl ReadsBack for NumberTree {
 
     ghost reads_back = { λ t held. such_that_back is_number_tree Other
         (value-back (shape_of t) (folded-number_tree (shape_of t) held)) held };
+}
+
+// It has no map and no bignum, so it is its own form.
+impl FormReadsBack for NumberTree {
+    ghost form_reads_back = { λ order. own-form_read order
+        (λ t held. such_that_back is_number_tree Other
+        (value-back (shape_of t) (folded-number_tree (shape_of t) held)) held)
+        (λ t held. own-number_tree order (shape_of t) held) };
+}
+
+impl WritesContent for NumberTree {
+    ghost writes_content = { from_content (λ t. Ok (item_of t)) _ };
 }
 
 // The tree that this value is; any other value is refused as `Other`.

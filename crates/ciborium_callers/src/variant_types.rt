@@ -1,23 +1,17 @@
 //! Enums that are written and read by the names of their variants.
-ghost use Rattle.std.specs.Prelude.{◌∷◌, ◌<◌, ◌^◌, List, None, Ok, Option, Some, [], codes, pos};
-ghost use Rattle.std.specs.Prelude.{refl, string_bytes, ℕ};
-ghost use Rattle.ciborium.specs.Places.{sequence};
-ghost use Rattle.ciborium.specs.Readings.{below, ordered_by, tuple2_of};
+ghost use Rattle.std.specs.Prelude.{◌∷◌, ◌<◌, ◌^◌, Ok, [], pos};
+ghost use Rattle.ciborium.specs.Labels.{fields_of};
+ghost use Rattle.ciborium.specs.OwnTypes.{codes, described, enum_description, inl, inr, label};
+ghost use Rattle.ciborium.specs.OwnTypes.{no_variant, refl, then_unit_variant, then_variant};
+ghost use Rattle.ciborium.specs.Readings.{below, ordered_by};
 ghost use Rattle.ciborium.specs.lemmas.FormsReadBackNumbers.{u8_form};
-ghost use Rattle.ciborium.specs.lemmas.FormsReadBackParts.{tuple2-form};
-ghost use Rattle.ciborium.specs.lemmas.FormsReadBackStructs.{field_form, fields_form};
-ghost use Rattle.ciborium.specs.lemmas.FormsReadBackStructs.{no_field_form};
 ghost use Rattle.ciborium.specs.lemmas.FormsReadBackVariants.{data_variant_form};
 ghost use Rattle.ciborium.specs.lemmas.FormsReadBackVariants.{unit_variant_form};
 ghost use Rattle.ciborium.specs.lemmas.ReadsBackNumbers.{u8_back};
-ghost use Rattle.ciborium.specs.lemmas.ReadsBackParts.{tuple2-back};
-ghost use Rattle.ciborium.specs.lemmas.ReadsBackStructs.{field_back, fields_read_back};
-ghost use Rattle.ciborium.specs.lemmas.ReadsBackStructs.{no_field_back};
 ghost use Rattle.ciborium.specs.lemmas.ReadsBackVariants.{data_variant_back, unit_variant_back};
-ghost use Rattle.ciborium.specs.Sinks.{container_of, fields_of, named_text, number_item};
+ghost use Rattle.ciborium.specs.Sinks.{named_text, number_item};
 ghost use Rattle.ciborium.specs.VariantReadings.{data_variant, enum_of, unit_variant};
 ghost use Rattle.ciborium.specs.WrittenContents.{from_content};
-ghost use Rattle.ciborium_callers.specs.declared.variant_types.Form.{Form};
 ghost use Rattle.ciborium_callers.specs.declared.variant_types.Form.TheVariants as form;
 ghost use Rattle.ciborium_callers.specs.declared.variant_types.Letter.{Letter};
 ghost use Rattle.ciborium_callers.specs.declared.variant_types.Letter.TheVariants.{A, B};
@@ -26,6 +20,7 @@ ghost use Rattle.ciborium_callers.specs.declared.variant_types.Remark.TheVariant
 
 use crate::struct_types::Ends;
 use ciborium::de::{Deserialize, Key, Source};
+use ciborium::described::{AsDescribed, Described};
 use ciborium::laws::{FormReadsBack, ReadsBack, WritesContent};
 use ciborium::ser::{Field, NoField, Serialize, Sink};
 use ciborium::value::Kind;
@@ -42,7 +37,7 @@ pub enum Letter {
 impl Serialize for Letter {
     ghost written = { elim [
       | A ↦ named_text (codes "A")
-      | B n ↦ fields_of ((codes "B", Ok (number_item (pos n))) ∷ [])
+      | B n ↦ fields_of ((label "B", Ok (number_item (pos n))) ∷ [])
     ] };
 
     ghost takes_memory = { ⊥ };
@@ -114,11 +109,19 @@ pub enum Remark {
     Spoken(String),
 }
 
+impl Described for Remark {
+    ghost description = { enum_description
+        (elim [ Silent ↦ inl tt | Spoken text ↦ inr (inl text) ])
+        (then_unit_variant (codes "Silent")
+        (then_variant (codes "Spoken") ⟦<String as Described>⟧.description no_variant)) };
+}
+
+impl AsDescribed for Remark {
+    ghost as_described = { described ⟦<Remark as Described>⟧.description refl };
+}
+
 impl Serialize for Remark {
-    ghost written = { elim [
-      | Silent ↦ named_text (codes "Silent")
-      | Spoken s ↦ fields_of ((codes "Spoken", named_text (string_bytes s)) ∷ [])
-    ] };
+    ghost written = { ⟦<Remark as Described>⟧.description.written };
 
     ghost takes_memory = { ⊥ };
 
@@ -131,11 +134,9 @@ impl Serialize for Remark {
 }
 
 impl Deserialize for Remark {
-    ghost Content = { Option (List ℕ) };
+    ghost Content = { ⟦<Remark as Described>⟧.description.Content };
 
-    ghost reading = { enum_of (elim [ Silent ↦ None | Spoken s ↦ Some (string_bytes s) ])
-        (unit_variant (codes "Silent") None
-        ∷ data_variant (codes "Spoken") Some ⟦<String as Deserialize>⟧.reading ∷ []) };
+    ghost reading = { ⟦<Remark as Described>⟧.description.reading };
 
     fn deserialize<S: Source>(alloc: Global, source: &mut S) -> Result<Remark, S::Error> {
         let (name, level) = source.begin_variant(alloc)?;
@@ -162,22 +163,26 @@ pub enum Form {
     Struct { first: u8, second: u8 },
 }
 
+impl Described for Form {
+    ghost description = { enum_description
+        (elim [
+          | form.Unit ↦ inl tt
+          | form.Newtype n ↦ inr (inl n)
+          | form.Tuple a b ↦ inr (inr (inl (a, b)))
+          | form.Struct a b ↦ inr (inr (inr (inl (record { first = a; second = b }))))
+        ])
+        (then_unit_variant (codes "Unit")
+        (then_variant (codes "Newtype") ⟦<u8 as Described>⟧.description
+        (then_variant (codes "Tuple") ⟦<(u8, u8) as Described>⟧.description
+        (then_variant (codes "Struct") ⟦<Ends as Described>⟧.description no_variant)))) };
+}
+
+impl AsDescribed for Form {
+    ghost as_described = { described ⟦<Form as Described>⟧.description refl };
+}
+
 impl Serialize for Form {
-    ghost written = { elim [
-      | form.Unit ↦ named_text (codes "Unit")
-      | form.Newtype n ↦ fields_of ((codes "Newtype", Ok (number_item (pos n))) ∷ [])
-      | form.Tuple a b ↦ fields_of ((
-        codes "Tuple",
-        container_of sequence
-            (Ok (number_item (pos a)) ∷ Ok (number_item (pos b)) ∷ []),
-      ) ∷ [])
-      | form.Struct a b ↦ fields_of ((
-        codes "Struct",
-        fields_of
-            ((codes "first", Ok (number_item (pos a))) ∷
-            (codes "second", Ok (number_item (pos b))) ∷ []),
-      ) ∷ [])
-    ] };
+    ghost written = { ⟦<Form as Described>⟧.description.written };
 
     ghost takes_memory = { ⊥ };
 
@@ -195,13 +200,9 @@ impl Serialize for Form {
 }
 
 impl Deserialize for Form {
-    ghost Content = { Form };
+    ghost Content = { ⟦<Form as Described>⟧.description.Content };
 
-    ghost reading = { enum_of (λ f. f) (unit_variant (codes "Unit") form.Unit
-        ∷ data_variant (codes "Newtype") form.Newtype (below 256)
-        ∷ data_variant (codes "Tuple") (λ p. form.Tuple p.0 p.1) (tuple2_of (below 256) (below 256))
-        ∷ data_variant (codes "Struct") (λ p. form.Struct p.0 p.1.0)
-        ⟦<Ends as Deserialize>⟧.reading ∷ []) };
+    ghost reading = { ⟦<Form as Described>⟧.description.reading };
 
     fn deserialize<S: Source>(alloc: Global, source: &mut S) -> Result<Form, S::Error> {
         let (name, level) = source.begin_variant(alloc)?;
@@ -224,62 +225,4 @@ impl Deserialize for Form {
         source.end_variant(level);
         Ok(form)
     }
-}
-
-impl ReadsBack for Form {
-    ghost is_held = { elim [
-      | form.Unit ↦ Unit {0}
-      | form.Newtype n ↦ n < 2 ^ 8
-      | form.Tuple a b ↦ (a < 2 ^ 8) × (b < 2 ^ 8)
-      | form.Struct a b ↦ (a < 2 ^ 8) × (b < 2 ^ 8)
-    ] };
-
-    // One for the variant, and one for an array or a map that is its data.
-    ghost levels = { elim [
-      | form.Unit ↦ 1
-      | form.Newtype n ↦ 1
-      | form.Tuple a b ↦ 2
-      | form.Struct a b ↦ 2
-    ] };
-
-    ghost reads_back = { let variants = unit_variant (codes "Unit") form.Unit
-        ∷ data_variant (codes "Newtype") form.Newtype (below 256)
-        ∷ data_variant (codes "Tuple") (λ p. form.Tuple p.0 p.1) (tuple2_of (below 256) (below 256))
-        ∷ data_variant (codes "Struct") (λ p. form.Struct p.0 p.1.0)
-        ⟦<Ends as Deserialize>⟧.reading ∷ [] in elim [
-          | form.Unit ↦ λ held. unit_variant_back variants (codes "Unit") (λ l. refl)
-          | form.Newtype n ↦ λ held. data_variant_back variants (codes "Newtype") form.Newtype
-              (below 256) (λ l i. refl) (u8_back n held)
-          | form.Tuple a b ↦ λ held. data_variant_back variants (codes "Tuple")
-              (λ p. form.Tuple p.0 p.1) (tuple2_of (below 256) (below 256)) (λ l i. refl)
-              (tuple2-back (u8_back a held.0) (u8_back b held.1))
-          | form.Struct a b ↦ λ held. data_variant_back variants (codes "Struct")
-              (λ p. form.Struct p.0 p.1.0) ⟦<Ends as Deserialize>⟧.reading (λ l i. refl)
-              (fields_read_back
-              (field_back (codes "first") ⟦<u8 as Deserialize>⟧.reading (u8_back a held.0)
-              (field_back (codes "second") ⟦<u8 as Deserialize>⟧.reading (u8_back b held.1)
-              no_field_back)) refl)
-        ] };
-}
-
-impl FormReadsBack for Form {
-    ghost form_reads_back = { λ order. let variants = unit_variant (codes "Unit") form.Unit
-        ∷ data_variant (codes "Newtype") form.Newtype (below 256)
-        ∷ data_variant (codes "Tuple") (λ p. form.Tuple p.0 p.1) (tuple2_of (below 256) (below 256))
-        ∷ data_variant (codes "Struct") (λ p. form.Struct p.0 p.1.0)
-        ⟦<Ends as Deserialize>⟧.reading ∷ [] in elim [
-          | form.Unit ↦ λ held. unit_variant_form order variants (codes "Unit") refl
-          | form.Newtype n ↦ λ held. data_variant_form order variants (codes "Newtype")
-              form.Newtype (below 256) (λ i. refl) (u8_form order n held)
-          | form.Tuple a b ↦ λ held. data_variant_form order variants (codes "Tuple")
-              (λ p. form.Tuple p.0 p.1) (tuple2_of (below 256) (below 256)) (λ i. refl)
-              (tuple2-form order (u8_form order a held.0) (u8_form order b held.1))
-          | form.Struct a b ↦ λ held. data_variant_form order variants (codes "Struct")
-              (λ p. form.Struct p.0 p.1.0) ⟦<Ends as Deserialize>⟧.reading (λ i. refl)
-              (fields_form order
-              (field_form order (codes "first") ⟦<u8 as Deserialize>⟧.reading
-              (u8_form order a held.0)
-              (field_form order (codes "second") ⟦<u8 as Deserialize>⟧.reading
-              (u8_form order b held.1) (no_field_form order))) refl)
-        ] };
 }

@@ -7,7 +7,7 @@ use std::alloc::{AllocError, AllocFailed};
 use std::io;
 use std::test::Fail;
 
-const KINDS: [(Kind, &str); 25] = [
+const KINDS: [(Kind, &str); 26] = [
     (Kind::Float, "a floating-point number"),
     (Kind::Simple, "an unassigned simple value"),
     (Kind::Break, "a break where an item has to stand"),
@@ -40,6 +40,7 @@ const KINDS: [(Kind, &str); 25] = [
     ),
     (Kind::KeyOrder, "a key out of order"),
     (Kind::DuplicateKey, "two equal keys in one map"),
+    (Kind::UnknownField, "an unknown field"),
     (Kind::TrailingData, "bytes behind the item"),
     (
         Kind::NotDeterministic,

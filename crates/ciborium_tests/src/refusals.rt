@@ -88,6 +88,7 @@ fn name_kind(kind: Kind) -> &'static str {
         Kind::NotFolded => "notfolded",
         Kind::KeyOrder => "keyorder",
         Kind::DuplicateKey => "duplicatekey",
+        Kind::UnknownField => "unknownfield",
         Kind::TrailingData => "trailingdata",
         Kind::NotDeterministic => "notdeterministic",
     }

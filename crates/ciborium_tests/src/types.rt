@@ -1,12 +1,14 @@
 //! The types that lines name.
 
 use crate::few::Few;
-use ciborium::de::Deserialize;
+use ciborium::de::{Deserialize, UniqueKeys};
 use ciborium::ser::Serialize;
 use ciborium::tag::{Accepted, Required};
 use ciborium::value::{ByteBuf, CanonicalValue, Value};
 use ciborium_callers::array_types::Sample;
+use ciborium_callers::described_types::{KeyHeader, Record};
 use ciborium_callers::own_types::{Figure, Message, Moment, Span};
+use ciborium_callers::strict_types::{Header, Order};
 use ciborium_callers::struct_types::{Ends, Foo, Reply};
 use ciborium_callers::tag_types::{Parted, Two};
 use ciborium_callers::variant_types::{Form, Letter};
@@ -112,6 +114,8 @@ fn ask_map<J: Job>(alloc: Global, name: &str, job: &J) -> Result<Option<String>,
         "BTreeMap<u64,String>" => job.answer::<BTreeMap<u64, String>>(alloc),
         "BTreeMap<String,String>" => job.answer::<BTreeMap<String, String>>(alloc),
         "BTreeMap<String,u8>" => job.answer::<BTreeMap<String, u8>>(alloc),
+        "UniqueKeys<u8,bool>" => job.answer::<UniqueKeys<u8, bool>>(alloc),
+        "UniqueKeys<String,u8>" => job.answer::<UniqueKeys<String, u8>>(alloc),
         "BTreeMap<Value,u8>" => job.answer::<BTreeMap<Value, u8>>(alloc),
         "BTreeMap<CanonicalValue,u8>" => job.answer::<BTreeMap<CanonicalValue, u8>>(alloc),
         "BTreeMap<CanonicalValue,Value>" => job.answer::<BTreeMap<CanonicalValue, Value>>(alloc),
@@ -164,6 +168,11 @@ fn ask_own<J: Job>(alloc: Global, name: &str, job: &J) -> Result<Option<String>,
         "Foo" => job.answer::<Foo>(alloc),
         "Reply" => job.answer::<Reply>(alloc),
         "Ends" => job.answer::<Ends>(alloc),
+        "Order" => job.answer::<Order>(alloc),
+        "Header" => job.answer::<Header>(alloc),
+        "Record" => job.answer::<Record>(alloc),
+        "Vec<Record>" => job.answer::<Vec<Record>>(alloc),
+        "KeyHeader" => job.answer::<KeyHeader>(alloc),
         "Form" => job.answer::<Form>(alloc),
         "Sample" => job.answer::<Sample>(alloc),
         "Span" => job.answer::<Span>(alloc),

@@ -68,7 +68,7 @@ IsLabelMap t = (ps : TreePairs) × (t ≡ trees.map ps) × IsTrue (are_labels ps
 
 -- the same where no label stands twice: it has as many entries as pairs (RFC 9052, section 3)
 abbrev pub AreLabels : Tree → List (Tree × Tree) → Type 0
-AreLabels t es = IsLabelMap t × (outcome None (taken_map tree_cmp taken_value taken_value
+AreLabels t es = IsLabelMap t × (outcome None (taken_map false tree_cmp taken_value taken_value
     (item_of t)) ≡ gives es) ×
     (length es ≡ pair_count t)
 

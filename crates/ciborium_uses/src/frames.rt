@@ -10,14 +10,13 @@ ghost use Rattle.ciborium.specs.Sinks.{all_named};
 ghost use Rattle.ciborium.specs.View.{read_as};
 ghost use Rattle.ciborium.specs.TypedAnswers.{TakesGiven};
 ghost use Rattle.ciborium.specs.Writes.{WritesNamed};
-ghost use Rattle.ciborium_uses.specs.Readings.{IsReading, content_of};
 
 mod error;
 mod lines;
 pub mod reading;
 
 use ciborium::de::{self, Deserialize};
-use ciborium::laws::are_read_back;
+use ciborium::laws::{ReadsBack, are_read_back};
 use ciborium::ser::{self, Serialize};
 use ciborium::{from_buf_reader_next, into_writer, read_buf_sequence, write_sequence};
 pub use error::LogError;
@@ -46,7 +45,8 @@ pub fn read_reading<R: BufRead>(
     ensures end { TellsEnd (R.remaining reader.old) (R.remaining reader.new) result }
     ensures ok { Otherwise result (λ r. TakesGiven (Some 256)
         ⟦<Reading as Deserialize>⟧.reading.taken (R.remaining reader.old)
-        (R.remaining reader.new) (read_as content_of r)) }
+        (R.remaining reader.new)
+        (read_as ⟦<Reading as Deserialize>⟧.reading.content r)) }
 {
     from_buf_reader_next(alloc, reader)
 }
@@ -70,7 +70,8 @@ pub fn read_log<R: BufRead>(
 ) -> Result<Vec<Reading>, de::Error<io::Error>>
     ensures { TakesSequence (Some 256) ⟦<Reading as Deserialize>⟧.reading.taken
         (R.remaining reader.old) (R.remaining reader.new)
-        (read_as (λ readings. map content_of readings.items) result) }
+        (read_as (λ readings. map ⟦<Reading as Deserialize>⟧.reading.content readings.items)
+        result) }
 {
     read_buf_sequence(alloc, reader)
 }
@@ -78,8 +79,9 @@ pub fn read_log<R: BufRead>(
 /// Writes readings into memory, and reads them from there: they are the readings that were
 /// written, in order, and no others.
 pub fn through_memory(alloc: Global, readings: &[Reading]) -> Result<Vec<Reading>, LogError>
-    ensures { All IsReading readings.now → IfOk result
-        (λ again. map content_of again.items ≡ map content_of readings.now) }
+    ensures { All ⟦<Reading as ReadsBack>⟧.is_held readings.now → IfOk result
+        (λ again. map ⟦<Reading as Deserialize>⟧.reading.content again.items
+        ≡ map ⟦<Reading as Deserialize>⟧.reading.content readings.now) }
 {
     let mut log = Vec::new(alloc);
     write_sequence(readings, &mut log)?;

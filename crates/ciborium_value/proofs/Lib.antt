@@ -5,3 +5,4 @@ pub mod FoldedTrees
 pub mod Writing
 pub mod Sources
 pub mod Trees
+pub mod LabelNumbers

@@ -28,6 +28,7 @@ pub mod EnteredSequences
 pub mod Readings
 pub mod TagReadings
 pub mod VariantReadings
+pub mod Labels
 pub mod StructReadings
 pub mod ReadsBack
 pub mod NeverWritten
@@ -38,6 +39,7 @@ pub mod CanonicalTrees
 pub mod DeterministicForms
 pub mod SameContents
 pub mod FormsReadBack
+pub mod Described
 pub mod Notation
 pub mod TreeAnswers
 pub mod laws

@@ -69,6 +69,16 @@ abbrev pub such_that : {T U A : Type 0} → (T → A) → Reading U A → (A →
 such_that content r test kind = checked content r.order r
     (λ v. chosen (test v) (give v) (refuse kind))
 
+-- as another type, which is this part of it
+abbrev pub read_as : {T U C : Type 0} → (T → U) → Reading U C → Reading T C
+read_as part r = record {
+  content = λ v. r.content (part v);
+  taken = r.taken;
+  order = r.order;
+  needs_memory = r.needs_memory;
+  whole = r.whole;
+}
+
 -- the same, where contents compare so: for a type that is a key of maps
 abbrev pub ordered_by : {T C : Type 0} → (C → C → Ordering) → Reading T C → Reading T C
 ordered_by order r = record {
@@ -162,11 +172,21 @@ tuple4_of a b c d =
 -- ---- maps
 
 -- a map by its entries, which compare by their keys and then by their values
+abbrev pub map_by : {M K V C D : Type 0} → Bool → (M → List (K × V)) → Reading K C →
+    Reading V D → Reading M (List (C × D))
+map_by once entries k v = spacious (λ m. map (λ e. (k.content e.0, v.content e.1)) (entries m))
+    (slice_cmp (λ x y. ordering_then (k.order x.0 y.0) (v.order x.1 y.1)))
+    (taken_map once k.order k.taken v.taken)
+
+-- of equal keys the last one counts
 abbrev pub map_of : {M K V C D : Type 0} → (M → List (K × V)) → Reading K C → Reading V D →
     Reading M (List (C × D))
-map_of entries k v = spacious (λ m. map (λ e. (k.content e.0, v.content e.1)) (entries m))
-    (slice_cmp (λ x y. ordering_then (k.order x.0 y.0) (v.order x.1 y.1)))
-    (taken_map k.order k.taken v.taken)
+map_of entries k v = map_by false entries k v
+
+-- equal keys are refused
+abbrev pub unique_map_of : {M K V C D : Type 0} → (M → List (K × V)) → Reading K C →
+    Reading V D → Reading M (List (C × D))
+unique_map_of entries k v = map_by true entries k v
 
 -- ---- whatever is ahead
 

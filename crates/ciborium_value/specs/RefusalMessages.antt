@@ -33,6 +33,7 @@ kind_message kinds.Open = codes "an indefinite length where only definite ones a
 kind_message kinds.NotFolded = codes "a bignum that fits in 64 bits, or has leading zeros"
 kind_message kinds.KeyOrder = codes "a key out of order"
 kind_message kinds.DuplicateKey = codes "two equal keys in one map"
+kind_message kinds.UnknownField = codes "an unknown field"
 kind_message kinds.TrailingData = codes "bytes behind the item"
 kind_message kinds.NotDeterministic =
     codes "another encoding than the deterministic one of the value"

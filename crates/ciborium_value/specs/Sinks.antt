@@ -5,7 +5,7 @@ use Rattle.ciborium_ll.specs.Item as item
 use Rattle.ciborium_ll.specs.Item.{Item}
 use Rattle.ciborium_value.specs.Encoding.{item_of}
 use Rattle.ciborium_value.specs.Number.{shortest_bytes}
-use Rattle.ciborium_value.specs.Places.{Shape, dictionary, Place, within, tagged, HasRoom, added}
+use Rattle.ciborium_value.specs.Places.{Shape, Place, within, tagged, HasRoom, added}
 use Rattle.ciborium_value.specs.Places.{ended, IsComplete, IsCutBetween, Out, container}
 use Rattle.ciborium_value.specs.View.{tree_of}
 use Rattle.ciborium_value.specs.declared.kind.Kind.{Kind}
@@ -54,12 +54,9 @@ abbrev pub in_turn : {A B : Type 0} → (A → Named) → (B → Named) → List
 in_turn f g [] = []
 in_turn f g (e ∷ es) = f e.0 ∷ g e.1 ∷ in_turn f g es
 
--- a name, and the definite map of fields by their names
+-- a name
 abbrev pub named_text : List ℕ → Named
 named_text name = Ok (item.text false name)
-
-abbrev pub fields_of : List (List ℕ × Named) → Named
-fields_of fs = container_of dictionary (in_turn named_text (λ r. r) fs)
 
 -- a tag over what its content names
 abbrev pub tag_of : ℕ → Named → Named

@@ -9,7 +9,7 @@ use Rattle.ciborium_value.specs.Ahead.{past, inside, takes_level, end_of}
 use Rattle.ciborium_value.specs.Nesting.{Limit}
 use Rattle.ciborium_value.specs.Places.{Shape, sequence, dictionary}
 use Rattle.ciborium_value.specs.Taken.{Outcome, gives, refuses, nests, Taken, taken_seq}
-use Rattle.ciborium_value.specs.Taken.{taken_pairs, is_null, deeper, outcome}
+use Rattle.ciborium_value.specs.Taken.{taken_pairs, deeper, outcome}
 use Rattle.ciborium_value.specs.declared.kind.Kind.{Kind}
 
 -- ---- why a source refused
@@ -69,10 +69,10 @@ module _ {S : Type 0} (StandsBefore : S → Limit → Ahead → Type 0) where
   RefusesAhead old taken fault = (l : Limit) (i : Item) (f : Rest) → StandsBefore old l (item i f) →
       IsFaultOf (end_of f) fault (outcome l (taken i))
 
-  -- the answer says whether the item is null, and the source stands before it still
-  abbrev pub Tells : S → S → Bool → Type 0
-  Tells old new answer = (l : Limit) (i : Item) (f : Rest) → StandsBefore old l (item i f) →
-      (answer ≡ is_null i) × StandsBefore new l (item i f)
+  -- the answer says this of the item, and the source stands before it still
+  abbrev pub Tells : {A : Type 0} → (Item → A) → S → S → A → Type 0
+  Tells tell old new answer = (l : Limit) (i : Item) (f : Rest) → StandsBefore old l (item i f) →
+      (answer ≡ tell i) × StandsBefore new l (item i f)
 
   -- no item is to blame
   abbrev pub RefusesToTell : S → Fault → Type 0

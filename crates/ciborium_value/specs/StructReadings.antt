@@ -1,43 +1,52 @@
--- How a struct is read from a map by the names of its fields.
-use Rattle.std.specs.Prelude.{ℕ, List, [], ◌∷◌, Option, Some, None, Result, Ok, Err}
-use Rattle.std.specs.Prelude.{if◌then◌else◌, bytes_eq}
+-- How a struct is read from a map by the labels of its fields.
+use Rattle.std.specs.Option.{is_some, unwrap_or}
+use Rattle.std.specs.Prelude.{Bool, true, false, List, [], ◌∷◌, Option, Some, None, Result, Ok}
+use Rattle.std.specs.Prelude.{Err, ◌&&◌, if◌then◌else◌}
 use Rattle.ciborium_ll.specs.Item.{Item}
+use Rattle.ciborium_value.specs.Labels.{Label, is_label, taken_label}
 use Rattle.ciborium_value.specs.Readings.{Reading, option_of, spacious, unordered}
-use Rattle.ciborium_value.specs.Taken.{Steps, Taken, chosen, decided, give, mapped, taken_name}
-use Rattle.ciborium_value.specs.Taken.{taken_value, then_read}
+use Rattle.ciborium_value.specs.Taken.{Steps, Taken, chosen, decided, give, mapped}
+use Rattle.ciborium_value.specs.Taken.{refuse, taken_value, then_read}
 use Rattle.ciborium_value.specs.TakenParts.{after_pairs, taken_then}
 use Rattle.ciborium_value.specs.declared.kind.Kind.{Kind}
 use Rattle.ciborium_value.specs.declared.kind.Kind.TheVariants as kinds
 use Rattle.ciborium_value.specs.declared.wanted.FieldPlace.{FieldPlace}
 use Rattle.ciborium_value.specs.declared.wanted.FieldPlace.TheVariants.{First, Behind}
 
--- ---- fields by their names
+-- ---- fields by their labels
 
--- what a field takes of what stands under this name, onto what was read so far
+-- what a field takes of what stands under this label, onto what was read so far
 abbrev pub FieldsTaken : Type 0 → Type 1
-FieldsTaken C = List ℕ → C → Taken C
+FieldsTaken C = Label → C → Taken C
 
 -- no field: whatever stands there is read as a value, and dropped
 abbrev pub no_field_taken : {C : Type 0} → FieldsTaken C
 no_field_taken name c = taken_then taken_value (λ _. give c)
 
--- the field of this name, which is read anew each time, or else those behind it
-abbrev pub field_taken : {A C : Type 0} → List ℕ → Taken A → FieldsTaken C →
-    FieldsTaken (Option A × C)
-field_taken wanted taken behind name c i = chosen (bytes_eq name wanted)
-    (mapped (λ v. (Some v, c.1)) (taken i)) (mapped (λ d. (c.0, d)) (behind name c.1 i))
+-- no field, and no other name: whatever stands there is refused
+abbrev pub no_other_taken : {C : Type 0} → FieldsTaken C
+no_other_taken name c i = refuse kinds.UnknownField
 
--- the place of a name: that of this field, or its place among those behind it
-abbrev pub field_place : {P : Type 0} → List ℕ → (List ℕ → P) → List ℕ → FieldPlace P
-field_place wanted behind name = if bytes_eq name wanted then First else Behind (behind name)
+-- the field of this label, which is read anew each time, or refused where each occurs but once; or
+-- else those behind it
+abbrev pub field_taken : {A C : Type 0} → Bool → Label → Taken A → FieldsTaken C →
+    FieldsTaken (Option A × C)
+field_taken once wanted taken behind name c i = chosen (is_label name wanted)
+    (chosen (once && is_some c.0) (refuse kinds.DuplicateKey)
+    (mapped (λ v. (Some v, c.1)) (taken i)))
+    (mapped (λ d. (c.0, d)) (behind name c.1 i))
+
+-- the place of a label: that of this field, or its place among those behind it
+abbrev pub field_place : {P : Type 0} → Label → (Label → P) → Label → FieldPlace P
+field_place wanted behind name = if is_label name wanted then First else Behind (behind name)
 
 -- ---- a map of them
 
--- a name and the value under it
+-- a label and the value under it
 abbrev pub take_named : {C : Type 0} → FieldsTaken C → C → Item × Item → Steps C
-take_named fields c p = then_read (taken_name p.0) (λ name. fields name c p.1)
+take_named fields c p = then_read (taken_label p.0) (λ name. fields name c p.1)
 
--- the pairs in turn: of a repeated name the last one counts
+-- the pairs in turn
 abbrev pub take_fields : {C : Type 0} → FieldsTaken C → C → List (Item × Item) → Steps C
 take_fields fields c [] = give c
 take_fields fields c (p ∷ ps) = then_read (take_named fields c p) (λ d. take_fields fields d ps)
@@ -51,6 +60,8 @@ taken_fields fields c = after_pairs (take_fields fields c)
 pub record Fields (C D : Type 0) : Type 1 where
   pub read : FieldsTaken C
   pub start : C
+  -- each occurs but once
+  pub once : Bool
   -- what a struct is of which this was read, or why it is none
   pub complete : C → Result D Kind
 
@@ -60,36 +71,57 @@ required None r = Err kinds.Other
 required (Some v) (Ok d) = Ok (v, d)
 required (Some v) (Err k) = Err k
 
--- no field more
-abbrev pub no_field : Fields (Unit {0}) (Unit {0})
-no_field = record { read = no_field_taken; start = tt; complete = λ c. Ok c }
+-- the end of the fields
+abbrev pub end_of_fields : Bool → FieldsTaken (Unit {0}) → Fields (Unit {0}) (Unit {0})
+end_of_fields once others = record {
+  read = others;
+  start = tt;
+  once = once;
+  complete = λ c. Ok c;
+}
 
--- a field of this name, of which at first this was read, and those behind it
-abbrev pub field_from : {T A C D : Type 0} → List ℕ → Reading T A → Option A → Fields C D →
-    Fields (Option A × C) (A × D)
-field_from name r first behind = record {
-  read = field_taken name r.taken behind.read;
-  start = (first, behind.start);
-  complete = λ c. required c.0 (behind.complete c.1);
+-- no field more: of a repeated name the last one counts, and other names are passed over
+abbrev pub no_field : Fields (Unit {0}) (Unit {0})
+no_field = end_of_fields false no_field_taken
+
+-- the same, but where a field is repeated, it is refused as DuplicateKey
+abbrev pub no_field_twice : Fields (Unit {0}) (Unit {0})
+no_field_twice = end_of_fields true no_field_taken
+
+-- the same again, and another name is refused as UnknownField
+abbrev pub no_other_field : Fields (Unit {0}) (Unit {0})
+no_other_field = end_of_fields true no_other_taken
+
+-- a field of this label, what was read of which is filled up so, and those behind it
+abbrev pub field_filled : {T A C D : Type 0} → Label → Reading T A → (Option A → Option A) →
+    Fields C D → Fields (Option A × C) (A × D)
+field_filled name r fill behind = record {
+  read = field_taken behind.once name r.taken behind.read;
+  start = (None, behind.start);
+  once = behind.once;
+  complete = λ c. required (fill c.0) (behind.complete c.1);
 }
 
 -- where it is missing the struct is refused as Other
-abbrev pub field : {T A C D : Type 0} → List ℕ → Reading T A → Fields C D →
+abbrev pub field : {T A C D : Type 0} → Label → Reading T A → Fields C D →
     Fields (Option A × C) (A × D)
-field name r behind = field_from name r None behind
+field name r behind = field_filled name r (λ o. o) behind
 
 -- where it is missing it is this
-abbrev pub field_or : {T A C D : Type 0} → List ℕ → Reading T A → A → Fields C D →
+abbrev pub field_or : {T A C D : Type 0} → Label → Reading T A → A → Fields C D →
     Fields (Option A × C) (A × D)
-field_or name r default behind = field_from name r (Some default) behind
+field_or name r default behind = field_filled name r (λ o. Some (unwrap_or o default)) behind
 
 -- where it is missing, or null, it is nothing
-abbrev pub optional_field : {T A C D : Type 0} → List ℕ → Reading T A → Fields C D →
+abbrev pub optional_field : {T A C D : Type 0} → Label → Reading T A → Fields C D →
     Fields (Option (Option A) × C) (Option A × D)
 optional_field name r behind = field_or name (option_of r) None behind
 
--- a struct of these fields, by the names in a map; what stands under other names is read as a
--- value, and dropped
+-- what is made of a map of these fields
+abbrev pub taken_struct : {C D : Type 0} → Fields C D → Taken D
+taken_struct fields = taken_then (taken_fields fields.read fields.start)
+    (λ c. decided (fields.complete c))
+
+-- a struct of these fields, by the labels in a map
 abbrev pub struct_of : {T C D : Type 0} → (T → D) → Fields C D → Reading T D
-struct_of content fields = spacious content unordered
-    (taken_then (taken_fields fields.read fields.start) (λ c. decided (fields.complete c)))
+struct_of content fields = spacious content unordered (taken_struct fields)

@@ -1,7 +1,9 @@
 -- What types that are made of others take from an item.
-use Rattle.std.specs.Prelude.{List, [], ◌∷◌, Option, Some, None}
+use Rattle.std.specs.BTreeMap.{insert_entry, is_at}
+use Rattle.std.specs.Map.{lookup}
+use Rattle.std.specs.Option.{is_some}
+use Rattle.std.specs.Prelude.{Bool, List, [], ◌∷◌, Option, Some, None, ◌&&◌}
 use Rattle.std.specs.declared.cmp.Ordering.{Ordering}
-use Rattle.std.specs.BTreeMap.{insert_entry}
 use Rattle.ciborium_ll.specs.Item.{Item}
 use Rattle.ciborium_value.specs.Taken.{Steps, Taken, chosen, give, is_null, mapped, read_inside}
 use Rattle.ciborium_value.specs.Taken.{refuse, take_each, taken_pairs, taken_seq, taken_value}
@@ -71,11 +73,20 @@ abbrev pub put_all : {K V : Type 0} → (K → K → Ordering) → List (K × V)
 put_all order es [] = es
 put_all order es (p ∷ ps) = put_all order (insert_entry order es p.0 p.1) ps
 
-abbrev pub map_entries : {K V : Type 0} → (K → K → Ordering) → Taken K → Taken V →
-    List (Item × Item) → Steps (List (K × V))
-map_entries order k v ps = mapped (put_all order []) (take_each (take_entry k v) ps)
+-- an entry has an equal key
+abbrev pub has_key : {K V : Type 0} → (K → K → Ordering) → List (K × V) → K → Bool
+has_key order es k = is_some (lookup (is_at (order k)) es)
+
+-- the same of pairs that are read, onto these entries; or, where each key occurs but once, an equal
+-- key is refused
+abbrev pub put_each : {K V : Type 0} → Bool → (K → K → Ordering) → Taken K → Taken V →
+    List (K × V) → List (Item × Item) → Steps (List (K × V))
+put_each once order key value es [] = give es
+put_each once order key value es (p ∷ ps) = then_read (key p.0) (λ k. chosen
+    (once && has_key order es k) (refuse kinds.DuplicateKey) (then_read (value p.1)
+    (λ v. put_each once order key value (insert_entry order es k v) ps)))
 
 -- a map, whose entries stand in the keys' order
-abbrev pub taken_map : {K V : Type 0} → (K → K → Ordering) → Taken K → Taken V →
+abbrev pub taken_map : {K V : Type 0} → Bool → (K → K → Ordering) → Taken K → Taken V →
     Taken (List (K × V))
-taken_map order k v = after_pairs (map_entries order k v)
+taken_map once order key value = after_pairs (put_each once order key value [])

@@ -1,11 +1,12 @@
 -- Equal contents are written alike.
 use Rattle.std.proofs.Common.{ap, ◌∙◌}
 use Rattle.std.specs.Option.{option_map}
-use Rattle.std.specs.Prelude.{◌≡◌, ℕ, List, [], ◌∷◌, map, pos, Option, Some, None, Ok, String}
+use Rattle.std.specs.Prelude.{◌≡◌, List, [], ◌∷◌, map, pos, Option, Some, None, Ok, String}
 use Rattle.std.specs.Prelude.{string_bytes, refl}
 use Rattle.std.specs.declared.alloc.Global.{Global}
 use Rattle.ciborium_value.specs.Places.{dictionary, sequence}
-use Rattle.ciborium_value.specs.Sinks.{Named, container_of, fields_of, in_turn, named_text}
+use Rattle.ciborium_value.specs.Labels.{Label, fields_of}
+use Rattle.ciborium_value.specs.Sinks.{Named, container_of, in_turn, named_text}
 use Rattle.ciborium_value.specs.Sinks.{number_item, or_null}
 
 -- values with one content name the same item, or are refused with the same kind
@@ -140,17 +141,17 @@ module _ {K C : Type 0} {key_written : K → Named} {key : K → C}
 -- ---- structs by names
 
 -- fields with equal contents name the same
-pub record AreFieldsAlike {C : Type 0} (c d : C) (fs gs : List (List ℕ × Named)) : Type 0 where
+pub record AreFieldsAlike {C : Type 0} (c d : C) (fs gs : List (Label × Named)) : Type 0 where
   pub alike : c ≡ d → fs ≡ gs
 
 pub no_field_alike : AreFieldsAlike {C = Unit {0}} tt tt [] []
 no_field_alike = record { alike = λ same. refl }
 
-abbrev named_field : List ℕ → Named → List ℕ × Named
+abbrev named_field : Label → Named → Label × Named
 named_field name r = (name, r)
 
-module _ {A C : Type 0} (name : List ℕ) {a b : A} {r s : Named} {c d : C}
-    {fs gs : List (List ℕ × Named)} where
+module _ {A C : Type 0} (name : Label) {a b : A} {r s : Named} {c d : C}
+    {fs gs : List (Label × Named)} where
   pub field_alike : (a ≡ b → r ≡ s) → AreFieldsAlike c d fs gs →
       AreFieldsAlike {C = A × C} (a, c) (b, d) ((name, r) ∷ fs) ((name, s) ∷ gs)
   field_alike first behind = record {
@@ -158,6 +159,6 @@ module _ {A C : Type 0} (name : List ℕ) {a b : A} {r s : Named} {c d : C}
         ap (λ ts. named_field name s ∷ ts) (behind.alike (ap (λ p. p.1) same));
   }
 
-pub fields_alike : {C : Type 0} {c d : C} {fs gs : List (List ℕ × Named)} →
+pub fields_alike : {C : Type 0} {c d : C} {fs gs : List (Label × Named)} →
     AreFieldsAlike c d fs gs → c ≡ d → fields_of fs ≡ fields_of gs
 fields_alike law same = ap fields_of (law.alike same)

@@ -19,3 +19,7 @@ pub mod FormsReadBackOptions
 pub mod FormedPairs
 pub mod FormsReadBackStructs
 pub mod FormsReadBackVariants
+pub mod Descriptions
+pub mod ItemDescriptions
+pub mod VariantDescriptions
+pub mod MapDescriptions

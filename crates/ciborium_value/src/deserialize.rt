@@ -8,7 +8,7 @@ ghost use Rattle.ciborium_value.specs.View.{read_as};
 use crate::source::Source;
 use std::alloc::Global;
 
-mod maps;
+pub(crate) mod maps;
 mod numbers;
 mod scalars;
 mod sequences;

@@ -11,7 +11,7 @@ ghost use Rattle.ciborium_value.specs.TreeAnswers.{IsErrorOf, tree_fault, value_
 use crate::deserialize::Deserialize;
 use crate::error::Error;
 use crate::kind::Kind;
-use crate::names::Names;
+use crate::labels::{LabelKind, Labels};
 use crate::source::Source;
 use crate::tree::Value;
 use ciborium_ll::Integer;
@@ -23,8 +23,8 @@ mod parts;
 
 use folding::fold_value;
 use parts::{
-    copy_bytes, copy_name, copy_text, find_boolean, find_character, find_lone_pair, find_name,
-    find_null, find_number, skip_tags,
+    copy_bytes, copy_name, copy_text, find_boolean, find_character, find_label_kind,
+    find_lone_pair, find_name, find_null, find_number, skip_tags,
 };
 
 impl Value {
@@ -134,6 +134,8 @@ impl<'a> Source for TreeSource<'a> {
 
     ghost cause = { λ _ e. tree_fault e };
 
+    ghost offset_ahead = { λ _. None };
+
     fn integer(&mut self) -> Result<(bool, u128), Error> {
         match self.take() {
             Pending::Whole(value) => find_number(value),
@@ -185,10 +187,18 @@ impl<'a> Source for TreeSource<'a> {
         }
     }
 
-    fn place<N: Names>(&mut self, _alloc: Global, names: &N) -> Result<N::Place, Error> {
+    fn place<N: Labels>(&mut self, _alloc: Global, names: &N) -> Result<N::Place, Error> {
         match self.take() {
-            Pending::Whole(value) => Ok(names.find(find_name(value)?)),
+            Pending::Whole(value) => Ok(names.find_name(find_name(value)?)),
             _ => Err(Error::Custom(Kind::Name)),
+        }
+    }
+
+    fn label_ahead(&mut self) -> Result<LabelKind, Error> {
+        match self.ahead {
+            Pending::Whole(value) => Ok(find_label_kind(value)),
+            Pending::Byte(_) => Ok(LabelKind::Number),
+            _ => Ok(LabelKind::Other),
         }
     }
 
@@ -328,6 +338,14 @@ impl<'a> Source for TreeSource<'a> {
     }
 
     fn refuse(&self, kind: Kind) -> Error {
+        Error::Custom(kind)
+    }
+
+    fn offset(&self) -> Option<usize> {
+        None
+    }
+
+    fn refuse_at(&self, _offset: Option<usize>, kind: Kind) -> Error {
         Error::Custom(kind)
     }
 

@@ -1,23 +1,30 @@
-//! A struct as a map by names, for implementations of `Serialize`.
+//! A struct as a map by labels, for implementations of `Serialize`.
 
-ghost use Rattle.std.specs.Prelude.{ℕ, ◌+◌, ◌∷◌, ◌⊎◌, [], Ok, false};
-ghost use Rattle.ciborium_ll.specs.Item as item;
+ghost use Rattle.std.specs.Prelude.{ℕ, ◌+◌, ◌∷◌, ◌⊎◌, IfErr, OnErr, OnOk, []};
+ghost use Rattle.ciborium_value.specs.Labels.{number_or, parts_or};
 ghost use Rattle.ciborium_value.specs.Places.{dictionary};
+ghost use Rattle.ciborium_value.specs.Progress.{BreaksAll, CanTake, IsOwedAmong, TakesAll};
 ghost use Rattle.ciborium_value.specs.Progress.{counted_of};
+ghost use Rattle.ciborium_value.specs.Sinks.{IsGranted};
 
+use crate::labels::Label;
 use crate::parts::{OfMap, Parts, serialize_parts};
 use crate::serialize::Serialize;
 use crate::sink::Sink;
 
-/// A field by its name, and the fields after it. It is written as a definite map of them all, in
-/// this order:
+/// A field by its label, a text or a number, and the fields after it. It is written as a definite
+/// map of them all, in this order:
 ///
 ///     Field("version", &self.version, Field("body", &self.body, NoField)).serialize(sink)
 ///
 /// More fields than a `usize` counts, which is unreachable in practice, are refused as
 /// `Kind::Other`.
 #[derive(Clone, Copy, Debug, Drop)]
-pub struct Field<'a, V, R>(pub &'a str, pub &'a V, pub R);
+pub struct Field<'a, L, V, R>(pub L, pub &'a V, pub R);
+
+/// A field that may be left out, and the fields after it: where it is `None` it is not written.
+#[derive(Clone, Copy, Debug, Drop)]
+pub struct MaybeField<'a, L, V, R>(pub L, pub &'a Option<V>, pub R);
 
 /// The end of the fields.
 #[derive(Clone, Copy, Debug, Drop)]
@@ -39,8 +46,31 @@ impl Parts<OfMap> for NoField {
     }
 }
 
-impl<V: Serialize, R: Parts<OfMap>> Parts<OfMap> for Field<'_, V, R> {
-    ghost parts = { λ f. Ok (item.text false f.0.now) ∷ V.written f.1.now ∷ R.parts f.2 };
+// Writes a field, and the fields behind it.
+fn write_field<L: Label, V: Serialize, R: Parts<OfMap>, S: Sink>(
+    label: &L,
+    value: &V,
+    behind: &R,
+    sink: &mut S,
+) -> Result<(), S::Error>
+    requires { CanTake dictionary S.stands_at sink.old
+        (L.written label.now ∷ V.written value.now ∷ R.parts behind.now) }
+    ensures ok { OnOk result (TakesAll dictionary S.stands_at sink.old sink.new
+        (L.written label.now ∷ V.written value.now ∷ R.parts behind.now)) }
+    ensures cause { IfErr result (λ e. IsOwedAmong (S.cause e)
+        (L.written label.now ∷ V.written value.now ∷ R.parts behind.now)) }
+    ensures memory { IfErr result
+        (λ e. IsGranted (S.cause e) (S.takes_memory ⊎ (V.takes_memory ⊎ R.takes_memory))) }
+    ensures err { OnErr result (BreaksAll dictionary S.stands_at S.out sink.old sink.new
+        (L.written label.now ∷ V.written value.now ∷ R.parts behind.now)) }
+{
+    label.serialize(sink)?;
+    value.serialize(sink)?;
+    behind.write_parts(sink)
+}
+
+impl<L: Label, V: Serialize, R: Parts<OfMap>> Parts<OfMap> for Field<'_, L, V, R> {
+    ghost parts = { λ f. L.written f.0 ∷ V.written f.1.now ∷ R.parts f.2 };
 
     ghost number = { λ f. R.number f.2 + 1 };
 
@@ -51,15 +81,48 @@ impl<V: Serialize, R: Parts<OfMap>> Parts<OfMap> for Field<'_, V, R> {
     }
 
     fn write_parts<S: Sink>(&self, sink: &mut S) -> Result<(), S::Error> {
-        self.0.serialize(sink)?;
-        self.1.serialize(sink)?;
-        self.2.write_parts(sink)
+        write_field(&self.0, self.1, &self.2, sink)
     }
 }
 
-impl<V: Serialize, R: Parts<OfMap>> Serialize for Field<'_, V, R> {
+impl<L: Label, V: Serialize, R: Parts<OfMap>> Serialize for Field<'_, L, V, R> {
     ghost written = { λ f. counted_of dictionary (R.number f.2 + 1)
-        (Ok (item.text false f.0.now) ∷ V.written f.1.now ∷ R.parts f.2) };
+        (L.written f.0 ∷ V.written f.1.now ∷ R.parts f.2) };
+
+    ghost takes_memory = { V.takes_memory ⊎ R.takes_memory };
+
+    fn serialize<S: Sink>(&self, sink: &mut S) -> Result<(), S::Error> {
+        serialize_parts(self, sink)
+    }
+}
+
+impl<L: Label, V: Serialize, R: Parts<OfMap>> Parts<OfMap> for MaybeField<'_, L, V, R> {
+    ghost parts = { λ f. parts_or f.1.now (λ v. L.written f.0 ∷ V.written v ∷ R.parts f.2)
+        (R.parts f.2) };
+
+    ghost number = { λ f. number_or f.1.now (R.number f.2 + 1) (R.number f.2) };
+
+    ghost takes_memory = { V.takes_memory ⊎ R.takes_memory };
+
+    fn count(&self) -> Option<usize> {
+        match self.1 {
+            Some(_) => self.2.count()?.checked_add(1),
+            None => self.2.count(),
+        }
+    }
+
+    fn write_parts<S: Sink>(&self, sink: &mut S) -> Result<(), S::Error> {
+        match self.1 {
+            Some(value) => write_field(&self.0, value, &self.2, sink),
+            None => self.2.write_parts(sink),
+        }
+    }
+}
+
+impl<L: Label, V: Serialize, R: Parts<OfMap>> Serialize for MaybeField<'_, L, V, R> {
+    ghost written = { λ f. counted_of dictionary
+        (number_or f.1.now (R.number f.2 + 1) (R.number f.2))
+        (parts_or f.1.now (λ v. L.written f.0 ∷ V.written v ∷ R.parts f.2) (R.parts f.2)) };
 
     ghost takes_memory = { V.takes_memory ⊎ R.takes_memory };
 

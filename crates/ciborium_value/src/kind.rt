@@ -55,8 +55,10 @@ pub enum Kind {
     NotFolded,
     /// A key does not follow the key before it in the order of keys where reading is deterministic.
     KeyOrder,
-    /// Two keys of a map are equal where its pairs are sorted.
+    /// Two keys of a map are equal where its pairs are sorted, or where none may occur twice.
     DuplicateKey,
+    /// A name is that of no field where no other is accepted.
+    UnknownField,
     /// Bytes follow the item where all of them have to be one.
     TrailingData,
     /// The bytes are not the deterministic encoding of the value that they give, where they have to
@@ -93,6 +95,7 @@ impl Kind {
             Kind::NotFolded => "a bignum that fits in 64 bits, or has leading zeros",
             Kind::KeyOrder => "a key out of order",
             Kind::DuplicateKey => "two equal keys in one map",
+            Kind::UnknownField => "an unknown field",
             Kind::TrailingData => "bytes behind the item",
             Kind::NotDeterministic => "another encoding than the deterministic one of the value",
         }

@@ -5,6 +5,7 @@ pub mod bignum;
 mod byte_buf;
 pub mod canonical;
 mod clone;
+mod described;
 mod deserialize;
 mod deserialized;
 mod deterministic;
@@ -13,7 +14,7 @@ mod fields;
 mod items;
 mod key_order;
 mod kind;
-mod names;
+mod labels;
 mod notation;
 mod parts;
 mod reads_back;
@@ -24,16 +25,18 @@ mod source;
 pub mod stack;
 mod tree;
 pub mod tree_laws;
+mod unique_keys;
 mod wanted;
 
 pub use byte_buf::ByteBuf;
 pub use ciborium_ll::{Integer, OutOfRange};
+pub use described::{AsDescribed, Described, DescribedKey};
 pub use deserialize::{Deserialize, Key};
-pub use fields::{Field, NoField};
+pub use fields::{Field, MaybeField, NoField};
 pub use items::{Array, Item, NoItem, WantedItems};
 pub use key_order::KeyOrder;
 pub use kind::Kind;
-pub use names::Names;
+pub use labels::{Label, LabelKind, Labels, SoughtLabel};
 pub use parts::{Container, OfArray, OfMap, Parts, serialize_parts};
 pub use reads_back::{
     Avoidable, ByteString, FormReadsBack, NeverWrites, Null, ReadsBack, WritesContent,
@@ -42,4 +45,8 @@ pub use serialize::{Serialize, serialize_tagged};
 pub use sink::Sink;
 pub use source::Source;
 pub use tree::Value;
-pub use wanted::{FieldPlace, Wanted, WantedFields, read_fields, required};
+pub use unique_keys::UniqueKeys;
+pub use wanted::{
+    FieldPlace, FieldsEnd, NoFieldTwice, NoOtherField, Wanted, WantedFields, found_or, read_fields,
+    required,
+};

@@ -48,7 +48,7 @@ impl Container for OfMap {
 }
 
 /// The parts of a container in a row: of an array an `Item` or `NoItem`, of a map a `Field`, a
-/// `Pair` or `NoField`.
+/// `MaybeField` or `NoField`.
 pub trait Parts<C: Container> {
     // What the parts name, in turn.
     ghost parts: { Self → List Named };

@@ -10,6 +10,7 @@ use crate::deserialize::Deserialize;
 use crate::serialize::Serialize;
 
 mod contents;
+mod described;
 mod form_numbers;
 mod forms;
 mod maps;

@@ -1,7 +1,7 @@
 //! What values are read from.
 
 ghost use Rattle.std.specs.Prelude.{◌≡◌, ◌+◌, ◌<◌, ◌≤◌, IfErr, IfOk, List, MatchBool, OnErr};
-ghost use Rattle.std.specs.Prelude.{OnOk, Result, false, string_bytes, ℕ};
+ghost use Rattle.std.specs.Prelude.{OnOk, Option, Result, false, string_bytes, ℕ};
 ghost use Rattle.ciborium_value.specs.Ahead.{Ahead, Rest};
 ghost use Rattle.ciborium_value.specs.Nesting.{Limit};
 ghost use Rattle.ciborium_value.specs.Places.{Shape, dictionary, sequence};
@@ -13,12 +13,14 @@ ghost use Rattle.ciborium_value.specs.Sources.{TakesOnly, TakesTo, Tells, of_kin
 ghost use Rattle.ciborium_value.specs.View.{read_as, tree_of};
 ghost use Rattle.ciborium_value.specs.Taken.{taken_boolean, taken_bytes, taken_character};
 ghost use Rattle.ciborium_value.specs.Taken.{taken_integer, taken_name, taken_outer_tag};
-ghost use Rattle.ciborium_value.specs.Taken.{taken_pairs, taken_place, taken_seq, taken_text};
+ghost use Rattle.ciborium_value.specs.Labels.{label_kind, placed};
+ghost use Rattle.ciborium_value.specs.declared.labels.LabelKind.TheVariants.{Name};
+ghost use Rattle.ciborium_value.specs.Taken.{is_null, taken_pairs, taken_seq, taken_text};
 ghost use Rattle.ciborium_value.specs.Taken.{taken_unit, taken_value, taken_variant};
 ghost use Rattle.ciborium_value.specs.Tree.{Tree};
 
 use crate::kind::Kind;
-use crate::names::Names;
+use crate::labels::{LabelKind, Labels};
 use crate::tree::Value;
 use std::alloc::Global;
 
@@ -70,6 +72,9 @@ pub trait Source {
     // Why it refused, in the state that the refused call left.
     ghost cause: { Self → Self.Error → Fault };
 
+    // The offset of what it stands before.
+    ghost offset_ahead: { Self → Option ℕ };
+
     /// A number: whether it is negative, and the n of the number n or -1 - n. Skips tags other than
     /// 2 and 3. Takes an integer, or tag 2 or 3 over a byte string, of definite or indefinite
     /// length, that has at most 16 bytes after its leading zeros (sections 3.1 and 3.4.3). A longer
@@ -119,13 +124,24 @@ pub trait Source {
     /// The place among these names of a name, which is read as `name` reads it. Memory is taken
     /// only for a name that the source does not hold in one piece: any other is looked up where it
     /// stands. Skips tags; another item is refused as `Name`.
-    fn place<N: Names>(&mut self, alloc: Global, names: &N) -> Result<N::Place, Self::Error>
+    fn place<N: Labels>(&mut self, alloc: Global, names: &N) -> Result<N::Place, Self::Error>
         ensures takes { TakesOneItem stands_before is_unread has_taken left cause self.old self.new
-            (taken_place (N.place_of names.now)) (λ v. v) result };
+            (placed (N.place_of names.now) Name) (λ v. v) result };
+
+    /// How the item ahead is read as a label. It is not taken.
+    fn label_ahead(&mut self) -> Result<LabelKind, Self::Error>
+        ensures ok { IfOk result (λ k. Tells stands_before label_kind self.old self.new k) }
+        ensures refused { IfErr result
+            (λ e. RefusesToTell stands_before self.old (cause self.new e)) }
+        ensures memory { IfErr result (λ e. IsGrantedFault (cause self.new e) false) }
+        ensures took { OnOk result (TakesNothing is_unread self.old self.new) }
+        ensures only { TakesOnly has_taken self.old self.new }
+        ensures less { OnOk result (left self.new ≤ left self.old) }
+        ensures no_more { OnErr result (left self.new ≤ left self.old) };
 
     /// Whether the item ahead is null or undefined, without a tag. It is not taken.
     fn null_ahead(&mut self) -> Result<bool, Self::Error>
-        ensures ok { IfOk result (λ b. Tells stands_before self.old self.new b) }
+        ensures ok { IfOk result (λ b. Tells stands_before is_null self.old self.new b) }
         ensures refused { IfErr result
             (λ e. RefusesToTell stands_before self.old (cause self.new e)) }
         ensures memory { IfErr result (λ e. IsGrantedFault (cause self.new e) false) }
@@ -224,6 +240,15 @@ pub trait Source {
 
     /// The error with which an implementation of `Deserialize` refuses an item.
     fn refuse(&self, kind: Kind) -> Self::Error
+        ensures { cause self.now result ≡ of_kind kind };
+
+    /// The offset at which the item ahead begins, its tags included, counted from the first byte
+    /// that was read; nothing where the source has no bytes.
+    fn offset(&self) -> Option<usize>
+        ensures { result ≡ offset_ahead self.now };
+
+    /// The same as `refuse`, of the item at an offset that was told before it was read.
+    fn refuse_at(&self, offset: Option<usize>, kind: Kind) -> Self::Error
         ensures { cause self.now result ≡ of_kind kind };
 
     /// The error of an implementation of `Deserialize` in which an allocation failed.

@@ -170,6 +170,7 @@ whole-faults left (errors.Semantic (Some q) k) l p end b s z i sp f fits h = by 
     by kinds.Length h = absurd h
     by kinds.Other h = absurd h
     by kinds.DuplicateKey h = absurd h
+    by kinds.UnknownField h = absurd h
     by kinds.TrailingData h = absurd h
     by kinds.NotDeterministic h = absurd h
 whole-faults left errors.RecursionLimitExceeded l p end b s z i sp f fits h = value-faults h i s z end sp f fits

@@ -4,7 +4,6 @@ use Rattle.std.proofs.Common.{◌∙◌, subst, append-nil, arith, ◌⊎◌, in
 use Rattle.std.specs.declared.io.Error.{Error as IoError}
 use Rattle.ciborium_ll.specs.Bytes.{greatest_offset}
 use Rattle.ciborium_ll.specs.Spells.{Spells}
-use Rattle.ciborium_ll.proofs.UniqueSpelling.{one_item}
 use Rattle.ciborium_value.specs.Encoding.{encoding, item_of}
 use Rattle.ciborium_value.specs.FormsReadBack.{IsReadFromForm}
 use Rattle.ciborium_value.specs.Readings.{Reading}
@@ -18,11 +17,11 @@ use Rattle.ciborium_value.proofs.Sources.Limits.{same-within}
 use Rattle.ciborium_value.proofs.Writing.ReadBack.{written_spells_item}
 use Rattle.ciborium.specs.DeterministicWrites.{named_form}
 use Rattle.ciborium.specs.Errors.{fault_of}
-use Rattle.ciborium.specs.LoadedAnswers.{AreFormOf, LoadsAll, RefusesOther}
+use Rattle.ciborium.specs.LoadedAnswers.{AreFormOf, RefusesOther}
 use Rattle.ciborium.specs.SliceAnswers.{ReadsAll}
 use Rattle.ciborium.specs.declared.de.error.Error.{Error}
 use Rattle.ciborium.specs.declared.de.error.Error.TheVariants as errors
-use Rattle.ciborium.specs.laws.Loaded.{IsSavedContent, IsSavedLoaded, OneEncoding, SavedIsLoaded}
+use Rattle.ciborium.specs.laws.Loaded.{IsSavedLoaded, NestsDeeper, OneEncoding, SavedIsLoaded}
 use Rattle.ciborium.proofs.ReadBack.FormRoundTrips.{from-form, one-form, read-content}
 
 one-encoded : (o : KeyOrder) (b c : List ℕ) (n m : Named) → n ≡ m → AreFormOf o b n → AreFormOf o c m → b ≡ c
@@ -34,12 +33,8 @@ pub one_encoding : {T C : Type 0} (written : T → Named) (reading : Reading T C
 one_encoding written reading law o l m b c v w first second same =
     one-encoded o b c (written v) (written w) (law v w same) first.ok.1 second.ok.1
 
--- the refusals that are left
-abbrev IsLimit : Error IoError → Type 0
-IsLimit e = (e ≡ errors.Memory) ⊎ (e ≡ errors.RecursionLimitExceeded)
-
 nested : {A : Type 0} (end : ℕ) (e : Error IoError) (o : Outcome A) → o ≡ nests → end ≤ greatest_offset →
-    IsFaultOf end (fault_of (Some []) e) o → IsLimit e
+    IsFaultOf end (fault_of (Some []) e) o → (e ≡ errors.Memory) ⊎ (e ≡ errors.RecursionLimitExceeded)
 nested end (errors.Io x) o is fits h = absurd h
 nested end (errors.Syntax p) o is fits h = absurd h
 nested end (errors.Semantic p k) o is fits h = let never = sym is ∙ h in absurd cc
@@ -49,11 +44,11 @@ nested end errors.TooLong o is fits h = let never : ⊥ = omega (arith, fits, h)
 
 -- no other encoding is due
 no-other : (o : KeyOrder) (l : ℕ) (b : List ℕ) (named : Named) (t : Tree) (e : Error IoError) →
-    named_form o named ≡ gives t → b ≡ encoding t → RefusesOther o l b named e → IsLimit e
+    named_form o named ≡ gives t → b ≡ encoding t → RefusesOther o l b named e → e ≡ errors.Memory
 no-other o l b named t e form same (RefusesOther.no_form kind f) = let never = sym form ∙ f in absurd cc
 no-other o l b named t e form same (RefusesOther.other u k f d r) =
     absurd (d.1 (ap (take (suc k)) (same ∙ ap encoding (one-form (named_form o named) t u form f))))
-no-other o l b named t e form same RefusesOther.no_memory = inl refl
+no-other o l b named t e form same RefusesOther.no_memory = refl
 
 module _ {T C : Type 0} (IsHeld : T → Type 0) (written : T → Named) (reading : Reading T C)
     (law : (o : KeyOrder) → IsReadFromForm o IsHeld written reading.taken reading.content) where
@@ -71,6 +66,11 @@ module _ {T C : Type 0} (IsHeld : T → Type 0) (written : T → Named) (reading
         read-content written reading t l bytes (Some []) (reading.content w) (reading.content v) fits same given
         (i, bytes, [], sp, sym (append-nil bytes), give, refl)
 
+    -- the refusals that are left
+    abbrev IsLimit : Error IoError → Type 0
+    IsLimit e = (e ≡ errors.Memory) ⊎
+        ((e ≡ errors.RecursionLimitExceeded) × NestsDeeper reading (named_form o (written v)) l)
+
     refused-read : (e : Error IoError) → length bytes ≤ greatest_offset → ReadsAll l reading bytes (Err e) → IsLimit e
     refused-read e room reads = by (same-within (reading.taken (item_of t)) l)
       where
@@ -79,9 +79,15 @@ module _ {T C : Type 0} (IsHeld : T → Type 0) (written : T → Named) (reading
         memory (inl f) = absurd cc
         memory (inr f) = inl (cc)
 
+        deeper : outcome (Some l) (reading.taken (item_of t)) ≡ nests →
+            (e ≡ errors.Memory) ⊎ (e ≡ errors.RecursionLimitExceeded) → IsLimit e
+        deeper is (inl h) = inl h
+        deeper is (inr h) = inr (h, (t, form, is))
+
         first : {X Y : Type 0} → IsFaultOf (length bytes) (fault_of (Some []) e)
-            (outcome (Some l) (reading.taken (item_of t))) ⊎ (◌≢◌ {A = List ℕ} [] [] × X × Y) → outcome (Some l) (reading.taken (item_of t)) ≡ nests → IsLimit e
-        first (inl h) is = nested (length bytes) e _ is room h
+            (outcome (Some l) (reading.taken (item_of t))) ⊎ (◌≢◌ {A = List ℕ} [] [] × X × Y) →
+            outcome (Some l) (reading.taken (item_of t)) ≡ nests → IsLimit e
+        first (inl h) is = deeper is (nested (length bytes) e _ is room h)
         first (inr h) is = absurd (h.0 refl)
 
         by : (outcome (Some l) (reading.taken (item_of t)) ≡ nests) ⊎
@@ -113,8 +119,9 @@ module _ {T C : Type 0} (IsHeld : T → Type 0) (written : T → Named) (reading
       right = subst (λ w. IsWritten (item_of w)) one fits
 
       by : ReadsAll l reading bytes (Err e) ⊎
-          ((w : T) × ReadsAll {E = IoError} l reading bytes (Ok w) × RefusesOther o l bytes (written w) e) → IsLimit e
+          ((w : T) × ReadsAll {E = IoError} l reading bytes (Ok w) × RefusesOther o l bytes (written w) e) →
+          IsLimit o l v t bytes held form right is e
       by (inl reads) = refused-read o l v t bytes held form right is e room reads
       by (inr (w, reads, refusal)) =
           let content = content-read o l v t bytes held form right is w reads in
-          no-other o l bytes (written w) t e (ap (named_form o) (alike w v content) ∙ form) is refusal
+          inl (no-other o l bytes (written w) t e (ap (named_form o) (alike w v content) ∙ form) is refusal)

@@ -1,7 +1,7 @@
 -- Where a source over bytes stands.
 use Rattle.std.specs.Prelude.{◌<◌, ◌≡◌, ℕ, ◌+◌, ◌*◌, ◌-◌, ◌≤◌, List, ◌++◌, length, map, Option}
 use Rattle.std.specs.Prelude.{Some, None, Bool, true, false, IfErr, IfOk, MatchResult, OnErr, OnOk}
-use Rattle.std.specs.Prelude.{Result}
+use Rattle.std.specs.Prelude.{Result, if◌then◌else◌}
 use Rattle.std.specs.Borrow.{GName}
 use Rattle.std.specs.Vec.Iter.{into_iter_items}
 use Rattle.ciborium_ll.specs.declared.header.Header.{Header}
@@ -10,6 +10,7 @@ use Rattle.ciborium_ll.specs.declared.decoder.Decoder.{Decoder}
 use Rattle.ciborium_ll.specs.Bytes.{greatest_offset}
 use Rattle.ciborium_ll.specs.Accesses.{left_at_failure}
 use Rattle.ciborium_ll.specs.Decoding.{HasSameReader, IsAheadBy, Takes, TakesBeforeAny, left_of}
+use Rattle.ciborium_ll.specs.Decoding.{offset_of}
 use Rattle.ciborium_ll.specs.Header.{SpellsHeader}
 use Rattle.ciborium_ll.specs.Item.{Item, unsigned}
 use Rattle.ciborium_ll.specs.Refusal.{IsUsable}
@@ -17,11 +18,14 @@ use Rattle.ciborium_ll.specs.Spells.{Spells}
 use Rattle.ciborium_value.specs.Ahead.{Ahead, Rest, Form, bottom, parts, pairs, entry, held, item}
 use Rattle.ciborium_value.specs.Ahead.{after, of_bytes, past, inside, end_of}
 use Rattle.ciborium_value.specs.Meaning.{meaning}
+use Rattle.ciborium_value.specs.Meaning.{is_bignum_tag}
 use Rattle.ciborium_value.specs.Nesting.{Limit, nesting}
 use Rattle.ciborium_value.specs.Places.{Shape, sequence, dictionary}
 use Rattle.ciborium_value.specs.Sources.{Fault, HasItem, IsFaultOf, IsGrantedFault, TakesOnly}
 use Rattle.ciborium_value.specs.Taken.{Steps, Taken, gives, is_null_simple, outcome}
 use Rattle.ciborium_value.specs.Tree.{Tree}
+use Rattle.ciborium_value.specs.declared.labels.LabelKind.{LabelKind}
+use Rattle.ciborium_value.specs.declared.labels.LabelKind.TheVariants.{Name, Number, Other}
 use Rattle.ciborium.specs.declared.de.error.Error.{Error}
 use Rattle.ciborium.specs.declared.de.byte_source.ByteSource.{ByteSource}
 use Rattle.ciborium.specs.declared.de.byte_source.ByteLevel.{ByteLevel}
@@ -50,6 +54,15 @@ abbrev pub tells_null : Header → Bool
 tells_null (header.Simple n) = is_null_simple n
 tells_null _ = false
 
+-- how the item that a head begins is read as a label
+abbrev pub head_label_kind : Header → LabelKind
+head_label_kind (header.Positive n) = Number
+head_label_kind (header.Negative n) = Number
+head_label_kind (header.Bytes n) = Name
+head_label_kind (header.Text n) = Name
+head_label_kind (header.Tag t) = if is_bignum_tag t then Number else Name
+head_label_kind _ = Other
+
 -- the head with this spelling, at the front of b, was pulled: it is usable, and its bytes are
 -- counted
 abbrev pub IsHeadCounted : {S W : Type 0} → Decoder S W → Header × ℕ → List ℕ → List ℕ → Type 0
@@ -65,6 +78,14 @@ IsUnreadBy remaining d (Some h) b = (x : List ℕ) × (y : List ℕ) × SpellsHe
 
 abbrev pub IsUnread : {S W : Type 0} → (S → Option (List ℕ)) → ByteSource S W → List ℕ → Type 0
 IsUnread remaining s b = IsUnreadBy remaining s.decoder s.pending b
+
+abbrev pub offset_next : {S W : Type 0} → Decoder S W → Option (Header × ℕ) → ℕ
+offset_next d None = offset_of d
+offset_next d (Some h) = h.1
+
+-- where what comes next begins: a head that is pending, or what the decoder pulls
+abbrev pub offset_of_next : {S W : Type 0} → ByteSource S W → ℕ
+offset_of_next s = offset_next s.decoder s.pending
 
 -- the head that was taken from the front of what was unread is counted
 abbrev pub CountsHead : {S W : Type 0} → (ByteSource S W → List ℕ → Type 0) → ByteSource S W →

@@ -14,7 +14,7 @@ use Rattle.ciborium_value.specs.Places.{dictionary}
 use Rattle.ciborium_value.specs.Readings.{Reading}
 use Rattle.ciborium_value.specs.lemmas.ReadsBackMaps.{IsMapHeld}
 use Rattle.ciborium_value.specs.Sinks.{Named, container_of, in_turn, named_value}
-use Rattle.ciborium_value.specs.Taken.{Taken, gives, outcome}
+use Rattle.ciborium_value.specs.Taken.{Outcome, Taken, gives, nests, outcome}
 use Rattle.ciborium_value.specs.Tree as trees
 use Rattle.ciborium_value.specs.Tree.{Tree}
 use Rattle.ciborium_value.specs.TreeAnswers.{value_item}
@@ -86,10 +86,17 @@ OneEncoding {T} written reading =
     LoadsAll {E = IoError} o m reading written c (Ok w) → reading.content v ≡ reading.content w →
     b ≡ c
 
--- the content is loaded; or memory was refused, or so many levels are not enough
-abbrev pub IsSavedContent : {T C : Type 0} → Reading T C → C → Result T (Error IoError) → Type 0
-IsSavedContent reading c (Ok w) = reading.content w ≡ c
-IsSavedContent reading c (Err e) = (e ≡ Memory) ⊎ (e ≡ RecursionLimitExceeded)
+-- reading of a form takes more than l levels
+abbrev pub NestsDeeper : {T C : Type 0} → Reading T C → Outcome Tree → ℕ → Type 0
+NestsDeeper reading form l = (t : Tree) × (form ≡ gives t) ×
+    (outcome (Some l) (reading.taken (item_of t)) ≡ nests)
+
+-- the content is loaded; or memory was refused, or reading of the form takes more than l levels
+abbrev pub IsSavedContent : {T C : Type 0} → Reading T C → Outcome Tree → ℕ → C →
+    Result T (Error IoError) → Type 0
+IsSavedContent reading form l c (Ok w) = reading.content w ≡ c
+IsSavedContent reading form l c (Err e) = (e ≡ Memory) ⊎
+    ((e ≡ RecursionLimitExceeded) × NestsDeeper reading form l)
 
 -- where the deterministic form of a value was written into nothing, loading the bytes gives its
 -- content
@@ -99,7 +106,7 @@ SavedIsLoaded {T} IsHeld written reading =
     IsHeld v → WritesForm {E = IoError} (Some old) (Some new) (Ok tt) (named_form o (written v)) →
     IsFormWritten (named_form o (written v)) → length bytes ≤ greatest_offset →
     LoadsAll o l reading written bytes r → old ≡ [] → bytes ≡ new →
-    IsSavedContent reading (reading.content v) r
+    IsSavedContent reading (named_form o (written v)) l (reading.content v) r
 
 -- the same of what was loaded, as a caller has it after its calls
 abbrev pub IsSavedLoaded : {T C : Type 0} → (T → Type 0) → (T → Named) → Reading T C → KeyOrder →

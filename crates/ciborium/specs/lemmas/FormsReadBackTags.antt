@@ -2,7 +2,7 @@
 -- (RFC 8949, sections 3.4 and 3.4.3).
 use Rattle.std.proofs.Common.{ap, sym, subst, arith, ◌∙◌}
 use Rattle.std.proofs.lemmas.Bool.Decides.{nat_tests}
-use Rattle.std.specs.Prelude.{◌≡◌, ℕ, Bool, true, false, List, Option, Some, None, Ok, Err, IfOk}
+use Rattle.std.specs.Prelude.{◌≡◌, ℕ, Bool, true, false, List, Option, Some, None, Ok, Err, IfOk, IfSome}
 use Rattle.std.specs.Prelude.{if◌then◌else◌, refl}
 use Rattle.ciborium_ll.specs.Item.{Item}
 use Rattle.ciborium_value.specs.DeterministicForms.{deterministic_form, deterministic_forms}
@@ -47,19 +47,34 @@ either_none : (c : Bool) (m : Option (List ℕ)) → m ≡ None → (if c then m
 either_none true m h = h
 either_none false m h = refl
 
--- no tag folds over what is no byte string
-not_folding : (t : ℕ) (v : Tree) → short_bytes v ≡ None → tree_folding_bytes t v ≡ None
-not_folding t v h = either_none (is_bignum_tag t) (short_bytes v) h
+-- the tag folds nothing over the item that is named
+abbrev pub IsNeverFolded : Named → ℕ → Type 0
+IsNeverFolded r t = (i : Item) → r ≡ Ok i → tree_folding_bytes t (written_tree i) ≡ None
+
+-- no tag does over what is no byte string
+pub not_bytes : {r : Named} → IsNever byte_strings r → (t : ℕ) → IsNeverFolded r t
+not_bytes never t i e = either_none (is_bignum_tag t) (short_bytes (written_tree i))
+    (never by_bytes i e)
+
+-- and a tag but 2 and 3 over nothing
+pub no_bignum : (r : Named) (t : ℕ) → is_bignum_tag t ≡ false → IsNeverFolded r t
+no_bignum r t h i e = ap (λ c. if c then short_bytes (written_tree i) else None) h
+
+-- whatever the tag is, if there is one
+pub whatever_tag : {r : Named} → IsNever byte_strings r → (m : Option ℕ) →
+    IfSome m (IsNeverFolded r)
+whatever_tag never None = tt
+whatever_tag never (Some t) = not_bytes never t
 
 -- so the form of a tag over it is the tag over its form
-under_form : (o : KeyOrder) (t : ℕ) (v u : Tree) → short_bytes v ≡ None →
+under_form : (o : KeyOrder) (t : ℕ) (v u : Tree) → tree_folding_bytes t v ≡ None →
     deterministic_form o (trees.tag t v) ≡ gives u → (w : Tree) ×
     (deterministic_form o v ≡ gives w) × (trees.tag t w ≡ u)
 under_form o t v u h form = mapped_gives (trees.tag t) (deterministic_form o v) u
-    (sym (ap (λ b. tag_form t b (deterministic_form o v)) (not_folding t v h)) ∙ form)
+    (sym (ap (λ b. tag_form t b (deterministic_form o v)) h) ∙ form)
 
 read-tagged : {C : Type 0} (taken : Taken C) (c : C) (o : KeyOrder) (t : ℕ) (j : Item) →
-    short_bytes (written_tree j) ≡ None →
+    tree_folding_bytes t (written_tree j) ≡ None →
     ((u : Tree) → deterministic_form o (written_tree j) ≡ gives u →
     outcome None (taken (item_of u)) ≡ gives c) →
     (u : Tree) → deterministic_form o (trees.tag t (written_tree j)) ≡ gives u →
@@ -70,12 +85,12 @@ read-tagged taken c o t j none h u form =
     (ap (outcome_map (λ v. (Some t, v))) (h w is))
 
 module _ {C : Type 0} {taken : Taken C} {c : C} (o : KeyOrder) where
-  read-captured : (m : Option ℕ) (r : Named) → IsToldApart m r → IsNever byte_strings r →
+  read-captured : (m : Option ℕ) (r : Named) → IsToldApart m r → IfSome m (IsNeverFolded r) →
       IsFormRead o r taken c →
       IfOk (captured_of m r) (λ i. (u : Tree) → deterministic_form o (written_tree i) ≡ gives u →
       outcome None (taken_with_tag taken (item_of u)) ≡ gives (m, c))
   read-captured (Some t) (Ok j) told never h =
-      read-tagged taken c o t j (never by_bytes j refl) (h.back j refl)
+      read-tagged taken c o t j (never j refl) (h.back j refl)
   read-captured (Some t) (Err k) told never h = tt
   read-captured None (Ok i) told never h = λ u form.
       ap (λ p. outcome_map (λ v. (p.0, v)) (outcome None (taken p.1)))
@@ -83,7 +98,7 @@ module _ {C : Type 0} {taken : Taken C} {c : C} (o : KeyOrder) where
       ap (outcome_map (λ v. (None, v))) (h.back i refl u form)
   read-captured None (Err k) told never h = tt
 
-  pub captured-form : (m : Option ℕ) {r : Named} → IsToldApart m r → IsNever byte_strings r →
+  pub captured-form : (m : Option ℕ) {r : Named} → IsToldApart m r → IfSome m (IsNeverFolded r) →
       IsFormRead o r taken c → IsFormRead o (captured_of m r) (taken_with_tag taken) (m, c)
   captured-form m {r = r} told never h = record {
     back = of_ok (captured_of m r) (λ i. (u : Tree) →
@@ -92,7 +107,7 @@ module _ {C : Type 0} {taken : Taken C} {c : C} (o : KeyOrder) where
         (read-captured m r told never h);
   }
 
-  pub required-form : (t : ℕ) {r : Named} → IsNever byte_strings r → IsFormRead o r taken c →
+  pub required-form : (t : ℕ) {r : Named} → IsNeverFolded r t → IsFormRead o r taken c →
       IsFormRead o (tag_of t r) (taken_then (taken_with_tag taken) (if_tag (is_tag t))) c
   required-form t never h = record {
     back = λ i e u form. ap (λ p. then_take p (λ q. outcome None (if_tag (is_tag t) q)))
@@ -102,7 +117,7 @@ module _ {C : Type 0} {taken : Taken C} {c : C} (o : KeyOrder) where
       same : (t : ℕ) → outcome None (if_tag (is_tag t) (Some t, c)) ≡ gives c
       same t = grind (arith, nat_tests)
 
-  pub accepted-form : (t : ℕ) {r : Named} → IsNever byte_strings r → IsFormRead o r taken c →
+  pub accepted-form : (t : ℕ) {r : Named} → IsNeverFolded r t → IsFormRead o r taken c →
       IsFormRead o (tag_of t r) (taken_then (taken_with_tag taken) (if_tag (is_no_other_tag t))) c
   accepted-form t never h = record {
     back = λ i e u form. ap

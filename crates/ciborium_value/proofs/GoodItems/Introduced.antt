@@ -12,7 +12,7 @@ use Rattle.ciborium_ll.specs.Refusal.{NotShortest, HasHead, Open}
 use Rattle.ciborium_ll.specs.Spells.{AreChunks, joined, Spells}
 use Rattle.ciborium_ll.specs.StringRefusal.{StringKind, of_bytes, of_text, string_major, IsAllowed}
 use Rattle.ciborium_value.specs.Deterministic.{HasRisingKeys, AreRising}
-use Rattle.ciborium_value.specs.Encoding.{encoding, item_of, items_of, pairs_of}
+use Rattle.ciborium_value.specs.Encoding.{encoding, items_of, pairs_of}
 use Rattle.ciborium_value.specs.Meaning.{meaning, simple_meaning, bignum_meaning, tag_meaning, is_bignum_tag}
 use Rattle.ciborium_value.specs.Meaning.{folding_bytes}
 use Rattle.ciborium_value.specs.Nesting.{nesting, tag_nesting, Limit, IsWithin, IsOneLess}

@@ -1,25 +1,50 @@
--- What is read of a map by the names of fields, pair by pair, from any source.
+-- What is read of a map by the labels of fields, pair by pair, from any source.
 use Rattle.std.proofs.Common.{◌≡◌, ℕ, Bool, true, false, if◌then◌else◌, List, ◌∷◌, refl, sym, ◌∙◌, ap, subst}
 use Rattle.ciborium_ll.specs.Item.{Item}
 use Rattle.ciborium_value.specs.Ahead.{Ahead, Rest, Form, item, after, pairs, entry, inside, end_of}
 use Rattle.ciborium_value.specs.Nesting.{Limit}
 use Rattle.ciborium_value.specs.Sources.{Fault, IsFaultOf, TakesAhead, RefusesAhead, GoesOn, Leaves, RefusesNext}
 use Rattle.ciborium_value.specs.StructReadings.{FieldsTaken, take_fields, take_named}
-use Rattle.ciborium_value.specs.Taken.{Outcome, gives, nests, outcome, outcome_map, refuses, taken_name, taken_place}
-use Rattle.ciborium_value.specs.Taken.{then_read, then_take}
+use Rattle.ciborium_value.specs.Labels.{Label, label_kind, label_place, placed, taken_label}
+use Rattle.ciborium_value.specs.Taken.{Outcome, gives, nests, outcome, outcome_map, refuses, taken_integer, taken_name}
+use Rattle.ciborium_value.specs.Taken.{taken_value, then_read, then_take}
+use Rattle.ciborium_value.specs.declared.labels.LabelKind.{LabelKind}
+use Rattle.ciborium_value.specs.declared.labels.LabelKind.TheVariants as kind
 use Rattle.ciborium_value.specs.declared.wanted.FieldPlace.TheVariants.{First, Behind}
 use Rattle.ciborium_value.proofs.Sources.Sequences.{fault_then, fault_outside, Follows, so, IsBlamed, IsPast}
 
--- ---- a name by its place
+-- ---- a label by its place
 
--- what has a place is a name with this place
+map-twice : {A B C : Type 0} (f : A → B) (g : B → C) (o : Outcome A) →
+    outcome_map (λ a. g (f a)) o ≡ outcome_map g (outcome_map f o)
+map-twice f g (gives a) = refl
+map-twice f g (refuses k) = refl
+map-twice f g nests = refl
+
+then-map : {A B C : Type 0} (b : B) (g : B → C) (o : Outcome A) →
+    then_take o (λ a. gives (g b)) ≡ outcome_map g (then_take o (λ a. gives b))
+then-map b g (gives a) = refl
+then-map b g (refuses k) = refl
+then-map b g nests = refl
+
+-- the place of a key is that of its label
+label-placed : {P : Type 0} (place : Label → P) (l : Limit) (i : Item) →
+    outcome l (label_place place i) ≡ outcome_map place (outcome l (taken_label i))
+label-placed place l i = by (label_kind i)
+  where
+    by : (k : LabelKind) → outcome l (placed place k i) ≡ outcome_map place (outcome l (placed (λ x. x) k i))
+    by kind.Name = map-twice _ place (outcome l (taken_name i))
+    by kind.Number = map-twice _ place (outcome l (taken_integer i))
+    by kind.Other = then-map _ place (outcome l (taken_value i))
+
+-- what has a place is a label with this place
 name_at : {A P : Type 0} (place : A → P) {p : P} (o : Outcome A) → outcome_map place o ≡ gives p →
     (name : A) × (place name ≡ p) × (o ≡ gives name)
 name_at place (gives name) h = (name, cc, refl)
 name_at place (refuses k) h = absurd (cc)
 name_at place nests h = absurd (cc)
 
--- where the place of a name is to blame, what is made of the name is
+-- where the place of a label is to blame, what is made of the label is
 fault_place : {A P B : Type 0} (end : ℕ) (fault : Fault) (place : A → P) (o : Outcome A) (f : A → Outcome B) →
     IsFaultOf end fault (outcome_map place o) → IsFaultOf end fault (then_take o f)
 fault_place end fault place (gives name) f h = fault_then end fault (gives (place name)) (λ _. f name) h
@@ -68,32 +93,32 @@ module _ {S Q : Type 0} (StandsBefore : S → Limit → Ahead → Type 0) (SeqSt
         (w.4 ∙ ap (λ ps. outcome (inside w.0 l) (take_fields fields c ps)) n.0, n.1);
   }
 
-  module _ {P : Type 0} (place : List ℕ → P) where
-    -- the key was read as a name with this place, and its value is ahead
+  module _ {P : Type 0} (place : Label → P) where
+    -- the key was read as a label with this place, and its value is ahead
     abbrev IsAtField : S → Q → C → P → Limit → Rest → Outcome C → Type 0
     IsAtField now q c p l f o = (form : Form) × (v : Item) × (ps : List (Item × Item)) ×
         StandsBefore now (inside form l) (item v (pairs form ps f)) × SeqStands q l (pairs form ps f) ×
-        (name : List ℕ) × (place name ≡ p) ×
+        (name : Label) × (place name ≡ p) ×
         (o ≡ outcome (inside form l) (then_read (fields name c v) (λ d. take_fields fields d ps)))
 
-    name_blames : {old : S} {q : Q} (c : C) (fault : Fault) → RefusesAhead StandsBefore old (taken_place place) fault →
+    name_blames : {old : S} {q : Q} (c : C) (fault : Fault) → RefusesAhead StandsBefore old (label_place place) fault →
         Follows (IsAtName old q c) (IsBlamed fault)
     name_blames c fault h = record {
       at = λ l f o w.
           let m = inside w.0 l in
           subst (IsFaultOf (end_of f) fault) (sym w.6)
           (fault_then _ fault (outcome m (take_named fields c (w.1, w.2))) (λ d. outcome m (take_fields fields d w.3))
-          (fault_place _ fault place (outcome m (taken_name w.1)) (λ name. outcome m (fields name c w.2))
-          (h m w.1 (entry w.2 w.0 w.3 f) w.4)));
+          (fault_place _ fault place (outcome m (taken_label w.1)) (λ name. outcome m (fields name c w.2))
+          (subst (IsFaultOf (end_of f) fault) (label-placed place m w.1) (h m w.1 (entry w.2 w.0 w.3 f) w.4))));
     }
 
-    at_field : {old new : S} {q : Q} (c : C) {p : P} → TakesAhead StandsBefore old new (taken_place place) p →
+    at_field : {old new : S} {q : Q} (c : C) {p : P} → TakesAhead StandsBefore old new (label_place place) p →
         Follows (IsAtName old q c) (IsAtField new q c p)
     at_field c h = record {
       at = λ l f o w.
           let m = inside w.0 l in
           let n = h m w.1 (entry w.2 w.0 w.3 f) w.4 in
-          let named = name_at place (outcome m (taken_name w.1)) n.0 in (
+          let named = name_at place (outcome m (taken_label w.1)) (sym (label-placed place m w.1) ∙ n.0) in (
             w.0,
             w.2,
             w.3,
@@ -107,7 +132,7 @@ module _ {S Q : Type 0} (StandsBefore : S → Limit → Ahead → Type 0) (SeqSt
     }
 
     field_blames : {old : S} {q : Q} (c : C) {p : P} (fault : Fault) →
-        ((name : List ℕ) → place name ≡ p → RefusesAhead StandsBefore old (fields name c) fault) →
+        ((name : Label) → place name ≡ p → RefusesAhead StandsBefore old (fields name c) fault) →
         Follows (IsAtField old q c p) (IsBlamed fault)
     field_blames c fault h = record {
       at = λ l f o w.
@@ -118,7 +143,7 @@ module _ {S Q : Type 0} (StandsBefore : S → Limit → Ahead → Type 0) (SeqSt
     }
 
     behind_field : {old new : S} {q : Q} (c : C) {p : P} {d : C} →
-        ((name : List ℕ) → place name ≡ p → TakesAhead StandsBefore old new (fields name c) d) →
+        ((name : Label) → place name ≡ p → TakesAhead StandsBefore old new (fields name c) d) →
         Follows (IsAtField old q c p) (IsInsideFields new q d)
     behind_field c h = record {
       at = λ l f o w.
@@ -128,18 +153,18 @@ module _ {S Q : Type 0} (StandsBefore : S → Limit → Ahead → Type 0) (SeqSt
     }
 
     pub fields_more : {old ahead mid new : S} {q q' : Q} (c : C) {p : P} {d : C} →
-        GoesOn StandsBefore SeqStands old ahead q q' → TakesAhead StandsBefore ahead mid (taken_place place) p →
-        ((name : List ℕ) → place name ≡ p → TakesAhead StandsBefore mid new (fields name c) d) →
+        GoesOn StandsBefore SeqStands old ahead q q' → TakesAhead StandsBefore ahead mid (label_place place) p →
+        ((name : Label) → place name ≡ p → TakesAhead StandsBefore mid new (fields name c) d) →
         Follows (IsInsideFields old q c) (IsInsideFields new q' d)
     fields_more c h k v = so (at_name c h) (so (at_field c k) (behind_field c v))
 
     pub fields_blame_name : {old ahead : S} {q q' : Q} (c : C) (fault : Fault) →
-        GoesOn StandsBefore SeqStands old ahead q q' → RefusesAhead StandsBefore ahead (taken_place place) fault →
+        GoesOn StandsBefore SeqStands old ahead q q' → RefusesAhead StandsBefore ahead (label_place place) fault →
         Follows (IsInsideFields old q c) (IsBlamed fault)
     fields_blame_name c fault h k = so (at_name c h) (name_blames c fault k)
 
     pub fields_blame_field : {old ahead mid : S} {q q' : Q} (c : C) {p : P} (fault : Fault) →
-        GoesOn StandsBefore SeqStands old ahead q q' → TakesAhead StandsBefore ahead mid (taken_place place) p →
-        ((name : List ℕ) → place name ≡ p → RefusesAhead StandsBefore mid (fields name c) fault) →
+        GoesOn StandsBefore SeqStands old ahead q q' → TakesAhead StandsBefore ahead mid (label_place place) p →
+        ((name : Label) → place name ≡ p → RefusesAhead StandsBefore mid (fields name c) fault) →
         Follows (IsInsideFields old q c) (IsBlamed fault)
     fields_blame_field c fault h k v = so (at_name c h) (so (at_field c k) (field_blames c fault v))

@@ -4,11 +4,11 @@ use Rattle.std.proofs.Common.{ap, sym, subst, ◌∙◌}
 use Rattle.std.proofs.lemmas.List.Elements.{All-head, All-tail}
 use Rattle.std.specs.BTreeMap.{BTreeMap, insert_entry}
 use Rattle.std.specs.Cmp.{IsTotalOrder}
-use Rattle.std.specs.List.{All, AllByRecursion}
+use Rattle.std.specs.List.{All}
 use Rattle.std.specs.List.Sorted.{IsStrictlySortedBy}
 use Rattle.std.specs.Map.{keys_of}
 use Rattle.std.specs.Ordering.{match_ordering, ordering_reverse}
-use Rattle.std.specs.Prelude.{◌≡◌, false, List, [], ◌∷◌, None, Result, Ok, Err, IfOk, refl}
+use Rattle.std.specs.Prelude.{◌≡◌, Bool, false, List, [], ◌∷◌, None, Result, Ok, Err, IfOk, refl}
 use Rattle.std.specs.declared.cmp.Ordering.{Ordering}
 use Rattle.std.specs.declared.cmp.Ordering.TheVariants.{Less, Equal, Greater}
 use Rattle.ciborium_ll.specs.Item.{Item}
@@ -22,10 +22,12 @@ use Rattle.ciborium_value.specs.lemmas.GivenOutcomes.{and_take, mapped_gives, on
 use Rattle.ciborium_value.specs.lemmas.GivenOutcomes.{pair_gives, then_gives}
 use Rattle.ciborium_value.specs.Places.{dictionary, pairs_from}
 use Rattle.ciborium_value.specs.ReadsBack.{of_ok}
-use Rattle.ciborium_value.specs.lemmas.ReadsBackMaps.{IsMapHeld, put-contents}
+use Rattle.ciborium_value.specs.lemmas.ReadsBackMaps.{AreKeysApart, AreNew, IsApart, IsMapHeld}
+use Rattle.ciborium_value.specs.lemmas.ReadsBackMaps.{apart-turned, contents-apart, one-put}
+use Rattle.ciborium_value.specs.lemmas.ReadsBackMaps.{put-contents, put-new, sorted-apart}
 use Rattle.ciborium_value.specs.WrittenContents.{contents}
 use Rattle.ciborium_value.specs.Sinks.{Named, and_then, all_named, contained, container_of, in_turn}
-use Rattle.ciborium_value.specs.Taken.{Steps, Taken, gives, outcome, outcome_map, take_each}
+use Rattle.ciborium_value.specs.Taken.{Steps, Taken, gives, outcome, take_each}
 use Rattle.ciborium_value.specs.Taken.{then_take, unpack_pairs}
 use Rattle.ciborium_value.specs.TakenParts.{put_all, take_entry, taken_map}
 use Rattle.ciborium_value.specs.Tree as trees
@@ -46,19 +48,8 @@ module _ {K : Type 0} {cmp : K → K → Ordering} (total : IsTotalOrder cmp) wh
   equal_where_equal k l e = total.antisymm l k ∙ ap ordering_reverse e
 
 module _ {K V : Type 0} (cmp : K → K → Ordering) (total : IsTotalOrder cmp) where
-  -- neither key is equal to the other
-  abbrev IsApart : K × V → K × V → Type 0
-  IsApart d e = cmp d.0 e.0 ≡ Equal → ⊥
-
-  abbrev AreKeysApart : List (K × V) → Type 0
-  AreKeysApart [] = Unit {0}
-  AreKeysApart (e ∷ es) = AllByRecursion (IsApart e) es × AreKeysApart es
-
   abbrev put_entry : List (K × V) → K × V → List (K × V)
   put_entry es e = insert_entry cmp es e.0 e.1
-
-  apart-turned : (d e : K × V) → IsApart d e → IsApart e d
-  apart-turned d e h same = h (equal_where_equal total e.0 d.0 same)
 
   -- by how the key compares with that of the first entry
   put-Less : (p : K × V) (es : List (K × V)) (e : K × V) → cmp e.0 p.0 ≡ Less →
@@ -94,7 +85,7 @@ module _ {K V : Type 0} (cmp : K → K → Ordering) (total : IsTotalOrder cmp) 
   Commutes d e es = put_entry (put_entry es e) d ≡ put_entry (put_entry es d) e
 
   module _ (d e p : K × V) (es : List (K × V)) where
-    less_less : IsApart d e → cmp d.0 p.0 ≡ Less → cmp e.0 p.0 ≡ Less → Commutes d e (p ∷ es)
+    less_less : IsApart cmp d e → cmp d.0 p.0 ≡ Less → cmp e.0 p.0 ≡ Less → Commutes d e (p ∷ es)
     less_less apart h j =
         ap (λ xs. put_entry xs d) (put-Less p es e j)
         ∙ ap (match_ordering (cmp d.0 e.0) ((d.0, d.1) ∷ (e.0, e.1) ∷ p ∷ es) ((e.0, d.1) ∷ p ∷ es))
@@ -135,7 +126,7 @@ module _ {K V : Type 0} (cmp : K → K → Ordering) (total : IsTotalOrder cmp) 
         ∙ sym (ap (λ xs. put_entry xs e) (put-Greater p es d h) ∙
         put-Greater p (put_entry es d) e j)
 
-  commutes : (d e : K × V) (es : List (K × V)) → IsApart d e → Commutes d e es
+  commutes : (d e : K × V) (es : List (K × V)) → IsApart cmp d e → Commutes d e es
   commutes d e [] apart = front (cmp d.0 e.0) (cmp e.0 d.0) d e [] (total.antisymm d.0 e.0) apart
   commutes d e (p ∷ es) apart = by (commutes d e es apart) (cmp d.0 p.0) (cmp e.0 p.0) refl refl
     where
@@ -152,62 +143,30 @@ module _ {K V : Type 0} (cmp : K → K → Ordering) (total : IsTotalOrder cmp) 
       by same Greater Equal h j = sym (equal_greater e d p es j h)
       by same Greater Greater h j = greater_greater d e p es h j same
 
-  apart-reordered : {ds es : List (K × V)} → AreReordered ds es → AreKeysApart ds → AreKeysApart es
+  apart-reordered : {ds es : List (K × V)} → AreReordered ds es → AreKeysApart cmp ds →
+      AreKeysApart cmp es
   apart-reordered as_they_are h = h
-  apart-reordered (first_stays {x} r) h = (all-reordered (IsApart x) r h.0, apart-reordered r h.1)
-  apart-reordered (neighbours {x} {y}) h = ((apart-turned x y h.0.0, h.1.0), (h.0.1, h.1.1))
+  apart-reordered (first_stays {x} r) h = (all-reordered (IsApart cmp x) r h.0, apart-reordered r h.1)
+  apart-reordered (neighbours {x} {y}) h = ((apart-turned cmp total x y h.0.0, h.1.0), (h.0.1, h.1.1))
   apart-reordered (then_again r s) h = apart-reordered s (apart-reordered r h)
 
-  put-reordered : {ds es : List (K × V)} → AreReordered ds es → AreKeysApart ds →
+  put-reordered : {ds es : List (K × V)} → AreReordered ds es → AreKeysApart cmp ds →
       (xs : List (K × V)) → put_all cmp xs ds ≡ put_all cmp xs es
   put-reordered as_they_are h xs = refl
   put-reordered (first_stays {x} r) h xs = put-reordered r h.1 (put_entry xs x)
   put-reordered (neighbours {x} {y} {xs = zs}) h xs =
-      ap (λ ys. put_all cmp ys zs) (commutes y x xs (apart-turned x y h.0.0))
+      ap (λ ys. put_all cmp ys zs) (commutes y x xs (apart-turned cmp total x y h.0.0))
   put-reordered (then_again r s) h xs = put-reordered r h xs ∙
       put-reordered s (apart-reordered r h) xs
-
-  above-apart : (e : K × V) (es : List (K × V)) →
-      AllByRecursion (λ k. cmp e.0 k ≡ Less) (keys_of es) → AllByRecursion (IsApart e) es
-  above-apart e [] h = tt
-  above-apart e (p ∷ es) h = (
-    (λ same. absurd (let no : Less ≡ Equal = sym h.0 ∙ same in cc)),
-    above-apart e es h.1,
-  )
-
-  sorted-apart : (es : List (K × V)) → IsStrictlySortedBy cmp (keys_of es) → AreKeysApart es
-  unfolding IsStrictlySortedBy
-  sorted-apart [] h = tt
-  sorted-apart (e ∷ es) h = (above-apart e es h.0, sorted-apart es h.1)
 
   -- what counts of the entries is put in as they are
   module _ {A B : Type 0} (order : A → A → Ordering) (key : K → A) (value : V → B)
       (orders : (a b : K) → cmp a b ≡ order (key a) (key b)) where
-    matched : (a : Ordering) (e p : K × V) (es : List (K × V)) (cs : List (A × B)) →
-        cs ≡ contents key value (put_entry es e) →
-        match_ordering a ((key e.0, value e.1) ∷ contents key value (p ∷ es))
-        ((key p.0, value e.1) ∷ contents key value es) ((key p.0, value p.1) ∷ cs) ≡ contents
-        key value (match_ordering a ((e.0, e.1) ∷ p ∷ es) ((p.0, e.1) ∷ es)
-        (p ∷ put_entry es e))
-    matched Less e p es cs h = refl
-    matched Equal e p es cs h = refl
-    matched Greater e p es cs h = ap (λ ds. (key p.0, value p.1) ∷ ds) h
-
-    one-put : (es : List (K × V)) (e : K × V) →
-        insert_entry order (contents key value es) (key e.0) (value e.1) ≡ contents key value
-        (put_entry es e)
-    one-put [] e = refl
-    one-put (p ∷ es) e =
-        let cs = insert_entry order (contents key value es) (key e.0) (value e.1) in
-        ap (λ a. match_ordering a ((key e.0, value e.1) ∷ contents key value (p ∷ es))
-        ((key p.0, value e.1) ∷ contents key value es) ((key p.0, value p.1) ∷ cs))
-        (sym (orders e.0 p.0))
-        ∙ matched (cmp e.0 p.0) e p es cs (one-put es e)
-
     all-put : (xs es : List (K × V)) → put_all order (contents key value xs) (contents key value es)
         ≡ contents key value (put_all cmp xs es)
     all-put xs [] = refl
-    all-put xs (e ∷ es) = ap (λ ys. put_all order ys (contents key value es)) (one-put xs e) ∙
+    all-put xs (e ∷ es) = ap (λ ys. put_all order ys (contents key value es))
+        (one-put cmp order key value orders xs e) ∙
         all-put (put_entry xs e) es
 
     -- of a map's entries, in any order
@@ -216,7 +175,7 @@ module _ {K V : Type 0} (cmp : K → K → Ordering) (total : IsTotalOrder cmp) 
         put_all order [] (contents key value fs) ≡ contents key value es
     reordered-contents es fs r h =
         all-put [] fs ∙ sym (all-put [] es ∙ ap (contents key value)
-        (put-reordered r (sorted-apart es h) [])) ∙
+        (put-reordered r (sorted-apart cmp es h) [])) ∙
         put-contents cmp order key value total orders es h
 
 -- ---- the pairs of a form
@@ -273,23 +232,25 @@ module _ (o : KeyOrder) where
     pair-form (Ok i) (Err k) t e es h m rest = tt
     pair-form (Err k) s t e es h m rest = tt
 
-    inside : (order : A → A → Ordering) (s : Result (List Item) Kind) (es : List (K × V)) →
-        ((fs : List (K × V)) → AreReordered es fs →
-        put_all order [] (contents key value fs) ≡ contents key value es) → AreEntriesRead s es →
+    inside : (once : Bool) (order : A → A → Ordering) (s : Result (List Item) Kind)
+        (es : List (K × V)) → ((fs : List (K × V)) → AreReordered es fs →
+        (put_all order [] (contents key value fs) ≡ contents key value es) ×
+        AreNew order [] (contents key value fs)) → AreEntriesRead s es →
         IfOk (contained dictionary false s) (λ i. (t : Tree) →
         deterministic_form o (written_tree i) ≡ gives t →
-        outcome None (taken_map order f g (item_of t)) ≡ gives (contents key value es))
-    inside order (Ok is) es h each = λ t form.
+        outcome None (taken_map once order f g (item_of t)) ≡ gives (contents key value es))
+    inside once order (Ok is) es h each = λ t form.
         let (qs, there, same) = mapped_gives trees.map
         (then_take (pair_forms o (written_pairs (pairs_from is))) (sorted_pairs o)) t form in
         let (ps, forms, sorted) = then_gives (pair_forms o (written_pairs (pairs_from is)))
         (sorted_pairs o) qs there in
         let (fs, r, all) = sorted-read (IsEntryRead key value take) o ps qs es (each ps forms) sorted in
-        subst (λ u. outcome None (taken_map order f g (item_of u)) ≡
+        let (put, new) = h fs r in
+        subst (λ u. outcome None (taken_map once order f g (item_of u)) ≡
         gives (contents key value es)) same
-        (ap (outcome_map (put_all order [])) (each-read key value take qs fs all) ∙
-        ap gives (h fs r))
-    inside order (Err k) es h each = tt
+        (put-new order once f g None [] (unpack_pairs (pairs_of qs)) (contents key value fs) new
+        (each-read key value take qs fs all) ∙ ap gives put)
+    inside once order (Err k) es h each = tt
 
   module _ {K A : Type 0} {IsKeyHeld : K → Type 0} {key_written : K → Named} {key_taken : Taken A}
       {key : K → A} (key_form : IsReadFromForm o IsKeyHeld key_written key_taken key) where
@@ -309,18 +270,22 @@ module _ (o : KeyOrder) where
           (key_form e.0 first.0) (value_form e.1 first.1)
           (entries-form es (All-tail (λ e. IsKeyHeld e.0 × IsValueHeld e.1) e es held))
 
-      pub map-form : (cmp : K → K → Ordering) (order : A → A → Ordering) → IsTotalOrder cmp →
+      pub map-form : (once : Bool) (cmp : K → K → Ordering) (order : A → A → Ordering) →
+          IsTotalOrder cmp →
           ((a b : K) → cmp a b ≡ order (key a) (key b)) → (m : BTreeMap K V) →
           IsMapHeld cmp IsKeyHeld IsValueHeld m →
           IsFormRead o (container_of dictionary (in_turn key_written value_written m.entries))
-          (taken_map order key_taken value_taken) (contents key value m.entries)
-      map-form cmp order total orders m held =
+          (taken_map once order key_taken value_taken) (contents key value m.entries)
+      map-form once cmp order total orders m held =
           let parts = all_named (in_turn key_written value_written m.entries) in record {
             back = of_ok (contained dictionary false parts)
                 (λ i. (t : Tree) → deterministic_form o (written_tree i) ≡ gives t →
-                outcome None (taken_map order key_taken value_taken (item_of t)) ≡ gives
+                outcome None (taken_map once order key_taken value_taken (item_of t)) ≡ gives
                 (contents key value m.entries))
-                (inside key value key_taken value_taken order parts m.entries
-                (λ fs r. reordered-contents cmp total order key value orders m.entries fs r
-                held.0) (entries-form m.entries held.1));
+                (inside key value key_taken value_taken once order parts m.entries
+                (λ fs r. (
+                  reordered-contents cmp total order key value orders m.entries fs r held.0,
+                  contents-apart cmp order key value orders total fs
+                      (apart-reordered cmp total r (sorted-apart cmp m.entries held.0)),
+                )) (entries-form m.entries held.1));
           }

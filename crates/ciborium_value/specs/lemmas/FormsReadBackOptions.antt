@@ -98,12 +98,3 @@ pub option-form : {T C : Type 0} (o : KeyOrder) {IsHeld : T → Type 0} {written
     (option_map content)
 option-form o {taken = taken} law never None held = nothing-form o taken
 option-form o law never (Some v) held = something-form o (law v held) (never v)
-
--- the same of what is left out where there is nothing
-pub either_way_form : {A C : Type 0} (o : KeyOrder) {taken : Taken C} (named : Option A → Named)
-    (content : Option A → C) (IsHeld : A → Type 0) →
-    IsFormRead o (named None) taken (content None) →
-    ((v : A) → IsHeld v → IsFormRead o (named (Some v)) taken (content (Some v))) →
-    (m : Option A) → IfSome m IsHeld → IsFormRead o (named m) taken (content m)
-either_way_form o named content IsHeld nothing something None held = nothing
-either_way_form o named content IsHeld nothing something (Some v) held = something v held

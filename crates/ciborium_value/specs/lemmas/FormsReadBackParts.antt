@@ -137,6 +137,10 @@ module _ (o : KeyOrder) where
           (none-read no_part_taken tt refl);
     }
 
+  -- no part
+  pub no_part_form : AreFormPartsRead (Ok []) no_part_taken tt
+  no_part_form = record { back = none-read no_part_taken tt refl }
+
   -- the array of them
   pub array_form : {C : Type 0} {s : Result (List Item) Kind}
       {parts : List Item → Steps C} {c : C} → AreFormPartsRead s parts c →

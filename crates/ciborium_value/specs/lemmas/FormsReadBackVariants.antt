@@ -1,15 +1,16 @@
 -- What is written of an enum by the names of its variants, in its deterministic form, is read back.
-use Rattle.std.proofs.Common.{ap, sym, subst, ◌∙◌}
+use Rattle.std.proofs.Common.{ap, subst, ◌∙◌}
 use Rattle.std.specs.Prelude.{◌≡◌, ℕ, List, [], ◌∷◌, None, Ok, Err, IfOk, refl}
 use Rattle.ciborium_ll.specs.Item as items
 use Rattle.ciborium_ll.specs.Item.{Item}
-use Rattle.ciborium_value.specs.DeterministicForms.{deterministic_form, inserted, pair_forms}
+use Rattle.ciborium_value.specs.DeterministicForms.{deterministic_form, pair_forms}
 use Rattle.ciborium_value.specs.DeterministicForms.{sorted_pairs}
 use Rattle.ciborium_value.specs.Encoding.{item_of, written_tree}
 use Rattle.ciborium_value.specs.FormsReadBack.{IsFormRead}
+use Rattle.ciborium_value.specs.Labels.{fields_of, named}
 use Rattle.ciborium_value.specs.Readings.{Reading}
 use Rattle.ciborium_value.specs.ReadsBack.{of_ok}
-use Rattle.ciborium_value.specs.Sinks.{Named, fields_of, named_text}
+use Rattle.ciborium_value.specs.Sinks.{Named, named_text}
 use Rattle.ciborium_value.specs.Taken.{Taken, give, gives, outcome, then_take}
 use Rattle.ciborium_value.specs.TakenParts.{taken_then}
 use Rattle.ciborium_value.specs.Tree as trees
@@ -36,7 +37,7 @@ module _ (o : KeyOrder) {C : Type 0} (vs : List (Variant C)) (name : List ℕ) w
   alone : {A : Type 0} (taken : Taken A) (make : A → C) (a : A) (w : Named) →
       ((i : Item) → outcome None (taken_data vs name i) ≡ outcome None (taken_then taken
       (λ v. give (make v)) i)) → IsFormRead o w taken a →
-      IfOk (fields_of ((name, w) ∷ [])) (λ i. (t : Tree) →
+      IfOk (fields_of ((named name, w) ∷ [])) (λ i. (t : Tree) →
       deterministic_form o (written_tree i) ≡ gives t →
       outcome None (taken_enum vs (item_of t)) ≡ gives (make a))
   alone taken make a (Ok i) same law = λ t form.
@@ -62,9 +63,9 @@ module _ (o : KeyOrder) {C : Type 0} (vs : List (Variant C)) (name : List ℕ) w
   pub data_variant_form : {U A : Type 0} (make : A → C) (r : Reading U A) {w : Named} {a : A} →
       ((i : Item) → outcome None (taken_data vs name i) ≡ outcome None
       (taken_then r.taken (λ v. give (make v)) i)) → IsFormRead o w r.taken a →
-      IsFormRead o (fields_of ((name, w) ∷ [])) (taken_enum vs) (make a)
+      IsFormRead o (fields_of ((named name, w) ∷ [])) (taken_enum vs) (make a)
   data_variant_form make r {w = w} {a = a} same law = record {
-    back = of_ok (fields_of ((name, w) ∷ [])) (λ i. (t : Tree) →
+    back = of_ok (fields_of ((named name, w) ∷ [])) (λ i. (t : Tree) →
         deterministic_form o (written_tree i) ≡ gives t →
         outcome None (taken_enum vs (item_of t)) ≡ gives (make a)) (alone r.taken make a w same law);
   }

@@ -1,16 +1,18 @@
 -- What is written of a map is read back: its keys rise, so each is put in behind those before it.
-use Rattle.std.proofs.Common.{arith, sym, ap, ◌∙◌, append-nil, append_assoc, zero}
+use Rattle.std.proofs.Common.{arith, sym, ap, ◌∙◌, append-nil, append_assoc, cond, is_eq, subst}
+use Rattle.std.proofs.Common.{zero}
 use Rattle.std.proofs.lemmas.List.Elements.{All-head, All-tail}
-use Rattle.std.specs.BTreeMap.{BTreeMap, IsOrdered, insert_entry}
+use Rattle.std.specs.BTreeMap.{BTreeMap, IsOrdered, insert_entry, is_at}
 use Rattle.std.specs.Cmp.{IsTotalOrder}
 use Rattle.std.specs.List.{All, AllByRecursion}
 use Rattle.std.specs.List.Sorted.{IsStrictlySortedBy}
-use Rattle.std.specs.Map.{keys_of}
+use Rattle.std.specs.Map.{keys_of, lookup}
+use Rattle.std.specs.Option.{is_some}
 use Rattle.std.specs.Ordering.{match_ordering, ordering_reverse}
-use Rattle.std.specs.Prelude.{◌≡◌, ℕ, suc, max, false, List, [], ◌∷◌, ◌++◌, map, Some, None, Result}
-use Rattle.std.specs.Prelude.{Ok, Err, IfOk, refl}
+use Rattle.std.specs.Prelude.{◌≡◌, ℕ, suc, max, Bool, true, false, List, [], ◌∷◌, ◌++◌, map, Option}
+use Rattle.std.specs.Prelude.{Some, None, Result, Ok, Err, IfOk, if◌then◌else◌, ◌&&◌, refl}
 use Rattle.std.specs.declared.cmp.Ordering.{Ordering}
-use Rattle.std.specs.declared.cmp.Ordering.TheVariants.{Less, Greater}
+use Rattle.std.specs.declared.cmp.Ordering.TheVariants.{Less, Equal, Greater}
 use Rattle.ciborium_ll.specs.Item.{Item}
 use Rattle.ciborium_value.specs.Nesting.{Limit, IsWithin}
 use Rattle.ciborium_value.specs.Places.{dictionary, pairs_from}
@@ -18,12 +20,16 @@ use Rattle.ciborium_value.specs.ReadsBack.{IsNameRead, IsReadBack, Way, met, of_
 use Rattle.ciborium_value.specs.lemmas.ReadsBackParts.{at, greatest, met-container, within-left}
 use Rattle.ciborium_value.specs.lemmas.ReadsBackParts.{within-right}
 use Rattle.ciborium_value.specs.Sinks.{Named, and_then, all_named, contained, container_of, in_turn}
-use Rattle.ciborium_value.specs.lemmas.GivenOutcomes.{and_take}
-use Rattle.ciborium_value.specs.Taken.{Steps, Taken, gives, outcome, outcome_map, take_each}
-use Rattle.ciborium_value.specs.Taken.{then_take, unpack_pairs}
-use Rattle.ciborium_value.specs.TakenParts.{after_pairs, map_entries, put_all, take_entry}
+use Rattle.ciborium_value.specs.lemmas.GivenOutcomes.{and_take, mapped_gives, one_given}
+use Rattle.ciborium_value.specs.lemmas.GivenOutcomes.{then_gives}
+use Rattle.ciborium_value.specs.lemmas.ReadsBackStructs.{nothing-twice}
+use Rattle.ciborium_value.specs.Taken.{Outcome, Steps, Taken, chosen, gives, outcome, outcome_map}
+use Rattle.ciborium_value.specs.Taken.{refuse, refuses, take_each, then_read, then_take}
+use Rattle.ciborium_value.specs.Taken.{unpack_pairs}
+use Rattle.ciborium_value.specs.TakenParts.{after_pairs, has_key, put_all, put_each, take_entry}
 use Rattle.ciborium_value.specs.TakenParts.{taken_map}
 use Rattle.ciborium_value.specs.declared.kind.Kind.{Kind}
+use Rattle.ciborium_value.specs.declared.kind.Kind.TheVariants as kinds
 use Rattle.ciborium_value.specs.WrittenContents.{contents}
 
 -- ---- keys that rise
@@ -101,7 +107,180 @@ module _ {K V A B : Type 0} (cmp : K → K → Ordering) (order : A → A → Or
       put_all order [] (contents key value es) ≡ contents key value es
   put-contents es h = put-rising order (contents key value es) (contents-rising es h)
 
--- ---- maps
+-- ---- keys that are apart
+
+not-at : (o : Ordering) → (o ≡ Equal → ⊥) → is_eq o ≡ false
+not-at Less h = refl
+not-at Equal h = absurd (h refl)
+not-at Greater h = refl
+
+none-first : {B : Type 0} (t : Bool) (b : B) (x : Option B) → t ≡ false → is_some x ≡ false →
+    is_some (cond t (Some b) x) ≡ false
+none-first true b x e h = cc
+none-first false b x e h = h
+
+none-behind : {B : Type 0} (t : Bool) (b : B) (x : Option B) →
+    is_some (cond t (Some b) x) ≡ false → (t ≡ false) × (is_some x ≡ false)
+none-behind true b x h = cc
+none-behind false b x h = (refl, h)
+
+module _ {A B : Type 0} (order : A → A → Ordering) where
+  -- each key is none of those before it
+  abbrev pub AreNew : List (A × B) → List (A × B) → Type 0
+  AreNew es [] = Unit {0}
+  AreNew es (q ∷ qs) = (has_key order es q.0 ≡ false) ×
+      AreNew (insert_entry order es q.0 q.1) qs
+
+  -- then it makes no difference whether equal keys are refused
+  pub put-new : (once : Bool) (key : Taken A) (value : Taken B) (l : Limit) (es : List (A × B))
+      (ps : List (Item × Item)) (qs : List (A × B)) → AreNew es qs →
+      outcome l (take_each (take_entry key value) ps) ≡ gives qs →
+      outcome l (put_each once order key value es ps) ≡ gives (put_all order es qs)
+  put-new once key value l es [] qs new e = ap gives (ap (put_all order es) (one_given [] qs e))
+  put-new once key value l es (p ∷ ps) qs new e =
+      let others = outcome l (take_each (take_entry key value) ps) in
+      let (w, first, rest) = then_gives (outcome l (take_entry key value p))
+      (λ v. outcome_map (λ vs. v ∷ vs) others) qs e in
+      let (vs, these, same) = mapped_gives (λ vs. w ∷ vs) others qs rest in
+      let (a, is, behind) = then_gives (outcome l (key p.0))
+      (λ a. then_take (outcome l (value p.1)) (λ b. gives (a, b))) w first in
+      let (b, is', pair) = then_gives (outcome l (value p.1)) (λ b. gives (a, b)) w behind in
+      let all : (a, b) ∷ vs ≡ qs = ap (λ w. w ∷ vs) (one_given (a, b) w pair) ∙ same in
+      let apart = subst (AreNew es) (sym all) new in
+      let next : B → Outcome (List (A × B)) =
+      λ b. outcome l (put_each once order key value (insert_entry order es a b) ps) in
+      ap (λ o. then_take o (λ a. outcome l (chosen (once && has_key order es a)
+      (refuse kinds.DuplicateKey) (then_read (value p.1)
+      (λ b. put_each once order key value (insert_entry order es a b) ps))))) is
+      ∙ ap (λ t. if t then refuses kinds.DuplicateKey else then_take (outcome l (value p.1)) next)
+      (ap (λ t. once && t) apart.0 ∙ nothing-twice once)
+      ∙ ap (λ o. then_take o next) is'
+      ∙ put-new once key value l (insert_entry order es a b) ps vs apart.1 these
+      ∙ ap gives (ap (put_all order es) all)
+
+  -- one that is put in is not this key
+  still-new : (k : A) (es : List (A × B)) (e : A × B) → is_eq (order k e.0) ≡ false →
+      has_key order es k ≡ false → has_key order (insert_entry order es e.0 e.1) k ≡ false
+  still-new k [] e apart h = none-first (is_eq (order k e.0)) e.1 None apart refl
+  still-new k (p ∷ es) e apart h =
+      let both = none-behind (is_eq (order k p.0)) p.1 (lookup (is_at (order k)) es) h in
+      by (order e.0 p.0) both.0 both.1 (still-new k es e apart both.1)
+    where
+      by : (o : Ordering) → is_eq (order k p.0) ≡ false → has_key order es k ≡ false →
+          has_key order (insert_entry order es e.0 e.1) k ≡ false →
+          has_key order (match_ordering o ((e.0, e.1) ∷ p ∷ es) ((p.0, e.1) ∷ es)
+          (p ∷ insert_entry order es e.0 e.1)) k ≡ false
+      by Less one more rest = none-first (is_eq (order k e.0)) e.1
+          (lookup (is_at (order k)) (p ∷ es)) apart h
+      by Equal one more rest = none-first (is_eq (order k p.0)) e.1
+          (lookup (is_at (order k)) es) one more
+      by Greater one more rest = none-first (is_eq (order k p.0)) p.1
+          (lookup (is_at (order k)) (insert_entry order es e.0 e.1)) one rest
+
+module _ {K V : Type 0} (cmp : K → K → Ordering) where
+  -- neither key is equal to the other
+  abbrev pub IsApart : K × V → K × V → Type 0
+  IsApart d e = cmp d.0 e.0 ≡ Equal → ⊥
+
+  abbrev pub AreKeysApart : List (K × V) → Type 0
+  AreKeysApart [] = Unit {0}
+  AreKeysApart (e ∷ es) = AllByRecursion (IsApart e) es × AreKeysApart es
+
+  pub apart-turned : IsTotalOrder cmp → (d e : K × V) → IsApart d e → IsApart e d
+  apart-turned total d e h same = h (total.antisymm d.0 e.0 ∙ ap ordering_reverse same)
+
+  above-apart : (e : K × V) (es : List (K × V)) →
+      AllByRecursion (λ k. cmp e.0 k ≡ Less) (keys_of es) → AllByRecursion (IsApart e) es
+  above-apart e [] h = tt
+  above-apart e (p ∷ es) h = (
+    (λ same. absurd (let no : Less ≡ Equal = sym h.0 ∙ same in cc)),
+    above-apart e es h.1,
+  )
+
+  pub sorted-apart : (es : List (K × V)) → IsStrictlySortedBy cmp (keys_of es) → AreKeysApart es
+  unfolding IsStrictlySortedBy
+  sorted-apart [] h = tt
+  sorted-apart (e ∷ es) h = (above-apart e es h.0, sorted-apart es h.1)
+
+  all-still-new : IsTotalOrder cmp → (e : K × V) (xs es : List (K × V)) →
+      AllByRecursion (IsApart e) es →
+      AllByRecursion (λ d. has_key cmp xs d.0 ≡ false) es →
+      AllByRecursion (λ d. has_key cmp (insert_entry cmp xs e.0 e.1) d.0 ≡ false) es
+  all-still-new total e xs [] apart h = tt
+  all-still-new total e xs (d ∷ es) apart h = (
+    still-new cmp d.0 xs e (not-at (cmp d.0 e.0) (apart-turned total e d apart.0)) h.0,
+    all-still-new total e xs es apart.1 h.1,
+  )
+
+  apart-new : IsTotalOrder cmp → (xs es : List (K × V)) →
+      AllByRecursion (λ d. has_key cmp xs d.0 ≡ false) es →
+      AreKeysApart es → AreNew cmp xs es
+  apart-new total xs [] h apart = tt
+  apart-new total xs (e ∷ es) h apart = (
+    h.0,
+    apart-new total (insert_entry cmp xs e.0 e.1) es (all-still-new total e xs es apart.0 h.1)
+        apart.1,
+  )
+
+  none-there : (es : List (K × V)) →
+      AllByRecursion (λ d. has_key {V = V} cmp [] d.0 ≡ false) es
+  none-there [] = tt
+  none-there (e ∷ es) = (refl, none-there es)
+
+-- ---- contents, which compare as what they are of
+
+module _ {K V A B : Type 0} (cmp : K → K → Ordering) (order : A → A → Ordering) (key : K → A)
+    (value : V → B) (orders : (a b : K) → cmp a b ≡ order (key a) (key b)) where
+  matched : (a : Ordering) (e p : K × V) (es : List (K × V)) (cs : List (A × B)) →
+      cs ≡ contents key value (insert_entry cmp es e.0 e.1) →
+      match_ordering a ((key e.0, value e.1) ∷ contents key value (p ∷ es))
+      ((key p.0, value e.1) ∷ contents key value es) ((key p.0, value p.1) ∷ cs) ≡ contents
+      key value (match_ordering a ((e.0, e.1) ∷ p ∷ es) ((p.0, e.1) ∷ es)
+      (p ∷ insert_entry cmp es e.0 e.1))
+  matched Less e p es cs h = refl
+  matched Equal e p es cs h = refl
+  matched Greater e p es cs h = ap (λ ds. (key p.0, value p.1) ∷ ds) h
+
+  pub one-put : (es : List (K × V)) (e : K × V) →
+      insert_entry order (contents key value es) (key e.0) (value e.1) ≡ contents key value
+      (insert_entry cmp es e.0 e.1)
+  one-put [] e = refl
+  one-put (p ∷ es) e =
+      let cs = insert_entry order (contents key value es) (key e.0) (value e.1) in
+      ap (λ a. match_ordering a ((key e.0, value e.1) ∷ contents key value (p ∷ es))
+      ((key p.0, value e.1) ∷ contents key value es) ((key p.0, value p.1) ∷ cs))
+      (sym (orders e.0 p.0))
+      ∙ matched (cmp e.0 p.0) e p es cs (one-put es e)
+
+  one-there : (t : Bool) (v : V) (x : Option V) (y : Option B) → is_some y ≡ is_some x →
+      is_some (cond t (Some (value v)) y) ≡ is_some (cond t (Some v) x)
+  one-there true v x y h = refl
+  one-there false v x y h = h
+
+  pub one-has : (es : List (K × V)) (k : K) →
+      has_key order (contents key value es) (key k) ≡ has_key cmp es k
+  one-has [] k = refl
+  one-has (e ∷ es) k =
+      ap (λ o. is_some (cond (is_eq o) (Some (value e.1))
+      (lookup (is_at (order (key k))) (contents key value es)))) (sym (orders k e.0))
+      ∙ one-there (is_eq (cmp k e.0)) e.1 (lookup (is_at (cmp k)) es)
+      (lookup (is_at (order (key k))) (contents key value es)) (one-has es k)
+
+  contents-new : (xs es : List (K × V)) → AreNew cmp xs es →
+      AreNew order (contents key value xs) (contents key value es)
+  contents-new xs [] h = tt
+  contents-new xs (e ∷ es) h = (
+    one-has xs e.0 ∙ h.0,
+    subst (λ ys. AreNew order ys (contents key value es)) (sym (one-put xs e))
+        (contents-new (insert_entry cmp xs e.0 e.1) es h.1),
+  )
+
+  pub contents-apart : IsTotalOrder cmp → (es : List (K × V)) → AreKeysApart cmp es →
+      AreNew order [] (contents key value es)
+  contents-apart total es apart = contents-new [] es
+      (apart-new cmp total [] es (none-there cmp es) apart)
+
+-- ---- what is read
 
 -- what the parts name is read inside, with a level less
 module _ {C : Type 0} (way : Way) (k : List (Item × Item) → Steps C) where
@@ -172,31 +351,37 @@ module _ {K A : Type 0} {IsKeyHeld : K → Type 0} {key_written : K → Named} {
         (entries-back es (All-tail (λ e. IsKeyHeld e.0 × IsValueHeld e.1) e es held) way l
         (within-right l (levels e) (greatest levels es) fits))
 
-    put-back : (order : A → A → Ordering) (es : List (K × V)) →
+    put-back : (once : Bool) (order : A → A → Ordering) (es : List (K × V)) →
         put_all order [] (contents key value es) ≡ contents key value es →
+        AreNew order [] (contents key value es) →
         (way : Way) (l : Limit) (r : Result (List Item) Kind) →
         IfOk r (λ is. outcome l (entries key_taken value_taken (met way) is) ≡ gives
         (contents key value es)) →
-        IfOk r (λ is. outcome l (map_entries order key_taken value_taken
+        IfOk r (λ is. outcome l (put_each once order key_taken value_taken []
         (unpack_pairs (pairs_from (map (met way) is)))) ≡ gives (contents key value es))
-    put-back order es h way l (Ok is) k = ap (outcome_map (put_all order [])) k ∙ ap gives h
-    put-back order es h way l (Err e) k = tt
+    put-back once order es h new way l (Ok is) k =
+        put-new order once key_taken value_taken l [] (unpack_pairs (pairs_from (map (met way) is)))
+        (contents key value es) new k ∙ ap gives h
+    put-back once order es h new way l (Err e) k = tt
 
-    pub map-back : (cmp : K → K → Ordering) (order : A → A → Ordering) → IsTotalOrder cmp →
+    pub map-back : (once : Bool) (cmp : K → K → Ordering) (order : A → A → Ordering) →
+        IsTotalOrder cmp →
         ((a b : K) → cmp a b ≡ order (key a) (key b)) → (m : BTreeMap K V) →
         IsMapHeld cmp IsKeyHeld IsValueHeld m →
         IsNameRead (container_of dictionary (in_turn key_written value_written m.entries))
-        (taken_map order key_taken value_taken) (contents key value m.entries)
+        (taken_map once order key_taken value_taken) (contents key value m.entries)
         (suc (greatest (entry_levels key_levels value_levels) m.entries))
-    map-back cmp order total orders m held =
+    map-back once cmp order total orders m held =
         let parts = all_named (in_turn key_written value_written m.entries) in
-        let same = put-contents cmp order key value total orders m.entries held.0 in record {
+        let same = put-contents cmp order key value total orders m.entries held.0 in
+        let new = contents-apart cmp order key value orders total m.entries
+        (sorted-apart cmp m.entries held.0) in record {
           back = λ way i e l fits. of_ok (contained dictionary false parts)
-              (λ j. outcome l (taken_map order key_taken value_taken (met way j)) ≡ gives
+              (λ j. outcome l (taken_map once order key_taken value_taken (met way j)) ≡ gives
               (contents key value m.entries))
-              (inside way (map_entries order key_taken value_taken) parts
+              (inside way (put_each once order key_taken value_taken []) parts
               (contents key value m.entries)
               (greatest (entry_levels key_levels value_levels) m.entries)
-              (λ l fits. put-back order m.entries same way l parts
+              (λ l fits. put-back once order m.entries same new way l parts
               (entries-back m.entries held.1 way l fits)) l fits) i e;
         }

@@ -49,28 +49,3 @@ pub option-back : {T C : Type 0} {IsHeld : T → Type 0} {written : T → Named}
     (option_levels levels)
 option-back {taken = taken} back never None held = nothing-back taken 0
 option-back {taken = taken} back never (Some v) held = something-back taken (back v held) (never v)
-
--- the same, of contents that all take so many levels
-pub optional-back : {T C : Type 0} {IsHeld : T → Type 0} {written : T → Named} {taken : Taken C}
-    {content : T → C} {n : ℕ} → IsReadBack IsHeld written taken content (λ v. n) →
-    ((v : T) → IsNever nulls (written v)) →
-    IsReadBack (λ o. IfSome o IsHeld) (or_null written) (taken_option taken) (option_map content)
-    (λ o. n)
-optional-back {taken = taken} {n = n} back never None held = nothing-back taken n
-optional-back {taken = taken} back never (Some v) held =
-    something-back taken (back v held) (never v)
-
--- what holds of every value holds of what there is
-pub always : {T : Type 0} (o : Option T) → IfSome o (λ v. Unit {0})
-always None = tt
-always (Some v) = tt
-
--- what is read back where there is nothing, and where there is something, is read back of every
--- option, as of a struct of which a field is left out where there is nothing
-pub either_way_back : {A C : Type 0} {n : ℕ} {taken : Taken C} (named : Option A → Named)
-    (content : Option A → C) (IsHeld : A → Type 0) →
-    IsNameRead (named None) taken (content None) n →
-    ((v : A) → IsHeld v → IsNameRead (named (Some v)) taken (content (Some v)) n) →
-    (o : Option A) → IfSome o IsHeld → IsNameRead (named o) taken (content o) n
-either_way_back named content IsHeld nothing something None held = nothing
-either_way_back named content IsHeld nothing something (Some v) held = something v held

@@ -193,6 +193,10 @@ module _ {A : Type 0} {r : Named} {taken : Taken A} {a : A} {n : ℕ}
         (at r taken a n h way l fits) refl;
   }
 
+-- no part
+pub no_part_back : ArePartsRead (Ok []) no_part_taken tt 0
+no_part_back = record { back = λ way l fits. refl }
+
 -- the array of them
 pub array_back : {C : Type 0} {s : Result (List Item) Kind} {parts : List Item → Steps C}
     {c : C} {n : ℕ} → ArePartsRead s parts c n →

@@ -4,11 +4,12 @@ use Rattle.std.specs.Prelude.{◌≡◌, ℕ, suc, false, List, [], ◌∷◌, S
 use Rattle.ciborium_ll.specs.Item as items
 use Rattle.ciborium_ll.specs.Item.{Item}
 use Rattle.ciborium_value.specs.Nesting.{Limit, IsWithin}
+use Rattle.ciborium_value.specs.Labels.{fields_of, named}
 use Rattle.ciborium_value.specs.Readings.{Reading}
 use Rattle.ciborium_value.specs.ReadsBack.{IsNameRead, Way, met, met-text, of_ok}
 use Rattle.ciborium_value.specs.Places.{dictionary}
 use Rattle.ciborium_value.specs.lemmas.ReadsBackParts.{at, met-container}
-use Rattle.ciborium_value.specs.Sinks.{Named, fields_of, named_text}
+use Rattle.ciborium_value.specs.Sinks.{Named, named_text}
 use Rattle.ciborium_value.specs.Taken.{Taken, give, gives, outcome, then_take}
 use Rattle.ciborium_value.specs.TakenParts.{taken_then}
 use Rattle.ciborium_value.specs.VariantReadings.{Variant, taken_data, taken_enum}
@@ -41,7 +42,7 @@ module _ {C : Type 0} (vs : List (Variant C)) (name : List ℕ) where
   of_pair : (way : Way) (n : ℕ) (c : C) (w : Named) →
       ((l : Limit) → IsWithin l n → IfOk w (λ i. outcome l (taken_data vs name (met way i)) ≡
       gives c)) →
-      (l : Limit) → IsWithin l (suc n) → IfOk (fields_of ((name, w) ∷ []))
+      (l : Limit) → IsWithin l (suc n) → IfOk (fields_of ((named name, w) ∷ []))
       (λ i. outcome l (taken_enum vs (met way i)) ≡ gives c)
   of_pair way n c (Ok i) h None fits = ap (λ j. outcome None (taken_enum vs j))
       (met-alone way i) ∙ h None tt
@@ -63,9 +64,9 @@ module _ {C : Type 0} (vs : List (Variant C)) (name : List ℕ) where
   pub data_variant_back : {U A : Type 0} (make : A → C) (r : Reading U A) {w : Named} {a : A}
       {n : ℕ} → ((l : Limit) (i : Item) → outcome l (taken_data vs name i) ≡ outcome l
       (taken_then r.taken (λ v. give (make v)) i)) → IsNameRead w r.taken a n →
-      IsNameRead (fields_of ((name, w) ∷ [])) (taken_enum vs) (make a) (suc n)
+      IsNameRead (fields_of ((named name, w) ∷ [])) (taken_enum vs) (make a) (suc n)
   data_variant_back make r {w = w} {a = a} {n = n} same law = record {
-    back = λ way i e l fits. of_ok (fields_of ((name, w) ∷ []))
+    back = λ way i e l fits. of_ok (fields_of ((named name, w) ∷ []))
         (λ j. outcome l (taken_enum vs (met way j)) ≡ gives (make a))
         (of_pair way n (make a) w (λ l fits. made r.taken make a way l w (same l)
         (at w r.taken a n law way l fits)) l fits) i e;

@@ -4,6 +4,7 @@ ghost use Rattle.std.specs.Prelude.{◌≡◌, ◌+◌, ◌<◌, ◌≤◌, IfEr
 ghost use Rattle.std.specs.Prelude.{Err, None, Ok, chars, false, map, string_bytes};
 ghost use Rattle.ciborium_value.specs.Counts.{tree_pairs_node_count, tree_pairs_payload_size};
 ghost use Rattle.ciborium_value.specs.Encoding.{pairs_of};
+ghost use Rattle.ciborium_value.specs.Labels.{label_kind};
 ghost use Rattle.ciborium_value.specs.Sources.{IsGrantedFault};
 ghost use Rattle.ciborium_value.specs.Taken as taken;
 ghost use Rattle.ciborium_value.specs.Taken.{bignum_of, gives, outcome, outcome_map, refuses};
@@ -18,6 +19,7 @@ ghost use Rattle.ciborium_value.specs.declared.kind.Kind.TheVariants as kinds;
 use crate::bignum::find_magnitude;
 use crate::error::Error;
 use crate::kind::Kind;
+use crate::labels::LabelKind;
 use crate::tree::Value;
 use ciborium_ll::tag::{BIGNEG, BIGPOS};
 use std::alloc::Global;
@@ -73,6 +75,24 @@ pub(super) fn find_number(value: &Value) -> Result<(bool, u128), Error>
             }
             _ => return Err(Error::Custom(Kind::Integer)),
         }
+    }
+}
+
+// How a value is read as a label.
+pub(super) fn find_label_kind(value: &Value) -> LabelKind
+    ensures { result ≡ label_kind (value_item value.now) }
+{
+    match value {
+        Value::Integer(_) => LabelKind::Number,
+        Value::Bytes(_) | Value::Text(_) => LabelKind::Name,
+        Value::Tag(tag, _) => {
+            if *tag == BIGPOS || *tag == BIGNEG {
+                LabelKind::Number
+            } else {
+                LabelKind::Name
+            }
+        }
+        _ => LabelKind::Other,
     }
 }
 

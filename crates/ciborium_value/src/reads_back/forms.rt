@@ -1,5 +1,6 @@
 //! What is written in its deterministic form.
 
+ghost use Rattle.std.specs.Prelude.{false};
 ghost use Rattle.ciborium_value.specs.FormsReadBack.{boolean-form, bytes-form, character-form};
 ghost use Rattle.ciborium_value.specs.FormsReadBack.{string-form, unit-form};
 ghost use Rattle.ciborium_value.specs.lemmas.FormsReadBackMaps.{map-form};
@@ -67,5 +68,5 @@ impl<A: FormReadsBack, B: FormReadsBack, C: FormReadsBack, D: FormReadsBack> For
 /// of `K` again: no two of a map's keys are equal, so it makes no difference which comes first.
 impl<K: Key + FormReadsBack, V: FormReadsBack> FormReadsBack for BTreeMap<K, V> {
     ghost form_reads_back = { λ o m held. map-form o (K.form_reads_back o) (V.form_reads_back o)
-        K.cmp K.reading.order K.total K.orders m held };
+        false K.cmp K.reading.order K.total K.orders m held };
 }

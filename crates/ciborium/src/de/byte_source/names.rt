@@ -5,15 +5,19 @@ ghost use Rattle.std.specs.Prelude.{string_bytes, ℕ};
 ghost use Rattle.ciborium_ll.specs.Decoding.{HasSameReader};
 ghost use Rattle.ciborium_ll.specs.StringRefusal.{of_text};
 ghost use Rattle.ciborium_value.specs.Sources.{TakesOnly};
-ghost use Rattle.ciborium_value.specs.Taken.{taken_name, taken_place};
+ghost use Rattle.ciborium_value.specs.Labels.{name_place, placed};
+ghost use Rattle.ciborium_value.specs.Taken.{taken_name};
+ghost use Rattle.ciborium_value.specs.declared.labels.LabelKind.TheVariants.{Name};
 ghost use Rattle.ciborium.specs.inner.ByteSources.{AnswersItem, HasTaken, IsUnread, PassesItem};
-ghost use Rattle.ciborium.specs.inner.ByteSources.{bytes_weight, end_at, fault_at, weight_left};
+ghost use Rattle.ciborium.specs.inner.ByteSources.{bytes_weight, end_at, fault_at, head_label_kind};
+ghost use Rattle.ciborium.specs.inner.ByteSources.{weight_left};
 ghost use Rattle.ciborium.specs.inner.StringContents.{DeniesContent, TakesPlace};
 
 use crate::de::byte_source::ByteSource;
 use crate::de::error::{Error, Refusal};
+use ciborium_ll::tag::{BIGNEG, BIGPOS};
 use ciborium_ll::{Access, Header};
-use ciborium_value::{Kind, Names};
+use ciborium_value::{Kind, LabelKind, Labels};
 use std::alloc::Global;
 use std::str;
 
@@ -33,6 +37,25 @@ fn short_len(len: Option<usize>) -> Option<usize>
             None
         }
         None => None,
+    }
+}
+
+// How the item that this head begins is read as a label.
+#[inline(always)]
+pub(crate) fn label_kind(header: &Header) -> LabelKind
+    ensures { result ≡ head_label_kind header.now }
+{
+    match header {
+        Header::Positive(_) | Header::Negative(_) => LabelKind::Number,
+        Header::Bytes(_) | Header::Text(_) => LabelKind::Name,
+        Header::Tag(tag) => {
+            if *tag == BIGPOS || *tag == BIGNEG {
+                LabelKind::Number
+            } else {
+                LabelKind::Name
+            }
+        }
+        _ => LabelKind::Other,
     }
 }
 
@@ -63,7 +86,7 @@ impl<'a, R, A: Access<R>> ByteSource<'a, R, A> {
 
     // The place of the text of n bytes whose head, at this offset, was taken last.
     #[inline(always)]
-    fn short_place<N: Names>(
+    fn short_place<N: Labels>(
         &mut self,
         n: usize,
         offset: usize,
@@ -78,7 +101,7 @@ impl<'a, R, A: Access<R>> ByteSource<'a, R, A> {
         ensures pending { self.new.pending ≡ None }
         ensures fewer { OnOk result (bytes_weight self.new ≤ bytes_weight self.old) }
         ensures ok { IfOk result (λ place. TakesPlace (IsUnread A.remaining self.old)
-            (IsUnread A.remaining self.new) of_text (Some n) (N.place_of names.now) place) }
+            (IsUnread A.remaining self.new) of_text (Some n) (name_place (N.place_of names.now)) place) }
         ensures denied { IfErr result
             (λ e. DeniesContent (IsUnread A.remaining self.old) (end_at A.remaining self.old)
             of_text (Some n) (fault_at A.can_fail A.remaining self.new e)) }
@@ -87,7 +110,7 @@ impl<'a, R, A: Access<R>> ByteSource<'a, R, A> {
         let payload = &mut room[..n];
         self.fill(payload)?;
         match str::from_utf8(payload) {
-            Ok(name) => Ok(names.find(name)),
+            Ok(name) => Ok(names.find_name(name)),
             Err(_) => Err(Error::Syntax(offset)),
         }
     }
@@ -95,7 +118,7 @@ impl<'a, R, A: Access<R>> ByteSource<'a, R, A> {
     // The place of the text whose head, at this offset, was taken last. Memory is taken only for a
     // long one, and one of indefinite length.
     #[inline(always)]
-    fn text_place<N: Names>(
+    fn text_place<N: Labels>(
         &mut self,
         alloc: Global,
         len: Option<usize>,
@@ -110,7 +133,7 @@ impl<'a, R, A: Access<R>> ByteSource<'a, R, A> {
         ensures pending { self.new.pending ≡ None }
         ensures fewer { OnOk result (bytes_weight self.new ≤ bytes_weight self.old) }
         ensures ok { IfOk result (λ place. TakesPlace (IsUnread A.remaining self.old)
-            (IsUnread A.remaining self.new) of_text len (N.place_of names.now) place) }
+            (IsUnread A.remaining self.new) of_text len (name_place (N.place_of names.now)) place) }
         ensures denied { IfErr result
             (λ e. DeniesContent (IsUnread A.remaining self.old) (end_at A.remaining self.old)
             of_text len (fault_at A.can_fail A.remaining self.new e)) }
@@ -120,15 +143,15 @@ impl<'a, R, A: Access<R>> ByteSource<'a, R, A> {
             return Ok(place);
         }
         let name = self.text_content(alloc, len)?;
-        Ok(names.find(&name))
+        Ok(names.find_name(&name))
     }
 
     /// The place of a name among these, which is read as `name` reads it.
     #[inline(always)]
-    pub(crate) fn place<N: Names>(&mut self, alloc: Global, names: &N) -> Result<N::Place, Refusal>
+    pub(crate) fn place<N: Labels>(&mut self, alloc: Global, names: &N) -> Result<N::Place, Refusal>
         ensures keeps { PassesItem A.remaining self.old self.new result }
         ensures answer { AnswersItem A.can_fail A.remaining self.old self.new (Some self.old.levels)
-            (taken_place (N.place_of names.now)) (λ v. v) result }
+            (placed (N.place_of names.now) Name) (λ v. v) result }
     {
         let (header, offset) = self.bare_head(false)?;
         match header {
@@ -139,7 +162,7 @@ impl<'a, R, A: Access<R>> ByteSource<'a, R, A> {
             Header::Bytes(len) => {
                 let bytes = self.bytes_content(alloc, len)?;
                 match str::from_utf8(&bytes) {
-                    Ok(name) => Ok(names.find(name)),
+                    Ok(name) => Ok(names.find_name(name)),
                     Err(_) => Err(Error::Semantic(Some(offset), Kind::Name)),
                 }
             }

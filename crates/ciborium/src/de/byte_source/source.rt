@@ -1,14 +1,16 @@
 //! The calls of a source.
 
+ghost use Rattle.std.specs.Prelude.{Some};
 ghost use Rattle.ciborium.specs.inner.ByteSources.{HasTakenSince, IsUnread, LevelStands, SeqOwes};
 ghost use Rattle.ciborium.specs.inner.ByteSources.{ReadsValue, SeqStands, StandsBefore, fault_at};
-ghost use Rattle.ciborium.specs.inner.ByteSources.{seq_left, weight_left};
+ghost use Rattle.ciborium.specs.inner.ByteSources.{offset_of_next, seq_left, weight_left};
 
+use crate::de::byte_source::names::label_kind;
 use crate::de::byte_source::scalars::is_null_head;
 use crate::de::byte_source::{ByteLevel, ByteSeq, ByteSource};
 use crate::de::error::{Error, Refusal};
 use ciborium_ll::Access;
-use ciborium_value::{Kind, Names, Source, Value};
+use ciborium_value::{Kind, LabelKind, Labels, Source, Value};
 use std::alloc::Global;
 
 impl<'a, R, A: Access<R>> Source for ByteSource<'a, R, A> {
@@ -39,6 +41,8 @@ impl<'a, R, A: Access<R>> Source for ByteSource<'a, R, A> {
     ghost reads = { ReadsValue A.can_fail A.remaining };
 
     ghost cause = { fault_at A.can_fail A.remaining };
+
+    ghost offset_ahead = { λ s. Some (offset_of_next s) };
 
     #[inline(always)]
     fn integer(&mut self) -> Result<(bool, u128), Refusal> {
@@ -77,7 +81,7 @@ impl<'a, R, A: Access<R>> Source for ByteSource<'a, R, A> {
     }
 
     #[inline(always)]
-    fn place<N: Names>(&mut self, alloc: Global, names: &N) -> Result<N::Place, Refusal> {
+    fn place<N: Labels>(&mut self, alloc: Global, names: &N) -> Result<N::Place, Refusal> {
         self.place(alloc, names)
     }
 
@@ -87,6 +91,14 @@ impl<'a, R, A: Access<R>> Source for ByteSource<'a, R, A> {
         let answer = is_null_head(&header);
         self.pending = Some((header, offset));
         Ok(answer)
+    }
+
+    #[inline(always)]
+    fn label_ahead(&mut self) -> Result<LabelKind, Refusal> {
+        let (header, offset) = self.next_head()?;
+        let kind = label_kind(&header);
+        self.pending = Some((header, offset));
+        Ok(kind)
     }
 
     #[inline(always)]
@@ -132,6 +144,19 @@ impl<'a, R, A: Access<R>> Source for ByteSource<'a, R, A> {
     #[inline(always)]
     fn refuse(&self, kind: Kind) -> Refusal {
         Error::Semantic(None, kind)
+    }
+
+    #[inline(always)]
+    fn offset(&self) -> Option<usize> {
+        Some(match self.pending {
+            Some((_, offset)) => offset,
+            None => self.decoder.offset(),
+        })
+    }
+
+    #[inline(always)]
+    fn refuse_at(&self, offset: Option<usize>, kind: Kind) -> Refusal {
+        Error::Semantic(offset, kind)
     }
 
     #[inline(always)]

@@ -1,5 +1,6 @@
-use Rattle.std.proofs.Common.{◌≡◌, ◌+◌, ◌<◌, ℕ, List}
+use Rattle.std.proofs.Common.{◌≡◌, ◌+◌, ◌<◌}
 use Rattle.ciborium_ll.specs.Item.{Item}
+use Rattle.ciborium_value.specs.Labels.{Label}
 use Rattle.ciborium_value.specs.Nesting.{Limit}
 use Rattle.ciborium_value.specs.Taken.{outcome}
 use Rattle.ciborium_value.specs.Places.{dictionary}
@@ -12,7 +13,7 @@ use Rattle.ciborium_value.proofs.wanted.read_fields.Given as goal
 -- the pairs that were read are in the fields, and the others are left
 abbrev pub invariant-loop-seq : goal.invariant-loop-seq
 invariant-loop-seq g l = record {
-  names : (name : List ℕ) (c : g.F.WantedFields.Content) (m : Limit) (i : Item) →
+  names : (name : Label) (c : g.F.WantedFields.Content) (m : Limit) (i : Item) →
       outcome m (g.F.WantedFields.fields l.fields name c i) ≡ outcome m (g.F.WantedFields.fields l.fn.fields name c i);
   inside : Follows (IsBefore g.S.Source.stands_before l.fn.source
       (taken_fields (g.F.WantedFields.fields l.fn.fields) (g.F.WantedFields.content l.fn.fields)))

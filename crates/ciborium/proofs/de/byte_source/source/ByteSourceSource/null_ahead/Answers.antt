@@ -1,6 +1,7 @@
 use Rattle.std.proofs.Common.{◌≡◌, ◌∙◌, ◌++◌, Some, arith}
 use Rattle.std.proofs.lemmas.Result.{err_from_is_err_and}
 use Rattle.ciborium_ll.specs.Header.{SpellsHeader}
+use Rattle.ciborium_value.specs.Taken.{is_null}
 use Rattle.ciborium.specs.inner.ByteSources.{IsUnread, IsUnreadBy, fault_at}
 use Rattle.ciborium.proofs.Containers.NextParts.{aside-unread}
 use Rattle.ciborium.proofs.Containers.NullAhead.{null-head, refuses-to-tell, takes-nothing, tells}
@@ -24,7 +25,7 @@ returns g c =
     = λ b x y w hd e u. aside-unread g.A.Access.remaining mid.decoder mid.pending h c.in_ok-header.offset b x y
     head.pending hd e (head.counted b x y w hd e) u in record {
       ok = tells g.A.Access.remaining c.args.self.now mid (record mid { pending = Some (h, c.in_ok-header.offset) }) h
-          head.head aside c.is_null_head-answer.result (head.same_reader, head.only) head.levels
+          head.head aside is_null c.is_null_head-answer.result (head.same_reader, head.only) head.levels
           (λ i e. c.is_null_head-answer.ensures ∙ null-head h i e);
       refused = tt;
       memory = tt;

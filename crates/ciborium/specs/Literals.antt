@@ -1,0 +1,61 @@
+-- What a literal puts together, unless an allocation failed.
+use Rattle.std.specs.Prelude.{Bool, true, false, List, [], ◌∷◌, ◌++◌, map, Result, Ok, Err, Vec}
+use Rattle.ciborium_value.specs.Encoding.{written_tree}
+use Rattle.ciborium_value.specs.Sinks.{Named}
+use Rattle.ciborium_value.specs.Tree as trees
+use Rattle.ciborium_value.specs.Tree.{Tree}
+use Rattle.ciborium_value.specs.View.{tree_of, trees_from, tree_pairs_from, pair_trees, read_as}
+use Rattle.ciborium_value.specs.declared.error.Error.{Error}
+use Rattle.ciborium_value.specs.declared.error.Error.TheVariants.{Custom, Memory}
+use Rattle.ciborium_value.specs.declared.tree.Value.{Value}
+use Rattle.std.specs.declared.alloc.Global.{Global}
+
+-- no allocation failed
+abbrev pub had_memory : {A : Type 0} → Result A Error → Bool
+had_memory (Ok x) = true
+had_memory (Err (Custom k)) = true
+had_memory (Err Memory) = false
+
+-- the tree of a part
+abbrev pub part_tree : Result Value Error → Result Tree Error
+part_tree = read_as tree_of
+
+-- the trees of items
+abbrev pub item_trees : Result (Vec Value Global) Error → Result (List Tree) Error
+item_trees = read_as (λ vs. map tree_of vs.items)
+
+-- the trees of pairs
+abbrev pub trees_in_pairs : Result (Vec (Value × Value) Global) Error → Result (List (Tree × Tree)) Error
+trees_in_pairs = read_as (λ ps. map pair_trees ps.items)
+
+-- the tree of the item that is named
+abbrev pub named_tree : Named → Result Tree Error
+named_tree (Ok i) = Ok (written_tree i)
+named_tree (Err k) = Err (Custom k)
+
+-- an item behind others, or the first refusal
+abbrev pub and_item : Result (List Tree) Error → Result Tree Error → Result (List Tree) Error
+and_item (Err e) t = Err e
+and_item (Ok ts) (Err e) = Err e
+and_item (Ok ts) (Ok t) = Ok (ts ++ t ∷ [])
+
+-- a key with its value, or the first refusal
+abbrev pub both_trees : Result Tree Error → Result Tree Error → Result (Tree × Tree) Error
+both_trees (Err e) v = Err e
+both_trees (Ok k) (Err e) = Err e
+both_trees (Ok k) (Ok v) = Ok (k, v)
+
+-- a pair behind others, or the first refusal
+abbrev pub and_pair : Result (List (Tree × Tree)) Error → Result (Tree × Tree) Error →
+    Result (List (Tree × Tree)) Error
+and_pair (Err e) p = Err e
+and_pair (Ok ps) (Err e) = Err e
+and_pair (Ok ps) (Ok p) = Ok (ps ++ p ∷ [])
+
+-- the array of the items
+abbrev pub array_tree : Result (List Tree) Error → Result Tree Error
+array_tree = read_as (λ ts. trees.array (trees_from ts))
+
+-- the map of the pairs
+abbrev pub map_tree : Result (List (Tree × Tree)) Error → Result Tree Error
+map_tree = read_as (λ ps. trees.map (tree_pairs_from ps))

@@ -1,0 +1,7 @@
+use Rattle.ciborium_value.proofs.fields.MaybeFieldPartsOfMap.write_parts.Goals as goal
+
+pub returns-in-Some-clause-err : goal.returns-in-Some-clause-err
+returns-in-Some-clause-err g c = rw c.in-Some.is c.write_field.ensures.err
+
+pub returns-in-None-clause-err : goal.returns-in-None-clause-err
+returns-in-None-clause-err g c = rw c.in-None.is c.write_parts.ensures.err

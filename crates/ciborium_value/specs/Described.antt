@@ -1,0 +1,163 @@
+-- What a type is, as data: what counts of its values, how they are read and written, and the laws of
+-- that. The laws of types made of others follow from the descriptions of their parts.
+use Rattle.std.specs.Prelude.{◌≡◌, ℕ, Bool, true, false, List, [], ◌∷◌, Option, Some, None, max}
+use Rattle.std.specs.Prelude.{length, ◌&&◌, if◌then◌else◌, bytes_eq}
+use Rattle.std.specs.Cmp.{IsTotalOrder}
+use Rattle.std.specs.declared.cmp.Ordering.{Ordering}
+use Rattle.ciborium_ll.specs.Item.{Item}
+use Rattle.ciborium_value.specs.FormsReadBack.{IsFormRead, IsReadFromForm}
+use Rattle.ciborium_value.specs.Labels.{Label, label_item}
+use Rattle.ciborium_value.specs.Nesting.{Limit}
+use Rattle.ciborium_value.specs.NeverWritten.{Avoided, IsNever, nulls, byte_strings}
+use Rattle.ciborium_value.specs.Places.{dictionary}
+use Rattle.ciborium_value.specs.Progress.{counted_of}
+use Rattle.ciborium_value.specs.Readings.{ItemsTaken, Reading}
+use Rattle.ciborium_value.specs.ReadsBack.{IsNameRead, IsReadBack}
+use Rattle.ciborium_value.specs.Sinks.{Named, all_named, in_turn}
+use Rattle.ciborium_value.specs.StructReadings.{Fields}
+use Rattle.ciborium_value.specs.Taken.{outcome}
+use Rattle.ciborium_value.specs.VariantReadings.{Variant, taken_data, taken_enum}
+use Rattle.ciborium_value.specs.WrittenContents.{AreFieldsAlike, IsWrittenByContent}
+use Rattle.ciborium_value.specs.declared.key_order.KeyOrder.{KeyOrder}
+use Rattle.ciborium_value.specs.lemmas.FormsReadBackParts.{AreFormPartsRead}
+use Rattle.ciborium_value.specs.lemmas.FormsReadBackStructs.{FieldsForm}
+use Rattle.ciborium_value.specs.lemmas.ReadsBackParts.{ArePartsRead}
+use Rattle.ciborium_value.specs.lemmas.ReadsBackStructs.{FieldsReadBack, are_apart, is_named}
+
+-- what a type is
+pub record Description (T : Type 0) : Type 1 where
+  pub Content : Type 0
+  pub reading : Reading T Content
+  pub written : T → Named
+  -- what a value in a program is, and how many levels reading what it names takes
+  pub is_held : T → Type 0
+  pub levels : T → ℕ
+  -- what it is never written as
+  pub avoids : Avoided → Bool
+  -- no two of its labels or names are equal, and what may be null is never null otherwise
+  pub is_sound : Bool
+  pub reads_back : is_sound ≡ true →
+      IsReadBack is_held written reading.taken reading.content levels
+  pub form_reads_back : is_sound ≡ true → (o : KeyOrder) →
+      IsReadFromForm o is_held written reading.taken reading.content
+  pub writes_content : IsWrittenByContent written reading.content
+  pub never : (a : Avoided) → avoids a ≡ true → (v : T) → IsNever a (written v)
+
+-- the laws hold of it, and it is never null nor a byte string
+abbrev pub is_lawful : {T : Type 0} → Description T → Bool
+is_lawful d = d.is_sound && (d.avoids nulls && d.avoids byte_strings)
+
+-- what a type writes and reads has the laws of this description
+pub record IsDescribed {T C : Type 0} (d : Description T) (written : T → Named)
+    (reading : Reading T C) : Type 0 where
+  pub reads_back : IsReadBack d.is_held written reading.taken reading.content d.levels
+  pub form_reads_back : (o : KeyOrder) →
+      IsReadFromForm o d.is_held written reading.taken reading.content
+  pub writes_content : IsWrittenByContent written reading.content
+  pub never : (a : Avoided) (v : T) → IsNever a (written v)
+
+-- what a type is whose values are the keys of maps: they compare as their contents do
+pub record KeyDescription (K : Type 0) : Type 1 where
+  pub key : Description K
+  pub compare : K → K → Ordering
+  pub total : IsTotalOrder compare
+  pub orders : (a b : K) →
+      compare a b ≡ key.reading.order (key.reading.content a) (key.reading.content b)
+
+-- ---- structs
+
+-- the parts of a map, labels and values in turn
+abbrev pub labeled_parts : List (Label × Named) → List Named
+labeled_parts fs = in_turn label_item (λ r. r) fs
+
+-- the definite map of these fields
+abbrev pub labeled_map : List (Label × Named) → Named
+labeled_map fs = counted_of dictionary (length fs) (labeled_parts fs)
+
+-- the fields of a type in a row
+pub record FieldsDescription (T : Type 0) : Type 1 where
+  pub Slots : Type 0
+  pub Content : Type 0
+  -- how they are read, and what counts of them
+  pub fields : Fields Slots Content
+  pub content : T → Content
+  -- what is written of them, and how many
+  pub named : T → List (Label × Named)
+  pub parts : T → List Named
+  pub number : T → ℕ
+  pub is_held : T → Type 0
+  pub levels : T → ℕ
+  -- a field has this label
+  pub has : Label → Bool
+  pub is_sound : Bool
+  pub same_parts : (v : T) → labeled_parts (named v) ≡ parts v
+  pub same_number : (v : T) → length (named v) ≡ number v
+  pub unnamed : (x : Label) → has x ≡ false → (v : T) → is_named x (named v) ≡ false
+  pub apart : is_sound ≡ true → (v : T) → are_apart (named v) ≡ true
+  pub back : is_sound ≡ true → (v : T) → is_held v →
+      FieldsReadBack fields (named v) (content v) (levels v)
+  pub form : is_sound ≡ true → (o : KeyOrder) (v : T) → is_held v →
+      FieldsForm o fields (named v) (content v)
+  pub alike : (v w : T) → AreFieldsAlike (content v) (content w) (named v) (named w)
+
+-- what is written of a field that is left out where there is nothing, before others
+abbrev pub maybe_before : {V : Type 0} → Label → (V → Named) → Option V → List (Label × Named) →
+    List (Label × Named)
+maybe_before label written None fs = fs
+maybe_before label written (Some v) fs = (label, written v) ∷ fs
+
+-- the levels that it takes, before so many
+abbrev pub maybe_levels : {V : Type 0} → (V → ℕ) → Option V → ℕ → ℕ
+maybe_levels levels None m = m
+maybe_levels levels (Some v) m = max (levels v) m
+
+-- ---- arrays
+
+-- the items of a type in a row
+pub record ItemsDescription (T : Type 0) : Type 1 where
+  pub Content : Type 0
+  -- how they are read, and what counts of them
+  pub items : ItemsTaken Content
+  pub content : T → Content
+  -- what is written of them, and how many, which is the same for all values
+  pub parts : T → List Named
+  pub number : ℕ
+  pub is_held : T → Type 0
+  pub levels : T → ℕ
+  pub is_sound : Bool
+  pub back : is_sound ≡ true → (v : T) → is_held v →
+      ArePartsRead (all_named (parts v)) items (content v) (levels v)
+  pub form : is_sound ≡ true → (o : KeyOrder) (v : T) → is_held v →
+      AreFormPartsRead o (all_named (parts v)) items (content v)
+  pub alike : (v w : T) → content v ≡ content w → parts v ≡ parts w
+
+-- ---- enums
+
+abbrev pub is_name_among : List ℕ → List (List ℕ) → Bool
+is_name_among name [] = false
+is_name_among name (x ∷ xs) = if bytes_eq name x then true else is_name_among name xs
+
+-- what stands under one of these names these variants read, among all
+abbrev pub AreReadBy : {E : Type 0} → List (Variant E) → List (List ℕ) → List (Variant E) → Type 0
+AreReadBy all names these = (name : List ℕ) → is_name_among name names ≡ true → (l : Limit)
+    (i : Item) → outcome l (taken_data all name i) ≡ outcome l (taken_data these name i)
+
+-- variants in a row, where a value is that of one of them: of the first, or of one behind it
+pub record VariantsDescription (S : Type 0) : Type 1 where
+  pub Content : Type 0
+  pub content : S → Content
+  pub names : List (List ℕ)
+  -- how they are read, of whose content so much is made
+  pub variants : {E : Type 0} → (Content → E) → List (Variant E)
+  pub written : S → Named
+  pub is_held : S → Type 0
+  pub levels : S → ℕ
+  pub is_sound : Bool
+  pub back : is_sound ≡ true → {E : Type 0} (all : List (Variant E)) (make : Content → E) →
+      AreReadBy all names (variants make) → (s : S) → is_held s →
+      IsNameRead (written s) (taken_enum all) (make (content s)) (levels s)
+  pub form : is_sound ≡ true → (o : KeyOrder) {E : Type 0} (all : List (Variant E))
+      (make : Content → E) → AreReadBy all names (variants make) → (s : S) → is_held s →
+      IsFormRead o (written s) (taken_enum all) (make (content s))
+  pub alike : (s t : S) → content s ≡ content t → written s ≡ written t
+  pub never : (a : Avoided) (s : S) → IsNever a (written s)

@@ -1,0 +1,85 @@
+-- Labels: the keys of a map that stand for the fields of a struct, by name or by number.
+use Prim.Native.String.{String}
+use Rattle.std.specs.Int.{complement_if}
+use Rattle.std.specs.Ordering.{int_eq}
+use Rattle.std.specs.Prelude.{ℕ, ◌^◌, ℤ, pos, negsuc, Bool, true, false, List, Option, Some, None}
+use Rattle.std.specs.Prelude.{Ok, Err, nat_lt, bytes_eq, codes, if◌then◌else◌}
+use Rattle.ciborium_ll.specs.Item.{Item, unsigned, negative, bytes, text, tag}
+use Rattle.ciborium_value.specs.Meaning.{is_bignum_tag}
+use Rattle.ciborium_value.specs.Places.{dictionary}
+use Rattle.ciborium_value.specs.Sinks.{Named, container_of, in_turn, named_text, number_item}
+use Rattle.ciborium_value.specs.Taken.{Taken, give, mapped, taken_integer}
+use Rattle.ciborium_value.specs.Taken.{taken_place, taken_value, then_read}
+use Rattle.ciborium_value.specs.declared.kind.Kind.TheVariants as kinds
+use Rattle.ciborium_value.specs.declared.labels.LabelKind.{LabelKind}
+use Rattle.ciborium_value.specs.declared.labels.LabelKind.TheVariants.{Name, Number, Other}
+
+-- what a key is: a name, by the bytes of its UTF-8, a number, or neither
+pub data Label : Type 0 where
+  named : List ℕ → Label
+  numbered : ℤ → Label
+  other : Label
+
+-- a name, as text in the language
+abbrev pub label : String → Label
+label s = named (codes s)
+
+abbrev pub is_label : Label → Label → Bool
+is_label (named a) (named b) = bytes_eq a b
+is_label (numbered y) (numbered z) = int_eq y z
+is_label _ _ = false
+
+-- one that a key can be: a name, or a number that one head holds
+abbrev pub is_proper : Label → Bool
+is_proper (named a) = true
+is_proper (numbered (pos n)) = nat_lt n (2 ^ 64)
+is_proper (numbered (negsuc n)) = nat_lt n (2 ^ 64)
+is_proper other = false
+
+-- what writing it names
+abbrev pub label_item : Label → Named
+label_item (named a) = named_text a
+label_item (numbered z) = Ok (number_item z)
+label_item other = Err kinds.Other
+
+-- the definite map of fields by their labels
+abbrev pub fields_of : List (Label × Named) → Named
+fields_of fs = container_of dictionary (in_turn label_item (λ r. r) fs)
+
+-- parts before others, or left out with what they are made of; and how many
+abbrev pub parts_or : {V : Type 0} → Option V → (V → List Named) → List Named → List Named
+parts_or None parts behind = behind
+parts_or (Some v) parts behind = parts v
+
+abbrev pub number_or : {V : Type 0} → Option V → ℕ → ℕ → ℕ
+number_or None n m = m
+number_or (Some v) n m = n
+
+-- ---- what is read of a key
+
+-- how a key is read: as a number, or as a name, tags before it skipped, or else as a value, which is
+-- dropped
+abbrev pub label_kind : Item → LabelKind
+label_kind (unsigned n) = Number
+label_kind (negative n) = Number
+label_kind (bytes open_ b) = Name
+label_kind (text open_ b) = Name
+label_kind (tag t i) = if is_bignum_tag t then Number else Name
+label_kind _ = Other
+
+abbrev pub name_place : {P : Type 0} → (Label → P) → List ℕ → P
+name_place place name = place (named name)
+
+-- the place among labels of a key that is read so
+abbrev pub placed : {P : Type 0} → (Label → P) → LabelKind → Taken P
+placed place Name i = taken_place (name_place place) i
+placed place Number i = mapped (λ n. place (numbered (complement_if n.0 n.1))) (taken_integer i)
+placed place Other i = then_read (taken_value i) (λ v. give (place other))
+
+-- the place among labels of a key
+abbrev pub label_place : {P : Type 0} → (Label → P) → Taken P
+label_place place i = placed place (label_kind i) i
+
+-- the label that a key is
+abbrev pub taken_label : Taken Label
+taken_label i = label_place (λ x. x) i

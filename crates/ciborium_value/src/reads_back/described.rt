@@ -1,0 +1,24 @@
+//! The laws of described types.
+
+use super::{Avoidable, FormReadsBack, NeverWrites, ReadsBack, WritesContent};
+use crate::described::AsDescribed;
+
+impl<T: AsDescribed> ReadsBack for T {
+    ghost is_held = { T.description.is_held };
+
+    ghost levels = { T.description.levels };
+
+    ghost reads_back = { T.as_described.reads_back };
+}
+
+impl<T: AsDescribed> FormReadsBack for T {
+    ghost form_reads_back = { T.as_described.form_reads_back };
+}
+
+impl<T: AsDescribed> WritesContent for T {
+    ghost writes_content = { T.as_described.writes_content };
+}
+
+impl<T: AsDescribed, I: Avoidable> NeverWrites<I> for T {
+    ghost never = { T.as_described.never I.avoided };
+}
