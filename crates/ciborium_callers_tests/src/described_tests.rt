@@ -3,6 +3,7 @@ use crate::expectations::{expect_same, expect_written};
 use ciborium::de::Error;
 use ciborium::value::{KeyOrder, Kind};
 use ciborium::{from_slice, from_slice_deterministic, to_vec};
+use ciborium_callers::described_callers::{described_come_back, header_again};
 use ciborium_callers::described_types::{KeyHeader, Record};
 use std::alloc::{AllocError, Global};
 use std::test::Fail;
@@ -31,6 +32,19 @@ fn a_record_comes_back_inside_a_header(rt: HostRuntime) -> Result<(), Fail> {
     let bytes = to_vec(alloc, &make_header(alloc)?)?;
     let again = from_slice::<KeyHeader>(alloc, &bytes)?;
     expect_same(again, make_header(alloc)?, "from bytes")
+}
+
+#[test]
+fn a_header_comes_back_by_its_law(rt: HostRuntime) -> Result<(), Fail> {
+    let alloc = rt.alloc();
+    described_come_back();
+    let header = KeyHeader {
+        algorithm: -7,
+        key_id: None,
+        owner: None,
+    };
+    let again = header_again(alloc, &header)?;
+    expect_same(again, header, "the header")
 }
 
 // {1: -7, 4: "11"}, by the order of encoded keys
