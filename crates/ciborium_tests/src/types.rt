@@ -88,7 +88,7 @@ fn ask_container<J: Job>(alloc: Global, name: &str, job: &J) -> Result<Option<St
     if name.starts_with('(') {
         return ask_tuple(alloc, name, job);
     }
-    if name.starts_with("BTreeMap") {
+    if name.starts_with("BTreeMap") || name.starts_with("UniqueKeys") {
         return ask_map(alloc, name, job);
     }
     let answer = match name {
