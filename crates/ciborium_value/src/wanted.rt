@@ -21,8 +21,9 @@ use crate::labels::{LabelKind, Labels, SoughtLabel};
 use crate::source::Source;
 use std::alloc::Global;
 
-/// A field by its label, a text or a number, what has been read of it so far, which at first is nothing, and the fields
-/// after it: a `Wanted` again, or the end of the fields. They are read by `read_fields`:
+/// A field by its label, a text or a number, what has been read of it so far, which at first is
+/// nothing, and the fields after it: a `Wanted` again, or the end of the fields. They are read by
+/// `read_fields`:
 ///
 ///     let mut fields = Wanted("version", None, Wanted("body", None, NoField));
 ///     read_fields(alloc, source, &mut fields)?;
