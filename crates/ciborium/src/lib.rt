@@ -8,6 +8,7 @@ pub mod laws;
 pub mod literals;
 pub mod ll;
 mod macros;
+mod own_types;
 pub mod ser;
 pub mod tag;
 pub mod value;

@@ -4,7 +4,8 @@ ghost use Rattle.ciborium.specs.OwnTypes.{then_no_item};
 
 use ciborium::de::{Deserialize, Source};
 use ciborium::described::{AsDescribed, Described};
-use ciborium::ser::{Array, Item, NoItem, Serialize, Sink};
+use ciborium::ser::{Serialize, Sink};
+use ciborium::{read_struct, write_struct};
 use std::alloc::Global;
 
 /// When something was measured, along three axes, and whether it counts.
@@ -36,11 +37,7 @@ impl Serialize for Sample {
     ghost takes_memory = { ⊥ };
 
     fn serialize<S: Sink>(&self, sink: &mut S) -> Result<(), S::Error> {
-        let axes = Item(
-            &self.x,
-            Item(&self.y, Item(&self.z, Item(&self.valid, NoItem))),
-        );
-        Array(Item(&self.at, axes)).serialize(sink)
+        write_struct!(self, sink, [at, x, y, z, valid])
     }
 }
 
@@ -50,8 +47,6 @@ impl Deserialize for Sample {
     ghost reading = { ⟦<Sample as Described>⟧.description.reading };
 
     fn deserialize<S: Source>(alloc: Global, source: &mut S) -> Result<Sample, S::Error> {
-        let Array(Item(at, Item(x, axes))) = Array::deserialize(alloc, source)?;
-        let Item(y, Item(z, Item(valid, NoItem))) = axes;
-        Ok(Sample { at, x, y, z, valid })
+        read_struct!(alloc, source, [at, x, y, z, valid])
     }
 }

@@ -3,9 +3,10 @@ ghost use Rattle.ciborium.specs.OwnTypes.{described, label, negsuc, numbered, po
 ghost use Rattle.ciborium.specs.OwnTypes.{struct_description, then_field, then_no_field};
 ghost use Rattle.ciborium.specs.OwnTypes.{then_no_other_field, then_optional_field};
 
-use ciborium::de::{Deserialize, NoOtherField, Source, Wanted, read_fields, required};
+use ciborium::de::{Deserialize, Source};
 use ciborium::described::{AsDescribed, Described};
-use ciborium::ser::{Field, MaybeField, NoField, Serialize, Sink};
+use ciborium::ser::{Serialize, Sink};
+use ciborium::{read_struct, write_struct};
 use std::alloc::Global;
 
 /// A record: a map of five fields by their names, of which one may be left out.
@@ -38,12 +39,7 @@ impl Serialize for Record {
     ghost takes_memory = { ⊥ };
 
     fn serialize<S: Sink>(&self, sink: &mut S) -> Result<(), S::Error> {
-        let fields = MaybeField(
-            "seq",
-            &self.seq,
-            Field("tags", &self.tags, Field("on", &self.on, NoField)),
-        );
-        Field("id", &self.id, Field("name", &self.name, fields)).serialize(sink)
+        write_struct!(self, sink, {id, name, seq?, tags, on})
     }
 }
 
@@ -53,19 +49,7 @@ impl Deserialize for Record {
     ghost reading = { ⟦<Record as Described>⟧.description.reading };
 
     fn deserialize<S: Source>(alloc: Global, source: &mut S) -> Result<Record, S::Error> {
-        let fields = Wanted("tags", None, Wanted("on", None, NoField));
-        let fields = Wanted("name", None, Wanted("seq", None, fields));
-        let mut fields = Wanted("id", None, fields);
-        read_fields(alloc, source, &mut fields)?;
-        let Wanted(_, id, Wanted(_, name, fields)) = fields;
-        let Wanted(_, seq, Wanted(_, tags, Wanted(_, on, NoField))) = fields;
-        Ok(Record {
-            id: required(source, id)?,
-            name: required(source, name)?,
-            seq: seq.unwrap_or(None),
-            tags: required(source, tags)?,
-            on: required(source, on)?,
-        })
+        read_struct!(alloc, source, {id, name, seq?, tags, on})
     }
 }
 
@@ -96,8 +80,7 @@ impl Serialize for KeyHeader {
     ghost takes_memory = { ⊥ };
 
     fn serialize<S: Sink>(&self, sink: &mut S) -> Result<(), S::Error> {
-        let fields = MaybeField(4, &self.key_id, MaybeField(-1, &self.owner, NoField));
-        Field(1, &self.algorithm, fields).serialize(sink)
+        write_struct!(self, sink, {algorithm: 1, key_id?: 4, owner?: -1})
     }
 }
 
@@ -107,14 +90,6 @@ impl Deserialize for KeyHeader {
     ghost reading = { ⟦<KeyHeader as Described>⟧.description.reading };
 
     fn deserialize<S: Source>(alloc: Global, source: &mut S) -> Result<KeyHeader, S::Error> {
-        let fields = Wanted(4, None, Wanted(-1, None, NoOtherField));
-        let mut fields = Wanted(1, None, fields);
-        read_fields(alloc, source, &mut fields)?;
-        let Wanted(_, algorithm, Wanted(_, key_id, Wanted(_, owner, NoOtherField))) = fields;
-        Ok(KeyHeader {
-            algorithm: required(source, algorithm)?,
-            key_id: key_id.unwrap_or(None),
-            owner: owner.unwrap_or(None),
-        })
+        read_struct!(alloc, source, {algorithm: 1, key_id?: 4, owner?: -1, ..NoOtherField})
     }
 }

@@ -4,9 +4,10 @@ ghost use Rattle.std.specs.Ordering.{nat_cmp, ordering_then};
 ghost use Rattle.ciborium.specs.OwnTypes.{described, label, ordered_as, refl};
 ghost use Rattle.ciborium.specs.OwnTypes.{struct_description, then_field, then_no_field};
 
-use ciborium::de::{Deserialize, Key, Source, Wanted, read_fields, required};
+use ciborium::de::{Deserialize, Key, Source};
 use ciborium::described::{AsDescribed, Described};
-use ciborium::ser::{Field, NoField, Serialize, Sink};
+use ciborium::ser::{Serialize, Sink};
+use ciborium::{read_struct, write_struct};
 use std::alloc::Global;
 
 /// A struct: it is ordered by its fields, the first one first.
@@ -33,7 +34,7 @@ impl Serialize for Release {
     ghost takes_memory = { ⊥ };
 
     fn serialize<S: Sink>(&self, sink: &mut S) -> Result<(), S::Error> {
-        Field("version", &self.version, Field("name", &self.name, NoField)).serialize(sink)
+        write_struct!(self, sink, {version, name})
     }
 }
 
@@ -43,13 +44,7 @@ impl Deserialize for Release {
     ghost reading = { ⟦<Release as Described>⟧.description.reading };
 
     fn deserialize<S: Source>(alloc: Global, source: &mut S) -> Result<Release, S::Error> {
-        let mut fields = Wanted("version", None, Wanted("name", None, NoField));
-        read_fields(alloc, source, &mut fields)?;
-        let Wanted(_, version, Wanted(_, name, NoField)) = fields;
-        Ok(Release {
-            version: required(source, version)?,
-            name: required(source, name)?,
-        })
+        read_struct!(alloc, source, {version, name})
     }
 }
 

@@ -12,11 +12,12 @@ ghost use Rattle.ciborium.specs.Sinks.{number_item, open_container_of};
 ghost use Rattle.ciborium_value.specs.declared.kind.Kind.TheVariants.{Other, Range};
 ghost use Rattle.ciborium_callers.specs.declared.own_types.Figure.TheVariants.{Circle, Point};
 
-use ciborium::de::{Deserialize, Source, Wanted, read_fields, required};
+use ciborium::de::{Deserialize, Source};
 use ciborium::described::{AsDescribed, Described};
-use ciborium::ser::{Field, NoField, Serialize, Sink};
+use ciborium::ser::{Serialize, Sink};
 use ciborium::tag::Required;
 use ciborium::value::Kind;
+use ciborium::{read_enum, read_struct, write_enum, write_struct};
 use std::alloc::Global;
 use std::collections::BTreeMap;
 
@@ -44,7 +45,7 @@ impl Serialize for Message {
     ghost takes_memory = { ⊥ };
 
     fn serialize<S: Sink>(&self, sink: &mut S) -> Result<(), S::Error> {
-        Field("version", &self.version, Field("body", &self.body, NoField)).serialize(sink)
+        write_struct!(self, sink, {version, body})
     }
 }
 
@@ -54,13 +55,7 @@ impl Deserialize for Message {
     ghost reading = { ⟦<Message as Described>⟧.description.reading };
 
     fn deserialize<S: Source>(alloc: Global, source: &mut S) -> Result<Message, S::Error> {
-        let mut fields = Wanted("version", None, Wanted("body", None, NoField));
-        read_fields(alloc, source, &mut fields)?;
-        let Wanted(_, version, Wanted(_, body, NoField)) = fields;
-        Ok(Message {
-            version: required(source, version)?,
-            body: required(source, body)?,
-        })
+        read_struct!(alloc, source, {version, body})
     }
 }
 
@@ -106,10 +101,7 @@ impl Serialize for Figure {
     ghost takes_memory = { ⊥ };
 
     fn serialize<S: Sink>(&self, sink: &mut S) -> Result<(), S::Error> {
-        match self {
-            Figure::Point => "Point".serialize(sink),
-            Figure::Circle(radius) => Field("Circle", radius, NoField).serialize(sink),
-        }
+        write_enum!(self, sink, {Point, Circle(_)})
     }
 }
 
@@ -119,18 +111,7 @@ impl Deserialize for Figure {
     ghost reading = { ⟦<Figure as Described>⟧.description.reading };
 
     fn deserialize<S: Source>(alloc: Global, source: &mut S) -> Result<Figure, S::Error> {
-        let (name, level) = source.begin_variant(alloc)?;
-        if name.as_str() == "Point" {
-            source.unit()?;
-            source.end_variant(level);
-            return Ok(Figure::Point);
-        }
-        if name.as_str() == "Circle" {
-            let radius = u8::deserialize(alloc, source)?;
-            source.end_variant(level);
-            return Ok(Figure::Circle(radius));
-        }
-        Err(source.refuse(Kind::Variant))
+        read_enum!(alloc, source, {Point, Circle(_)})
     }
 }
 

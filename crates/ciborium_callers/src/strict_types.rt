@@ -4,11 +4,10 @@ ghost use Rattle.ciborium.specs.OwnTypes.{described, label, refl, struct_descrip
 ghost use Rattle.ciborium.specs.OwnTypes.{then_field_or, then_no_field_twice};
 ghost use Rattle.ciborium.specs.OwnTypes.{then_no_other_field};
 
-use ciborium::de::{
-    Deserialize, NoFieldTwice, NoOtherField, Source, Wanted, found_or, read_fields, required,
-};
+use ciborium::de::{Deserialize, Source};
 use ciborium::described::{AsDescribed, Described};
-use ciborium::ser::{Field, NoField, Serialize, Sink};
+use ciborium::ser::{Serialize, Sink};
+use ciborium::{read_struct, write_struct};
 use std::alloc::Global;
 
 /// A struct of these fields and no other, each at most once.
@@ -35,7 +34,7 @@ impl Serialize for Order {
     ghost takes_memory = { ⊥ };
 
     fn serialize<S: Sink>(&self, sink: &mut S) -> Result<(), S::Error> {
-        Field("amount", &self.amount, Field("note", &self.note, NoField)).serialize(sink)
+        write_struct!(self, sink, {amount, note})
     }
 }
 
@@ -45,13 +44,7 @@ impl Deserialize for Order {
     ghost reading = { ⟦<Order as Described>⟧.description.reading };
 
     fn deserialize<S: Source>(alloc: Global, source: &mut S) -> Result<Order, S::Error> {
-        let mut fields = Wanted("amount", None, Wanted("note", None, NoOtherField));
-        read_fields(alloc, source, &mut fields)?;
-        let Wanted(_, amount, Wanted(_, note, NoOtherField)) = fields;
-        Ok(Order {
-            amount: required(source, amount)?,
-            note: found_or(note, None),
-        })
+        read_struct!(alloc, source, {amount, note = None, ..NoOtherField})
     }
 }
 
@@ -79,7 +72,7 @@ impl Serialize for Header {
     ghost takes_memory = { ⊥ };
 
     fn serialize<S: Sink>(&self, sink: &mut S) -> Result<(), S::Error> {
-        Field("version", &self.version, Field("kind", &self.kind, NoField)).serialize(sink)
+        write_struct!(self, sink, {version, kind})
     }
 }
 
@@ -89,12 +82,6 @@ impl Deserialize for Header {
     ghost reading = { ⟦<Header as Described>⟧.description.reading };
 
     fn deserialize<S: Source>(alloc: Global, source: &mut S) -> Result<Header, S::Error> {
-        let mut fields = Wanted("version", None, Wanted("kind", None, NoFieldTwice));
-        read_fields(alloc, source, &mut fields)?;
-        let Wanted(_, version, Wanted(_, kind, NoFieldTwice)) = fields;
-        Ok(Header {
-            version: required(source, version)?,
-            kind: required(source, kind)?,
-        })
+        read_struct!(alloc, source, {version, kind, ..NoFieldTwice})
     }
 }

@@ -21,6 +21,7 @@ use ciborium::de::{Deserialize, Source, Wanted, found_or, read_fields, required}
 use ciborium::described::{AsDescribed, Described};
 use ciborium::laws::{FormReadsBack, ReadsBack};
 use ciborium::ser::{Field, NoField, Serialize, Sink};
+use ciborium::{read_struct, write_struct};
 use std::alloc::Global;
 
 /// A struct of one field.
@@ -44,7 +45,7 @@ impl Serialize for Foo {
     ghost takes_memory = { ⊥ };
 
     fn serialize<S: Sink>(&self, sink: &mut S) -> Result<(), S::Error> {
-        Field("bar", &self.bar, NoField).serialize(sink)
+        write_struct!(self, sink, { bar })
     }
 }
 
@@ -54,12 +55,7 @@ impl Deserialize for Foo {
     ghost reading = { ⟦<Foo as Described>⟧.description.reading };
 
     fn deserialize<S: Source>(alloc: Global, source: &mut S) -> Result<Foo, S::Error> {
-        let mut fields = Wanted("bar", None, NoField);
-        read_fields(alloc, source, &mut fields)?;
-        let Wanted(_, bar, NoField) = fields;
-        Ok(Foo {
-            bar: required(source, bar)?,
-        })
+        read_struct!(alloc, source, { bar })
     }
 }
 
@@ -87,7 +83,7 @@ impl Serialize for Ends {
     ghost takes_memory = { ⊥ };
 
     fn serialize<S: Sink>(&self, sink: &mut S) -> Result<(), S::Error> {
-        Field("first", &self.first, Field("second", &self.second, NoField)).serialize(sink)
+        write_struct!(self, sink, {first, second})
     }
 }
 
@@ -97,13 +93,7 @@ impl Deserialize for Ends {
     ghost reading = { ⟦<Ends as Described>⟧.description.reading };
 
     fn deserialize<S: Source>(alloc: Global, source: &mut S) -> Result<Ends, S::Error> {
-        let mut fields = Wanted("first", None, Wanted("second", None, NoField));
-        read_fields(alloc, source, &mut fields)?;
-        let Wanted(_, first, Wanted(_, second, NoField)) = fields;
-        Ok(Ends {
-            first: required(source, first)?,
-            second: required(source, second)?,
-        })
+        read_struct!(alloc, source, {first, second})
     }
 }
 
@@ -133,8 +123,7 @@ impl Serialize for Reply {
     ghost takes_memory = { ⊥ };
 
     fn serialize<S: Sink>(&self, sink: &mut S) -> Result<(), S::Error> {
-        let behind = Field("number", &self.number, Field("text", &self.text, NoField));
-        Field("title", &self.title, behind).serialize(sink)
+        write_struct!(self, sink, {title, number, text})
     }
 }
 
@@ -144,15 +133,7 @@ impl Deserialize for Reply {
     ghost reading = { ⟦<Reply as Described>⟧.description.reading };
 
     fn deserialize<S: Source>(alloc: Global, source: &mut S) -> Result<Reply, S::Error> {
-        let behind = Wanted("number", None, Wanted("text", None, NoField));
-        let mut fields = Wanted("title", None, behind);
-        read_fields(alloc, source, &mut fields)?;
-        let Wanted(_, title, Wanted(_, number, Wanted(_, text, NoField))) = fields;
-        Ok(Reply {
-            title: required(source, title)?,
-            number: found_or(number, 200),
-            text: found_or(text, None),
-        })
+        read_struct!(alloc, source, {title, number = 200, text = None})
     }
 }
 

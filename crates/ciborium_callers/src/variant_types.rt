@@ -24,6 +24,7 @@ use ciborium::described::{AsDescribed, Described};
 use ciborium::laws::{FormReadsBack, ReadsBack, WritesContent};
 use ciborium::ser::{Field, NoField, Serialize, Sink};
 use ciborium::value::Kind;
+use ciborium::{read_enum, write_enum};
 use std::alloc::Global;
 
 /// A has no data, B a number. As a key of maps it is ordered by its variants, the first one first,
@@ -126,10 +127,7 @@ impl Serialize for Remark {
     ghost takes_memory = { ⊥ };
 
     fn serialize<S: Sink>(&self, sink: &mut S) -> Result<(), S::Error> {
-        match self {
-            Remark::Silent => "Silent".serialize(sink),
-            Remark::Spoken(text) => Field("Spoken", text, NoField).serialize(sink),
-        }
+        write_enum!(self, sink, {Silent, Spoken(_)})
     }
 }
 
@@ -139,18 +137,7 @@ impl Deserialize for Remark {
     ghost reading = { ⟦<Remark as Described>⟧.description.reading };
 
     fn deserialize<S: Source>(alloc: Global, source: &mut S) -> Result<Remark, S::Error> {
-        let (name, level) = source.begin_variant(alloc)?;
-        if name.as_str() == "Silent" {
-            source.unit()?;
-            source.end_variant(level);
-            return Ok(Remark::Silent);
-        }
-        if name.as_str() == "Spoken" {
-            let text = String::deserialize(alloc, source)?;
-            source.end_variant(level);
-            return Ok(Remark::Spoken(text));
-        }
-        Err(source.refuse(Kind::Variant))
+        read_enum!(alloc, source, {Silent, Spoken(_)})
     }
 }
 

@@ -2,9 +2,10 @@
 ghost use Rattle.ciborium.specs.OwnTypes.{described, label, refl, struct_description, then_field};
 ghost use Rattle.ciborium.specs.OwnTypes.{then_no_field, then_optional_field};
 
-use ciborium::de::{Deserialize, NoField, Source, Wanted, found_or, read_fields, required};
+use ciborium::de::{Deserialize, Source};
 use ciborium::described::{AsDescribed, Described};
-use ciborium::ser::{Field, MaybeField, Serialize, Sink};
+use ciborium::ser::{Serialize, Sink};
+use ciborium::{read_struct, write_struct};
 use std::alloc::Global;
 
 /// What a sensor measured at a time. There may be no level, and the field is then left out.
@@ -33,8 +34,7 @@ impl Serialize for Reading {
     ghost takes_memory = { ⊥ };
 
     fn serialize<S: Sink>(&self, sink: &mut S) -> Result<(), S::Error> {
-        let fields = Field("at", &self.at, MaybeField("level", &self.level, NoField));
-        Field("sensor", &self.sensor, fields).serialize(sink)
+        write_struct!(self, sink, {sensor, at, level?})
     }
 }
 
@@ -44,14 +44,6 @@ impl Deserialize for Reading {
     ghost reading = { ⟦<Reading as Described>⟧.description.reading };
 
     fn deserialize<S: Source>(alloc: Global, source: &mut S) -> Result<Reading, S::Error> {
-        let last = Wanted("level", None, NoField);
-        let mut fields = Wanted("sensor", None, Wanted("at", None, last));
-        read_fields(alloc, source, &mut fields)?;
-        let Wanted(_, sensor, Wanted(_, at, Wanted(_, level, NoField))) = fields;
-        Ok(Reading {
-            sensor: required(source, sensor)?,
-            at: required(source, at)?,
-            level: found_or(level, None),
-        })
+        read_struct!(alloc, source, {sensor, at, level?})
     }
 }
