@@ -1,6 +1,6 @@
 #!/usr/bin/env python3
-"""Makes hostile lines of the forms that `typed_lines` does not make: all types, and `det`, `next`, `write`, `sort`,
-`faults` and `loaded`.
+"""Makes hostile lines of the forms that `typed_lines` does not make: all types, and `item`, `det`, `next`, `write`,
+`sort`, `faults` and `loaded`.
 
     python3 line_maker.py SEED COUNT
     python3 line_maker.py SEED COUNT forms
@@ -147,6 +147,19 @@ class LineMaker(typed_lines.Maker):
             0x10000 + self.below(0x100000),
         ))
 
+    def walked(self):
+        """An item, at times with one of no meaning inside it, cut, damaged, or with a byte behind it."""
+        item = self.spelling()
+        if self.chance(0.3):
+            odd = self.pick((b"\xf9\x3c\x00", b"\xf7", b"\xf8\x63", b"\xfb" + bytes(8)))
+            item = self.array([odd, item, self.map([(odd, odd)])])
+        form = self.random.random()
+        if form < 0.4:
+            return item[: self.below(len(item) + 1)]
+        if form < 0.6:
+            return self.damaged(item)
+        return item + bytes([self.below(256)]) if form < 0.7 else item
+
     def form_line(self):
         self.oddness = self.pick((0, 0.1, 0.3))
         self.length = self.pick((0, 0, 0, 0.1))
@@ -160,7 +173,9 @@ class LineMaker(typed_lines.Maker):
         self.oddness = self.pick((0, 0.1, 0.3, 0.6))
         self.length = self.pick((0, 0, 0, 0, 0.1))
         form = self.random.random()
-        if form < 0.08:
+        if form < 0.06:
+            return "item %s" % self.walked().hex()
+        if form < 0.12:
             return "%s %s" % (self.pick(("notation", "indented")), self.shown().hex())
         if form < 0.2:
             return self.loaded()

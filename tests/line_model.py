@@ -16,6 +16,7 @@ sys.dont_write_bytecode = True
 
 import asked_model as asked
 import head_model as heads
+import item_model as items
 import notation_model as notation
 import typed_model as model
 
@@ -627,6 +628,7 @@ FORMS = {
     "indented": showing(lambda tree: "\t".join(notation.indent(tree))),
     "head": at_offset(heads.answer_head),
     "heads": at_offset(heads.answer_heads),
+    "item": lambda rest: items.answer(parse_pieces(rest)),
     "first": lambda rest: heads.answer_first(parse_pieces(rest)),
     "head-faults": answer_head_faults,
     "first-faults": lambda rest: answer_head_faults(rest, is_first=True),

@@ -77,6 +77,9 @@ named words (Answer (readings.Form LengthFirst n)) asked = asked
 named words (Answer (readings.Form Bytewise n)) asked = asked
 named words (Answer (readings.Notation OneLine n)) asked = asked
 named words (Answer (readings.Notation Indented n)) asked = asked
+named words (Answer readings.Dump) asked = subst (λ (ws : List (List ℕ)). NameLimitBehind
+    (command_words (Answer readings.Dump)) ws 256) (sym asked)
+    (no-others (command_words (Answer readings.Dump)))
 named words (Sort LengthFirst) asked = subst (λ (ws : List (List ℕ)). NameLimitBehind (command_words (Sort LengthFirst))
     ws 256) (sym asked) (no-others (command_words (Sort LengthFirst)))
 named words (Sort Bytewise) asked = subst (λ (ws : List (List ℕ)). NameLimitBehind (command_words (Sort Bytewise)) ws
@@ -99,6 +102,7 @@ are-names (Answer (readings.Form LengthFirst n)) = (λ h. omega (arith, h), tt)
 are-names (Answer (readings.Form Bytewise n)) = (λ h. omega (arith, h), (λ h. omega (arith, h), tt))
 are-names (Answer (readings.Notation OneLine n)) = (λ h. omega (arith, h), tt)
 are-names (Answer (readings.Notation Indented n)) = (λ h. omega (arith, h), (λ h. omega (arith, h), tt))
+are-names (Answer readings.Dump) = (λ h. omega (arith, h), tt)
 are-names (Sort LengthFirst) = (λ h. omega (arith, h), tt)
 are-names (Sort Bytewise) = (λ h. omega (arith, h), (λ h. omega (arith, h), tt))
 are-names (Show showings.Encoding n) = (λ h. omega (arith, h), (λ h. omega (arith, h), tt))
@@ -124,6 +128,7 @@ command-of total n =
     else if total == 1042 then Answer (readings.Form Bytewise n)
     else if total == 405 then Answer (readings.Notation OneLine n)
     else if total == 1137 then Answer (readings.Notation Indented n)
+    else if total == 438 then Answer readings.Dump
     else if total == 456 then Sort LengthFirst
     else if total == 971 then Sort Bytewise
     else if total == 1147 then Show showings.Encoding n
@@ -142,6 +147,7 @@ told-apart (Answer (readings.Form LengthFirst n)) = refl
 told-apart (Answer (readings.Form Bytewise n)) = refl
 told-apart (Answer (readings.Notation OneLine n)) = refl
 told-apart (Answer (readings.Notation Indented n)) = refl
+told-apart (Answer readings.Dump) = refl
 told-apart (Sort LengthFirst) = refl
 told-apart (Sort Bytewise) = refl
 told-apart (Show showings.Encoding n) = refl

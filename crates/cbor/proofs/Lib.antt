@@ -1,11 +1,13 @@
 pub mod AnsweredLines
 pub mod AskedWords
 pub mod DigitPairs
+pub mod DumpedHeads
 pub mod HexDigits
 pub mod ItemsInRow
 pub mod JudgedAnswers
 pub mod JudgedLines
 pub mod MeantLines
+pub mod OneDump
 pub mod OneTextAnswer
 pub mod OneLineAnswer
 pub mod OneSequenceAnswer

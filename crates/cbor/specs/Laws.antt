@@ -1,5 +1,8 @@
 -- What holds of the answers to lines.
-use Rattle.std.specs.Prelude.{◌≡◌, ◌≢◌, ℕ, List}
+use Rattle.std.specs.Prelude.{◌≡◌, ◌≢◌, ℕ, List, [], ◌++◌}
+use Rattle.std.specs.List.{flat_map}
+use Rattle.hex.specs.Hex.{encode_lower}
+use Rattle.ciborium_ll.specs.declared.levels.Level.{Level}
 use Rattle.ciborium_value.specs.Tree.{Tree}
 use Rattle.ciborium_value.specs.declared.key_order.KeyOrder.{KeyOrder}
 use Rattle.cbor.specs.declared.answer.Refusal.{Refusal}
@@ -7,6 +10,7 @@ use Rattle.cbor.specs.declared.answer.Refusal.TheVariants.{Memory}
 use Rattle.cbor.specs.declared.reading.Layout.{Layout}
 use Rattle.cbor.specs.declared.reading.Spelling.{Spelling}
 use Rattle.cbor.specs.Answer.{IsRefused, IsMeant, refused_text}
+use Rattle.cbor.specs.Dumped.{AreHeads, Entry, IsWholeDump, entry_bytes, hex_column}
 use Rattle.cbor.specs.Forms.{IsFormAnswer}
 use Rattle.cbor.specs.Line.{IsLineAnswer, tree_text}
 use Rattle.cbor.specs.Sequence.{IsSequenceAnswer}
@@ -77,3 +81,18 @@ OneNotationAnswer =
     (layout : Layout) (line : List ℕ) (limit : ℕ) (a b : List ℕ) →
     IsNotationAnswer layout line limit a → IsNotationAnswer layout line limit b →
     a ≡ b
+
+-- the bytes of the heads and payloads of a dump, and what is left behind them, are the bytes
+abbrev pub DumpKeepsBytes : Type 0
+DumpKeepsBytes =
+    (b : List ℕ) (es : List Entry) (levels : List Level) (rest : List ℕ) →
+    AreHeads b es levels rest → flat_map entry_bytes es ++ rest ≡ b
+
+-- the hex columns of the dump of an item are its hex
+abbrev pub DumpKeepsHex : Type 0
+DumpKeepsHex = (b : List ℕ) (es : List Entry) → AreHeads b es [] [] →
+    flat_map hex_column es ≡ encode_lower b
+
+-- an item has one dump
+abbrev pub OneDumpOfItem : Type 0
+OneDumpOfItem = (b x y : List ℕ) → IsWholeDump b x → IsWholeDump b y → x ≡ y

@@ -1,4 +1,5 @@
 pub mod Answer
+pub mod Dumped
 pub mod Forms
 pub mod Line
 pub mod Laws

@@ -8,9 +8,11 @@ use Rattle.std.specs.Io.BufRead.{first_piece, drop_through, strip_last}
 use Rattle.ciborium_value.specs.Tree.{Tree}
 use Rattle.cbor.specs.declared.reading.Reading.{Reading}
 use Rattle.cbor.specs.declared.reading.Reading.TheVariants.{Item, Sequence, Form, Notation}
+use Rattle.cbor.specs.declared.reading.Reading.TheVariants.{Dump}
 use Rattle.cbor.specs.declared.reading.Spelling.{Spelling}
 use Rattle.cbor.specs.declared.reading.Spelling.TheVariants.{Any}
 use Rattle.cbor.specs.Answer.{IsMeant, TellsRefusal}
+use Rattle.cbor.specs.Dumped.{IsDumpText, TellsNoDump}
 use Rattle.cbor.specs.Forms.{IsFormText, TellsNoForm}
 use Rattle.cbor.specs.Line.{tree_text}
 use Rattle.cbor.specs.Sequence.{IsSequenceText, TellsNoSequence}
@@ -44,6 +46,7 @@ IsOkText (Item spelling limit) line text = (v : Tree) × IsMeant spelling line l
 IsOkText Sequence line text = IsSequenceText line 256 text
 IsOkText (Form order limit) line text = IsFormText order line limit text
 IsOkText (Notation layout limit) line text = IsNotationText layout line limit text
+IsOkText Dump line text = IsDumpText line text
 
 -- it is not, and the text is the answer that says why
 abbrev pub IsRefusedText : Reading → List ℕ → List ℕ → Type 0
@@ -51,6 +54,7 @@ IsRefusedText (Item spelling limit) line text = TellsRefusal spelling line limit
 IsRefusedText Sequence line text = TellsNoSequence line 256 text
 IsRefusedText (Form order limit) line text = TellsNoForm order line limit text
 IsRefusedText (Notation layout limit) line text = TellsRefusal Any line limit text
+IsRefusedText Dump line text = TellsNoDump line text
 
 -- the text answers a line that is read so, and says whether it is as it is asked for
 abbrev pub AnswersLine : Reading → List ℕ → Bool → List ℕ → Type 0

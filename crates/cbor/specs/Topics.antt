@@ -17,6 +17,8 @@ topic_text Help =
     codes "  cbor diag [--indent] [limit]          " ++
     codes "its diagnostic notation: a1616101 gives {\"a\": 1}\n" ++
     codes "  cbor seq                              each line's items: 0102 gives ok 01 02\n" ++
+    codes "  cbor dump                             " ++
+    codes "its heads, each with what it says, and an empty line\n" ++
     codes "  cbor sort [--core]                    " ++
     codes "all lines' items in order: 6161 and 00 give 00 and 6161\n" ++
     codes "  cbor diag --binary [--indent] [limit] " ++

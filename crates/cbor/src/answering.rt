@@ -12,11 +12,13 @@ ghost use Rattle.cbor.specs.Forms.{formless_text};
 ghost use Rattle.cbor.specs.Line.{IsLineAnswer, tree_text};
 ghost use Rattle.cbor.specs.Lines.{AnswersLine, AreAnswered, MayBeAnswer, text_line};
 ghost use Rattle.cbor.specs.Sequence.{IsSequenceAnswer};
-ghost use Rattle.cbor.specs.declared.reading.Reading.TheVariants.{Form, Item, Notation, Sequence};
+ghost use Rattle.cbor.specs.declared.reading.Reading.TheVariants.{Dump, Form, Item, Notation};
+ghost use Rattle.cbor.specs.declared.reading.Reading.TheVariants.{Sequence};
 ghost use Rattle.cbor.specs.declared.reading.Spelling.TheVariants.{Any, Deterministic};
 
 use crate::answer::Refusal;
 use crate::digits::decode_line;
+use crate::dumping::write_dump;
 use crate::fault::Fault;
 use crate::items::{push_encoding, read_item};
 use crate::lines::{next_line, put_text, send_waiting};
@@ -100,6 +102,19 @@ fn answer_sequence(alloc: Global, line: &[u8], rooms: &mut Rooms) -> Result<bool
 {
     match decode_line(line, &mut rooms.bytes) {
         Ok(()) => answer_items(alloc, &rooms.bytes, &mut rooms.encoding, &mut rooms.text),
+        Err(refusal) => {
+            write_refusal(refusal, &mut rooms.text)?;
+            Ok(false)
+        }
+    }
+}
+
+// Makes `rooms.text` the dump of a line that is read as one item, and says whether it is one.
+fn answer_dump(alloc: Global, line: &[u8], rooms: &mut Rooms) -> Result<bool, AllocError>
+    ensures { IfOk result (λ is_ok. AnswersLine Dump line.now is_ok rooms.new.text.items) }
+{
+    match decode_line(line, &mut rooms.bytes) {
+        Ok(()) => write_dump(alloc, &rooms.bytes, &mut rooms.text),
         Err(refusal) => {
             write_refusal(refusal, &mut rooms.text)?;
             Ok(false)
@@ -249,6 +264,7 @@ fn answer_reading(
         Reading::Sequence => answer_sequence(alloc, line, rooms),
         Reading::Form(order, limit) => answer_canon(alloc, line, order, limit, rooms),
         Reading::Notation(layout, limit) => answer_diag(alloc, line, layout, limit, rooms),
+        Reading::Dump => answer_dump(alloc, line, rooms),
     }
 }
 

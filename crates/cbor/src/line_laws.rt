@@ -1,6 +1,7 @@
 //! What holds of the answers to lines, whatever the code: the law is the contract of a function
 //! that does nothing.
 
+ghost use Rattle.cbor.specs.Laws.{DumpKeepsBytes, DumpKeepsHex, OneDumpOfItem};
 ghost use Rattle.cbor.specs.Laws.{IsAnswered, IsFormAnswered, IsNotationAnswered};
 ghost use Rattle.cbor.specs.Laws.{IsSequenceAnswered, ItemIsAnswered, OneAnswerToLine};
 ghost use Rattle.cbor.specs.Laws.{OneFormAnswer, OneNotationAnswer, OneSequenceAnswer};
@@ -37,4 +38,13 @@ pub fn form_answer()
 pub fn notation_answer()
     ensures answered { IsNotationAnswered }
     ensures one { OneNotationAnswer }
+{}
+
+/// The lines of a dump leave no byte out: the bytes of its heads and payloads, and what is left
+/// behind them, are the bytes that are dumped, and the hex columns of the dump of an item, joined,
+/// are the item's hex. An item has one dump.
+pub fn dump_columns()
+    ensures bytes { DumpKeepsBytes }
+    ensures hex { DumpKeepsHex }
+    ensures one { OneDumpOfItem }
 {}

@@ -7,6 +7,7 @@ mod answer;
 mod answering;
 mod command;
 mod digits;
+mod dumping;
 mod fault;
 mod items;
 mod line_laws;

@@ -14,6 +14,8 @@ pub enum Reading {
     Form(KeyOrder, usize),
     /// As one item in any spelling, within this many levels, of which the notation is shown.
     Notation(Layout, usize),
+    /// As one item in any spelling, within 256 levels, of which the heads are dumped.
+    Dump,
 }
 
 /// How an item is shown.

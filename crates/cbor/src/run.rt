@@ -44,11 +44,13 @@ cbor --help tells of the other commands
 /// line spells it, with the keys of each map in the canonical order; an item that has none is
 /// answered `duplicate` or `toolarge`. `diag`, and a limit after it, answers each item with its
 /// diagnostic notation (RFC 8949, section 8), and `--indent` right after `diag` lays that out over
-/// lines. `sort` reads all lines within 256 levels, and then writes the encodings of their items in
-/// lower-case hex, a line each, in the canonical order. At the first line that is no item it only
-/// writes `line`, the number of that line, counted from 1, a colon and the answer to it. `--core`,
-/// right after `--det`, `canon` or `sort`, takes the order of the core deterministic encoding in
-/// place of the canonical one (section 4.2.1: bytewise).
+/// lines. `dump` answers each item with its dump: a line for each of its heads, with the offset,
+/// the bytes in hex and what the head says, and then an empty line; behind the lines of the heads
+/// of what is no item stands why. `sort` reads all lines within 256 levels, and then writes the
+/// encodings of their items in lower-case hex, a line each, in the canonical order. At the first
+/// line that is no item it only writes `line`, the number of that line, counted from 1, a colon and
+/// the answer to it. `--core`, right after `--det`, `canon` or `sort`, takes the order of the core
+/// deterministic encoding in place of the canonical one (section 4.2.1: bytewise).
 ///
 /// `diag --binary` and `read --binary`, and a limit after them, take the input as the items of a
 /// sequence in bytes. They show each as soon as it is read, by its notation or its encoding in hex,

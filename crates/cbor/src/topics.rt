@@ -13,6 +13,7 @@ cbor: CBOR (RFC 8949) from the standard input, as lines of hex or, with --binary
   cbor canon [--core] [limit]           its deterministic one: bf02000100ff gives ok a201000200
   cbor diag [--indent] [limit]          its diagnostic notation: a1616101 gives {\"a\": 1}
   cbor seq                              each line's items: 0102 gives ok 01 02
+  cbor dump                             its heads, each with what it says, and an empty line
   cbor sort [--core]                    all lines' items in order: 6161 and 00 give 00 and 6161
   cbor diag --binary [--indent] [limit] each item of a file: cbor diag --binary < file.cbor
   cbor read --binary [limit]            the same in hex: cbor read --binary < file.cbor

@@ -40,6 +40,9 @@ fn judge_alone(words: &[String]) -> Option<Command>
     if are_words(words, &["seq"]) {
         return Some(Command::Answer(Reading::Sequence));
     }
+    if are_words(words, &["dump"]) {
+        return Some(Command::Answer(Reading::Dump));
+    }
     if are_words(words, &["--help"]) {
         return Some(Command::Tell(Topic::Help));
     }

@@ -34,6 +34,9 @@ pub use Rattle.ciborium_ll.specs.Writing
 pub use Rattle.ciborium_ll.specs.ProperItems
 pub use Rattle.ciborium_ll.specs.HeadMessages
 pub use Rattle.ciborium_ll.specs.ReaderSteps
+pub use Rattle.ciborium_ll.specs.Levels
+pub use Rattle.ciborium_ll.specs.ItemLengths
+pub use Rattle.ciborium_ll.specs.ItemHeads
 pub use Rattle.ciborium_value.specs.Tree
 pub use Rattle.ciborium_value.specs.Meaning
 pub use Rattle.ciborium_value.specs.Number

@@ -1,6 +1,6 @@
 //! Heads, strings and offsets over any reader and writer: the lowest layer, re-exported.
 
 pub use ciborium_ll::{
-    Access, Answered, Buffered, Decoder, Encoder, Error, Failed, Header, Keep, Plain, Slice,
-    simple, tag,
+    Access, Answered, Buffered, Decoder, Encoder, Error, Failed, Header, ItemHead, ItemHeads, Keep,
+    NoItem, Plain, Slice, is_well_formed, item_len, simple, tag,
 };

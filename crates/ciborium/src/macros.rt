@@ -8,14 +8,14 @@
 ///
 /// It gives a `Result<Value, value::Error>`, and has no `?` of its own that would leave the
 /// function around it. Every expression is evaluated once, in the order of the text, also behind
-/// one that has no item; it is borrowed, and its tree is made by `Value::serialized` before the next
-/// one is evaluated. The pairs of a map keep their order, and repeated keys are kept. An array or a
-/// block of the language is written in parentheses.
+/// one that has no item; it is borrowed, and its tree is made by `Value::serialized` before the
+/// next one is evaluated. The pairs of a map keep their order, and repeated keys are kept. An array
+/// or a block of the language is written in parentheses.
 ///
 /// Calls of macros nest at most 128 deep. Of these a literal takes two, and on the way to its
 /// innermost part two for each list or map, one for each item of those lists and two for each pair
-/// of those maps. So one list may have 124 items, one map 62 pairs, and there may be 42 lists of one
-/// item in one another. A longer list has to be an expression, such as a `Vec` or a `Value`.
+/// of those maps. So one list may have 124 items, one map 62 pairs, and there may be 42 lists of
+/// one item in one another. A longer list has to be an expression, such as a `Vec` or a `Value`.
 ///
 /// # Errors
 ///

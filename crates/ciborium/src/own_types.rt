@@ -22,7 +22,8 @@ macro_rules! write_struct {
             $crate::write_struct!(@map $value $($($rest)*)?),
         )
     };
-    (@map $value:ident $field:ident $(: $label:literal)? $(= $default:expr)? $(, $($rest:tt)*)?) => {
+    (@map $value:ident
+        $field:ident $(: $label:literal)? $(= $default:expr)? $(, $($rest:tt)*)?) => {
         $crate::ser::Field(
             $crate::label!($field $($label)?),
             &$value.$field,
@@ -121,10 +122,12 @@ macro_rules! read_struct {
 /// Those of the data.
 #[macro_export]
 macro_rules! write_enum {
-    ($value:ident, $sink:ident, {$($variant:ident $(($data:tt))? $(: $label:literal)?),* $(,)?}) => {
+    ($value:ident, $sink:ident,
+        {$($variant:ident $(($data:tt))? $(: $label:literal)?),* $(,)?}) => {
         match $value {
-            $($crate::write_enum!(@pattern $variant data $($data)?) =>
-                $crate::write_enum!(@written $sink ($crate::label!($variant $($label)?)) data $($data)?),)*
+            $($crate::write_enum!(@pattern $variant data $($data)?) => $crate::write_enum!(
+                @written $sink ($crate::label!($variant $($label)?)) data $($data)?
+            ),)*
         }
     };
 
@@ -142,8 +145,8 @@ macro_rules! write_enum {
     };
 }
 
-/// The body of `deserialize` of an enum, from the name of a variant, or from a map from that name to
-/// its data. It gives a `Result<Self, S::Error>`.
+/// The body of `deserialize` of an enum, from the name of a variant, or from a map from that name
+/// to its data. It gives a `Result<Self, S::Error>`.
 ///
 ///     read_enum!(alloc, source, {Point, Circle(_), Square(_): "square"})
 ///
@@ -152,7 +155,8 @@ macro_rules! write_enum {
 /// `Variant` where no variant has the name, and those of `begin_variant` and of the data.
 #[macro_export]
 macro_rules! read_enum {
-    ($alloc:ident, $source:ident, {$($variant:ident $(($data:tt))? $(: $label:literal)?),* $(,)?}) => {{
+    ($alloc:ident, $source:ident,
+        {$($variant:ident $(($data:tt))? $(: $label:literal)?),* $(,)?}) => {{
         let (name, level) = $source.begin_variant($alloc)?;
         $(if name.as_str() == $crate::label!($variant $($label)?) {
             let value = $crate::read_enum!(@read $alloc $source $variant $($data)?);

@@ -1,12 +1,12 @@
 //! A struct by the names of its fields.
 
-ghost use Rattle.std.specs.Prelude.{◌∷◌, List, Ok, [], pos, string_bytes, ℕ};
-ghost use Rattle.ciborium.specs.Labels.{fields_of, label};
-ghost use Rattle.ciborium.specs.Sinks.{named_text, number_item};
-ghost use Rattle.ciborium.specs.StructReadings.{field, no_field, struct_of};
+ghost use Rattle.ciborium.specs.OwnTypes.{described, label, refl, struct_description, then_field};
+ghost use Rattle.ciborium.specs.OwnTypes.{then_no_field};
 
-use ciborium::de::{Deserialize, Source, Wanted, read_fields, required};
-use ciborium::ser::{Field, NoField, Serialize, Sink};
+use ciborium::de::{Deserialize, Source};
+use ciborium::described::{AsDescribed, Described};
+use ciborium::ser::{Serialize, Sink};
+use ciborium::{read_struct, write_struct};
 use std::alloc::Global;
 
 /// A message: a map of two pairs.
@@ -16,31 +16,33 @@ pub struct Message {
     pub body: String,
 }
 
+impl Described for Message {
+    ghost description = { struct_description
+        (then_field (label "version") (λ m. m.version) ⟦<u8 as Described>⟧.description
+        (then_field (label "body") (λ m. m.body) ⟦<String as Described>⟧.description
+        then_no_field)) };
+}
+
+impl AsDescribed for Message {
+    ghost as_described = { described ⟦<Message as Described>⟧.description refl };
+}
+
 impl Serialize for Message {
-    ghost written = { λ m. fields_of ((label "version", Ok (number_item (pos m.version))) ∷
-        (label "body", named_text (string_bytes m.body)) ∷ []) };
+    ghost written = { ⟦<Message as Described>⟧.description.written };
 
     ghost takes_memory = { ⊥ };
 
     fn serialize<S: Sink>(&self, sink: &mut S) -> Result<(), S::Error> {
-        Field("version", &self.version, Field("body", &self.body, NoField)).serialize(sink)
+        write_struct!(self, sink, {version, body})
     }
 }
 
 impl Deserialize for Message {
-    ghost Content = { ℕ × (List ℕ × Unit {0}) };
+    ghost Content = { ⟦<Message as Described>⟧.description.Content };
 
-    ghost reading = { struct_of (λ m. (m.version, (string_bytes m.body, tt)))
-        (field (label "version") ⟦<u8 as Deserialize>⟧.reading
-        (field (label "body") ⟦<String as Deserialize>⟧.reading no_field)) };
+    ghost reading = { ⟦<Message as Described>⟧.description.reading };
 
     fn deserialize<S: Source>(alloc: Global, source: &mut S) -> Result<Message, S::Error> {
-        let mut fields = Wanted("version", None, Wanted("body", None, NoField));
-        read_fields(alloc, source, &mut fields)?;
-        let Wanted(_, version, Wanted(_, body, NoField)) = fields;
-        Ok(Message {
-            version: required(source, version)?,
-            body: required(source, body)?,
-        })
+        read_struct!(alloc, source, {version, body})
     }
 }

@@ -6,6 +6,7 @@ pub mod array_types;
 pub mod callers;
 pub mod described_callers;
 pub mod described_types;
+pub mod framing;
 pub mod head_callers;
 pub mod key_types;
 pub mod messages;

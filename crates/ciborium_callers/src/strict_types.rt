@@ -34,7 +34,7 @@ impl Serialize for Order {
     ghost takes_memory = { ⊥ };
 
     fn serialize<S: Sink>(&self, sink: &mut S) -> Result<(), S::Error> {
-        write_struct!(self, sink, {amount, note})
+        write_struct!(self, sink, {amount, note = None, ..NoOtherField})
     }
 }
 

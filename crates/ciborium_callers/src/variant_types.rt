@@ -127,7 +127,7 @@ impl Serialize for Remark {
     ghost takes_memory = { ⊥ };
 
     fn serialize<S: Sink>(&self, sink: &mut S) -> Result<(), S::Error> {
-        write_enum!(self, sink, {Silent, Spoken(_)})
+        write_enum!(self, sink, {Silent, Spoken(_): "Spoken"})
     }
 }
 
@@ -137,7 +137,7 @@ impl Deserialize for Remark {
     ghost reading = { ⟦<Remark as Described>⟧.description.reading };
 
     fn deserialize<S: Source>(alloc: Global, source: &mut S) -> Result<Remark, S::Error> {
-        read_enum!(alloc, source, {Silent, Spoken(_)})
+        read_enum!(alloc, source, {Silent: "Silent", Spoken(_)})
     }
 }
 

@@ -1,6 +1,6 @@
 //! The calls that README and CALLING show, as they stand there, and what they answer.
 use crate::expectations::{expect, expect_bytes, expect_same};
-use ciborium::ll::{Decoder, Encoder, Header};
+use ciborium::ll::{Decoder, Encoder, Header, NoItem, item_len};
 use ciborium::tag::Required;
 use ciborium::value::canonical::cmp_value;
 use ciborium::value::{CanonicalValue, Integer, KeyOrder, OutOfRange};
@@ -44,6 +44,15 @@ fn reading_a_head(rt: HostRuntime) -> Result<(), Fail> {
     let mut bytes: &[u8] = &[0x18, 0x20];
     let header = Decoder::new(&mut bytes).pull()?; // Header::Positive(32)
     assert_eq!(rt; header, Header::Positive(32));
+    Ok(())
+}
+
+#[test]
+fn framing(rt: HostRuntime) -> Result<(), Fail> {
+    let half = item_len(&[0x82, 0x01]); // Err(NoItem::Incomplete): more has to come
+    let length = item_len(&[0x82, 0x01, 0xf6, 0x00]); // Ok(3), of any item
+    assert_eq!(rt; half, Err(NoItem::Incomplete));
+    assert_eq!(rt; length, Ok(3));
     Ok(())
 }
 

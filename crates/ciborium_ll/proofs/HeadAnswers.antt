@@ -38,7 +38,8 @@ unreserved-long m a h = grind (arith, nat_tests)
 long-other : (x : ℕ) → 1 < argument_length (x % 32) → x ≡ 248 → ⊥
 long-other x h e = let one : argument_length (x % 32) ≡ 1 = ap (λ y. argument_length (y % 32)) e in omega arith
 
-short-low : (x : ℕ) (b : List ℕ) → length b < argument_length (x % 32) → is_low_simple x b ≡ false
+pub short-low : (x : ℕ) (b : List ℕ) → length b < argument_length (x % 32) →
+    is_low_simple x b ≡ false
 short-low x [] h = refl
 short-low x (y ∷ b) h = ap (λ t. t && ltb y 32) (ne_eqb x 248 (long-other x (omega arith)))
 

@@ -17,3 +17,11 @@ pub mod OpenStrings
 pub mod MoreBytes
 pub mod Unread
 pub mod FirstHeads
+pub mod KeptLevels
+pub mod LevelEnds
+pub mod LevelHeads
+pub mod LevelFronts
+pub mod LevelMisfits
+pub mod BegunTexts
+pub mod CutHeads
+pub mod HeadsRead

@@ -16,4 +16,7 @@ pub mod laws
 pub mod inner
 pub mod ProperItems
 pub mod HeadMessages
+pub mod Levels
+pub mod ItemLengths
+pub mod ItemHeads
 pub mod ReaderSteps

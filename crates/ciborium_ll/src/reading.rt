@@ -19,7 +19,7 @@ use std::marker::PhantomData;
 
 // How many bytes of payload a definite string's head announces.
 #[inline(always)]
-fn payload_size(header: Header) -> usize
+pub(crate) fn payload_size(header: Header) -> usize
     ensures { result ≡ announced_length header }
 {
     match header {
@@ -73,7 +73,7 @@ const SIZES: [usize; 8] = [2, 3, 5, 9, 1, 1, 1, 1];
 
 // How many bytes a head with this additional information has.
 #[inline(always)]
-fn front_size(info: u8) -> usize
+pub(crate) fn front_size(info: u8) -> usize
     requires { info < 32 }
     ensures size { result ≡ 1 + argument_length info }
     ensures at_most { result ≤ 9 }

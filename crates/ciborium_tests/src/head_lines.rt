@@ -3,6 +3,7 @@
 use crate::growth::{find_call, make_call, name_outcome};
 use crate::heads::{Question, ask_alike, ask_failing};
 use crate::integers::{compare_in_row, describe_number};
+use crate::outlines::outline;
 use crate::payloads::write_failing;
 use crate::pieces::{decode_pieces, parse_limited};
 use std::alloc::{AllocError, Global};
@@ -12,6 +13,7 @@ use std::alloc::{AllocError, Global};
 /// - `head OFFSET HEX`, `heads OFFSET HEX`: the first head at that offset, with its payload and as
 ///   it is written again, or each of the heads, with its offset and length
 /// - `first HEX`: what `pull_first` gives
+/// - `item HEX`: how long the item at the front is, and the offset and depth of each of its heads
 /// - `head-faults HEX`, `first-faults HEX`: the same where each read in turn fails
 /// - `payload HEX`: what `write_all` puts out where each write in turn fails
 /// - `growth CALL`: what comes of that call
@@ -31,7 +33,9 @@ pub fn answer_head_line(
         "integer" => describe_number(alloc, rest),
         "growth" => make_named(alloc, rest),
         "canonical" => compare_in_row(alloc, rest),
-        "first" | "head-faults" | "first-faults" | "payload" => answer_bytes(alloc, word, rest),
+        "first" | "item" | "head-faults" | "first-faults" | "payload" => answer_bytes(
+            alloc, word, rest,
+        ),
         _ => Ok(None),
     }
 }
@@ -43,6 +47,7 @@ fn answer_bytes(alloc: Global, word: &str, rest: &str) -> Result<Option<String>,
     };
     let answer = match word {
         "first" => ask_alike(alloc, Question::First, 0, &bytes)?,
+        "item" => outline(alloc, &bytes)?,
         "head-faults" => ask_failing(alloc, Question::Head, &bytes)?,
         "first-faults" => ask_failing(alloc, Question::First, &bytes)?,
         _ => write_failing(alloc, &bytes)?,

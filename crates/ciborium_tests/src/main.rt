@@ -24,6 +24,7 @@ mod notations;
 mod offsets;
 mod orders;
 mod outcome;
+mod outlines;
 mod payloads;
 mod pieces;
 mod plain_calls;

@@ -62,7 +62,8 @@ pub trait AsDescribed: Described + Serialize + Deserialize {
 impl Described for () {
     ghost description = { scalar ⟦<() as Deserialize>⟧.reading ⟦<() as Serialize>⟧.written
         (λ u. Unit {0}) never_byte_string unit-back unit-form
-        (from_content (λ u. ⟦<() as Serialize>⟧.written u) _) (as-never_byte_string (λ u. never-null)) };
+        (from_content (λ u. ⟦<() as Serialize>⟧.written u) _)
+        (as-never_byte_string (λ u. never-null)) };
 }
 
 impl Described for bool {

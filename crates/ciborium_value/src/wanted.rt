@@ -69,8 +69,8 @@ pub trait WantedFields: Labels + Drop {
     fn is_once(&self) -> bool
         ensures { result ≡ once };
 
-    /// Reads the item that the source stands before, which is the value under a label with
-    /// this place and at this offset: as the type of the first field of this label, replacing what was
+    /// Reads the item that the source stands before, which is the value under a label with this
+    /// place and at this offset: as the type of the first field of this label, replacing what was
     /// read of it before, or, where there is no such field, as a `Value`, which is dropped. It is
     /// refused where the item is, and where the end of the fields refuses the label. Then a prefix
     /// of what was unread has been taken and nothing else, and no more is left to read than before.
@@ -86,7 +86,8 @@ pub trait WantedFields: Labels + Drop {
         ensures ok { OnOk result ((name : labels.Label) → Self.place_of self.old name ≡ place →
             TakesAhead S.stands_before source.old source.new
             (fields self.old name (content self.old)) (content self.new)) }
-        ensures refused { IfErr result (λ e. (name : labels.Label) → Self.place_of self.old name ≡ place →
+        ensures refused { IfErr result
+            (λ e. (name : labels.Label) → Self.place_of self.old name ≡ place →
             RefusesAhead S.stands_before source.old
             (fields self.old name (content self.old)) (S.cause source.new e)) }
         ensures took { OnOk result (TakesItem S.is_unread source.old source.new) }

@@ -182,6 +182,21 @@ const RUNS: &[(&[&str], &str, &str, u8)] = &[
     (&["diag", "1"], "8180\n8101", "nesting\n[1]\n", 1),
     (&["diag"], "", "", 0),
     (
+        &["dump"],
+        "8101\r\nC200\n",
+        "0: 81  array of 1\n1:   01  unsigned 1\n\n0: c2  tag 2\n1:   00  unsigned 0\n\n",
+        0,
+    ),
+    (
+        &["dump"],
+        "8101\nzz\n81\n0001\n5f00\nf7",
+        "0: 81  array of 1\n1:   01  unsigned 1\n\nhex\n0: 81  array of 1\nincomplete\n\
+         0: 00  unsigned 0\ntrailing 1\n0: 5f  bytes of indefinite length\nmalformed at 1\n\
+         0: f7  undefined\n\n",
+        1,
+    ),
+    (&["dump"], "", "", 0),
+    (
         &["diag", "--indent"],
         "01\n8301820203a1616180\na0\n1e\n",
         "1\n[\n  1,\n  [\n    2,\n    3\n  ],\n  {\n    \"a\": []\n  }\n]\n{}\nsyntax 0\n",
@@ -478,6 +493,7 @@ fn tells_its_commands(rt: HostRuntime) -> Result<(), Fail> {
         "  cbor canon [--core] [limit] ",
         "  cbor diag [--indent] [limit] ",
         "  cbor seq ",
+        "  cbor dump ",
         "  cbor sort [--core] ",
         "  cbor diag --binary [--indent] [limit] ",
         "  cbor read --binary [limit] ",
@@ -636,6 +652,9 @@ const WRONG_WORDS: &[&[&str]] = &[
     &["diag", "--binary", "--indent", "x"],
     &["diag", "--binary", "--binary"],
     &["DIAG"],
+    &["dump", "1"],
+    &["dump", "--binary"],
+    &["DUMP"],
     &["read", "--binary", "x"],
     &["read", "--binary", "--binary"],
     &["read", "--binary", "--det"],

@@ -101,7 +101,8 @@ impl<'a, R, A: Access<R>> ByteSource<'a, R, A> {
         ensures pending { self.new.pending ≡ None }
         ensures fewer { OnOk result (bytes_weight self.new ≤ bytes_weight self.old) }
         ensures ok { IfOk result (λ place. TakesPlace (IsUnread A.remaining self.old)
-            (IsUnread A.remaining self.new) of_text (Some n) (name_place (N.place_of names.now)) place) }
+            (IsUnread A.remaining self.new) of_text (Some n) (name_place (N.place_of names.now))
+            place) }
         ensures denied { IfErr result
             (λ e. DeniesContent (IsUnread A.remaining self.old) (end_at A.remaining self.old)
             of_text (Some n) (fault_at A.can_fail A.remaining self.new e)) }

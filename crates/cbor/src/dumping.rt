@@ -1,0 +1,203 @@
+//! Annotated dumps: a line for each head of an item.
+
+ghost use Rattle.std.specs.Prelude.{◌≡◌, ◌++◌, [], IfOk, OnOk, Some, codes};
+ghost use Rattle.std.specs.List.{repeat};
+ghost use Rattle.ciborium_value.specs.Notation.{quoted};
+ghost use Rattle.cbor.specs.Dumped.{AreLinesOf, IsDumpOf, entry_of};
+ghost use Rattle.cbor.specs.Dumped.{head_words, line_of};
+ghost use Rattle.cbor.specs.Dumped.{payload_words, place_text, reason_text};
+ghost use Rattle.cbor.specs.Line.{trailing_text};
+
+use crate::digits::push_digits;
+use crate::reading::Layout;
+use crate::showing::push_notation;
+use ciborium_ll::{Header, ItemHead, ItemHeads, NoItem};
+use ciborium_value::Value;
+use std::alloc::{AllocError, Global};
+use std::fmt;
+use std::io::Write;
+
+/// Makes `text` the dump of these bytes, and says whether they are one item.
+///
+/// Each head of the item has a line, in their order: its offset in decimal, a colon and a space,
+/// two spaces for each level that is open around it, its bytes and right behind them its payload's
+/// in lower-case hex, two spaces, and what it says; a text stands behind it in quotation marks, as
+/// in diagnostic notation. Where the bytes are no item, the lines are those of the heads before the
+/// place where that shows, and behind them stands why: `trailing` and the number of bytes that
+/// follow an item, `incomplete`, `malformed at` or `too deep at` and an offset.
+///
+/// # Errors
+///
+/// `AllocError` where an allocation fails.
+pub fn write_dump(alloc: Global, bytes: &[u8], text: &mut Vec<u8>) -> Result<bool, AllocError>
+    ensures { IfOk result (λ is_item. IsDumpOf bytes.now is_item text.new.items) }
+{
+    text.clear();
+    match push_heads(alloc, bytes, text)? {
+        Ok(0) => Ok(true),
+        Ok(count) => {
+            push_trailing(count, text)?;
+            Ok(false)
+        }
+        Err(reason) => {
+            push_reason(reason, text)?;
+            Ok(false)
+        }
+    }
+}
+
+// Puts the lines of the heads of these bytes into an empty text, and says how many bytes follow the
+// item, or why there is none.
+fn push_heads(
+    alloc: Global,
+    bytes: &[u8],
+    text: &mut Vec<u8>,
+) -> Result<Result<usize, NoItem>, AllocError>
+    requires { text.old.items ≡ [] }
+    ensures { IfOk result (λ answer. AreLinesOf bytes.now answer text.new.items) }
+{
+    let mut heads = ItemHeads::new(bytes);
+    'heads: loop {
+        match heads.next() {
+            Ok(Some(head)) => push_line(alloc, &head, text)?,
+            Ok(None) => return Ok(Ok(heads.rest().len())),
+            Err(reason) => return Ok(Err(reason)),
+        }
+    }
+}
+
+// Appends the line of a head.
+fn push_line(alloc: Global, head: &ItemHead, text: &mut Vec<u8>) -> Result<(), AllocError>
+    ensures { OnOk result (text.new.items ≡ text.old.items ++ line_of (entry_of head.now)) }
+{
+    push_place(head.offset, head.depth, text)?;
+    push_digits(head.bytes, text)?;
+    push_digits(head.payload, text)?;
+    text.extend_from_slice(b"  ")?;
+    push_words(head.header, text)?;
+    push_payload(alloc, head.header, head.payload, text)?;
+    text.extend_from_slice(b"\n")
+}
+
+// Appends where a head stands.
+fn push_place(offset: usize, depth: usize, text: &mut Vec<u8>) -> Result<(), AllocError>
+    ensures { OnOk result (text.new.items ≡ text.old.items ++ place_text offset depth) }
+{
+    if write!(text, "{offset}: ").is_err() {
+        return Err(AllocError);
+    }
+    push_indent(depth, text)
+}
+
+// Appends two spaces for each level.
+fn push_indent(depth: usize, text: &mut Vec<u8>) -> Result<(), AllocError>
+    ensures { OnOk result (text.new.items ≡ text.old.items ++ repeat depth (codes "  ")) }
+{
+    'levels: for _ in 0..depth {
+        text.extend_from_slice(b"  ")?;
+    }
+    Ok(())
+}
+
+// Appends what a head says.
+fn push_words(header: Header, text: &mut Vec<u8>) -> Result<(), AllocError>
+    ensures { OnOk result (text.new.items ≡ text.old.items ++ head_words header) }
+{
+    let words = Words { header };
+    if write!(text, "{words}").is_err() {
+        return Err(AllocError);
+    }
+    Ok(())
+}
+
+// What a head says.
+#[derive(Clone, Copy)]
+struct Words {
+    header: Header,
+}
+
+impl fmt::Display for Words {
+    ghost output = { λ words. Some (head_words words.header) };
+
+    fn fmt<W: fmt::Write>(&self, f: &mut fmt::Formatter<W>) -> fmt::Result {
+        match self.header {
+            Header::Positive(n) => write!(f, "unsigned {n}"),
+            Header::Negative(n) => write!(f, "negative -{}", u128::from(n) + 1),
+            Header::Bytes(Some(n)) => write!(f, "bytes of {n}"),
+            Header::Bytes(None) => f.write_str("bytes of indefinite length"),
+            Header::Text(Some(n)) => write!(f, "text of {n}"),
+            Header::Text(None) => f.write_str("text of indefinite length"),
+            Header::Array(Some(n)) => write!(f, "array of {n}"),
+            Header::Array(None) => f.write_str("array of indefinite length"),
+            Header::Map(Some(n)) => write!(f, "map of {n}"),
+            Header::Map(None) => f.write_str("map of indefinite length"),
+            Header::Tag(n) => write!(f, "tag {n}"),
+            Header::Simple(20) => f.write_str("false"),
+            Header::Simple(21) => f.write_str("true"),
+            Header::Simple(22) => f.write_str("null"),
+            Header::Simple(23) => f.write_str("undefined"),
+            Header::Simple(n) => write!(f, "simple {n}"),
+            Header::Float(n) => write!(f, "float of {n} bytes"),
+            Header::Break => f.write_str("break"),
+        }
+    }
+}
+
+// Appends what is shown of the payload behind a head.
+fn push_payload(
+    alloc: Global,
+    header: Header,
+    payload: &[u8],
+    text: &mut Vec<u8>,
+) -> Result<(), AllocError>
+    ensures { OnOk result
+        (text.new.items ≡ text.old.items ++ payload_words header payload.now) }
+{
+    match header {
+        Header::Text(Some(_)) => push_quoted(alloc, payload, text),
+        _ => Ok(()),
+    }
+}
+
+// Appends a space and a text in quotation marks. It is UTF-8, so that error is unreachable in
+// practice.
+fn push_quoted(alloc: Global, payload: &[u8], text: &mut Vec<u8>) -> Result<(), AllocError>
+    ensures { OnOk result
+        (text.new.items ≡ text.old.items ++ (codes " " ++ quoted payload.now)) }
+{
+    let mut copy = Vec::new(alloc);
+    copy.extend_from_slice(payload)?;
+    let Ok(copy) = String::from_utf8(copy) else {
+        return Err(AllocError);
+    };
+    text.push(b' ')?;
+    push_notation(&Value::Text(copy), Layout::OneLine, text)
+}
+
+// Appends that bytes follow an item.
+fn push_trailing(count: usize, text: &mut Vec<u8>) -> Result<(), AllocError>
+    ensures { OnOk result (text.new.items ≡ text.old.items ++ trailing_text count) }
+{
+    if write!(text, "trailing {count}").is_err() {
+        return Err(AllocError);
+    }
+    Ok(())
+}
+
+// Appends why no item stands at the front.
+fn push_reason(reason: NoItem, text: &mut Vec<u8>) -> Result<(), AllocError>
+    ensures { OnOk result (text.new.items ≡ text.old.items ++ reason_text reason) }
+{
+    let written = match reason {
+        NoItem::Incomplete => write!(text, "incomplete"),
+        NoItem::Malformed(offset) => write!(text, "malformed at {offset}"),
+        NoItem::TooDeep(offset) => write!(text, "too deep at {offset}"),
+    };
+    if written.is_err() {
+        return Err(AllocError);
+    }
+    Ok(())
+}
+
+#[cfg(test)]
+mod tests;

@@ -1,0 +1,52 @@
+-- What a reader of an item's heads has read, and what it answers next (RFC 8949, section 3).
+use Rattle.std.specs.Prelude.{◌≡◌, ℕ, ◌-◌, ◌≤◌, List, [], ◌++◌, length, take, drop, Option, Some}
+use Rattle.std.specs.Prelude.{None, Result, Ok, Err}
+use Rattle.ciborium_ll.specs.declared.item_heads.ItemHead.{ItemHead}
+use Rattle.ciborium_ll.specs.declared.item_heads.ItemHeads.{ItemHeads}
+use Rattle.ciborium_ll.specs.declared.item_heads.NoItem.{NoItem}
+use Rattle.ciborium_ll.specs.declared.item_heads.NoItem.TheVariants.{Incomplete, Malformed, TooDeep}
+use Rattle.ciborium_ll.specs.declared.levels.Level.{Level}
+use Rattle.ciborium_ll.specs.Header.{SpellsHeader}
+use Rattle.ciborium_ll.specs.ItemLengths.{EndInside, IsNoItem}
+use Rattle.ciborium_ll.specs.Levels.{AreItem, IsOpenBehind, IsPayloadOf, behind_head, incomplete}
+use Rattle.ciborium_ll.specs.inner.KeptLevels.{levels_in}
+
+-- what was read, and what is unread
+abbrev pub was_read : ItemHeads → List ℕ
+was_read heads = take heads.offset heads.bytes.now
+
+abbrev pub unread : ItemHeads → List ℕ
+unread heads = drop heads.offset heads.bytes.now
+
+-- the levels that are open, the innermost first
+abbrev pub open_in : ItemHeads → List Level
+open_in heads = levels_in heads.levels
+
+-- what was read is the beginning of an item, or all of one where no level is open
+pub record HasRead (heads : ItemHeads) : Type 0 where
+  pub within : heads.offset ≤ length heads.bytes.now
+  pub levels : IsOpenBehind (was_read heads) (open_in heads)
+  pub incomplete : incomplete (open_in heads) ≡ open_in heads
+
+-- this head was read, which stood at the front of what was unread, with its payload
+pub record IsHeadRead (old new : ItemHeads) (head : ItemHead) : Type 0 where
+  pub same : new.bytes.now ≡ old.bytes.now
+  pub spelled : SpellsHeader head.bytes.now head.header
+  pub payload : IsPayloadOf head.header head.payload.now
+  pub front : unread old ≡ head.bytes.now ++ (head.payload.now ++ unread new)
+  pub offset : head.offset ≡ old.offset
+  pub depth : head.depth ≡ length (open_in old) - 1
+  pub levels : (more : List Level) × (behind_head head.header (open_in old) ≡ Some more) ×
+      (open_in new ≡ incomplete more)
+
+-- the reason shows right behind what was read
+abbrev pub ShowsAt : ItemHeads → NoItem → Type 0
+ShowsAt heads Incomplete = EndInside (unread heads)
+ShowsAt heads (Malformed p) = p ≡ heads.offset
+ShowsAt heads (TooDeep p) = p ≡ heads.offset
+
+-- the next head is answered so: none where what was read is an item
+abbrev pub IsNext : ItemHeads → ItemHeads → Result (Option ItemHead) NoItem → Type 0
+IsNext old new (Ok None) = AreItem (was_read old) × (open_in old ≡ []) × (new ≡ old)
+IsNext old new (Ok (Some head)) = HasRead new × IsHeadRead old new head
+IsNext old new (Err e) = IsNoItem old.bytes.now e × ShowsAt old e
