@@ -4,4 +4,6 @@ pub mod NextParts
 pub mod NullAhead
 pub mod HeldLevels
 pub mod NamedVariants
+pub mod Labels
 pub mod ByteItems
+pub mod HeadsAside

@@ -9,3 +9,8 @@ pub mod Weights
 pub mod ValuesGiven
 pub mod ValueFaults
 pub mod WholeValues
+pub mod PassedItems
+pub mod PassedHeads
+pub mod PassedLevels
+pub mod PassedRoom
+pub mod PassedOver

@@ -5,3 +5,4 @@ pub mod LoneCharacters
 pub mod ReadDigits
 pub mod OpenNumbers
 pub mod ShortNames
+pub mod SkippedPayloads

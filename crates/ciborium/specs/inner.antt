@@ -6,6 +6,7 @@ pub mod Rules
 pub mod Turns
 pub mod ValuesInBytes
 pub mod Skips
+pub mod PassedOver
 pub mod StringContents
 pub mod StringAnswers
 pub mod Unread

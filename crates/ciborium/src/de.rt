@@ -31,7 +31,7 @@ pub use buffered::{
 use byte_source::ByteSource;
 use ciborium_ll::{Access, Decoder, Header, Plain};
 pub use ciborium_value::{
-    Array, Deserialize, FieldPlace, FieldsEnd, Item, Key, Kind, Label, LabelKind, Labels, NoField,
+    Array, Deserialize, FieldPlace, FieldsEnd, Item, Key, Kind, Label, Labels, NoField,
     NoFieldTwice, NoItem, NoOtherField, SoughtLabel, Source, UniqueKeys, Wanted, WantedFields,
     WantedItems, found_or, read_fields, required,
 };

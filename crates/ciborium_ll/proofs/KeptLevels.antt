@@ -7,8 +7,8 @@ use Rattle.ciborium_ll.specs.declared.levels.Step.{Step}
 use Rattle.ciborium_ll.specs.declared.levels.Step.TheVariants.{Within, Opens}
 use Rattle.ciborium_ll.specs.declared.levels.Level.{Level}
 use Rattle.ciborium_ll.specs.declared.levels.Level.TheVariants.{Items}
-use Rattle.ciborium_ll.specs.Levels.{behind_head, incomplete}
-use Rattle.ciborium_ll.specs.inner.KeptLevels.{levels_by, top_of}
+use Rattle.ciborium_ll.specs.Levels.{behind_head, incomplete, levels_by}
+use Rattle.ciborium_ll.specs.inner.KeptLevels.{top_of}
 
 -- the innermost level stands before the others
 pub top-first : (k : ℕ) (room : List Level) (level : Level) → top_of (drop k room) ≡ Some level →

@@ -7,6 +7,8 @@ use Rattle.ciborium_ll.specs.declared.header.Header.TheVariants as header
 use Rattle.ciborium_ll.specs.declared.levels.Level.{Level}
 use Rattle.ciborium_ll.specs.declared.levels.Level.TheVariants.{Items, OpenItems, OpenKeys}
 use Rattle.ciborium_ll.specs.declared.levels.Level.TheVariants.{OpenValues, ByteChunks, TextChunks}
+use Rattle.ciborium_ll.specs.declared.levels.Step.{Step}
+use Rattle.ciborium_ll.specs.declared.levels.Step.TheVariants as step
 use Rattle.ciborium_ll.specs.Head.{break_byte}
 use Rattle.ciborium_ll.specs.Item as item
 use Rattle.ciborium_ll.specs.Item.{Item, items_count}
@@ -103,6 +105,13 @@ behind_head (header.Tag n) levels = opened (Items 1) levels
 behind_head (header.Simple n) levels = behind_item levels
 behind_head (header.Float size) levels = behind_item levels
 behind_head header.Break levels = behind_break levels
+
+-- the levels behind a step, of which these are open around the innermost before it
+abbrev pub levels_by : Step → List Level → Option (List Level)
+levels_by (step.Within level) levels = Some (level ∷ levels)
+levels_by (step.Opens level inner) levels = Some (inner ∷ level ∷ levels)
+levels_by step.Ends levels = Some levels
+levels_by step.Misplaced levels = None
 
 -- the levels that are not complete
 abbrev pub incomplete : List Level → List Level

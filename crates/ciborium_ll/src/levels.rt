@@ -2,8 +2,7 @@
 
 ghost use Rattle.std.specs.Prelude.{◌≡◌, ◌∷◌, List, option_map};
 ghost use Rattle.ciborium_ll.specs.Levels as levels;
-ghost use Rattle.ciborium_ll.specs.Levels.{behind_head, opened, behind_break};
-ghost use Rattle.ciborium_ll.specs.inner.KeptLevels.{levels_by};
+ghost use Rattle.ciborium_ll.specs.Levels.{behind_head, opened, behind_break, levels_by};
 
 use crate::header::Header;
 
@@ -27,19 +26,21 @@ pub enum Level {
 // How many levels are kept at most: that of the item itself, and 256 within it.
 const MOST_LEVELS: usize = 257;
 
-// What a head does to the innermost level.
-enum Step {
-    // It becomes this one.
+/// What a head does to the innermost level.
+#[derive(Clone, Copy, Debug)]
+pub enum Step {
+    /// It becomes this one.
     Within(Level),
-    // It becomes the first one, and the second is open inside it.
+    /// It becomes the first one, and the second is open inside it.
     Opens(Level, Level),
-    // It has ended.
+    /// It has ended.
     Ends,
-    // The head may not stand there.
+    /// The head may not stand there.
     Misplaced,
 }
 
 // The level behind an item that stands in this one, or `None` where none may.
+#[inline(always)]
 fn behind_item(level: Level) -> Option<Level>
     ensures { (around : List Level) →
         levels.behind_item (level ∷ around) ≡ option_map (λ next. next ∷ around) result }
@@ -54,6 +55,7 @@ fn behind_item(level: Level) -> Option<Level>
 }
 
 // The step of an item without parts.
+#[inline(always)]
 fn within(level: Level) -> Step
     ensures { (around : List Level) →
         levels.behind_item (level ∷ around) ≡ levels_by result around }
@@ -65,6 +67,7 @@ fn within(level: Level) -> Step
 }
 
 // The step of an item with parts.
+#[inline(always)]
 fn opens(level: Level, inner: Level) -> Step
     ensures { (around : List Level) → opened inner (level ∷ around) ≡ levels_by result around }
 {
@@ -75,6 +78,7 @@ fn opens(level: Level, inner: Level) -> Step
 }
 
 // The step of a break.
+#[inline(always)]
 fn ends(level: Level) -> Step
     ensures { (around : List Level) → behind_break (level ∷ around) ≡ levels_by result around }
 {
@@ -84,8 +88,9 @@ fn ends(level: Level) -> Step
     }
 }
 
-// What this head does to this level.
-fn step_of(header: Header, level: Level) -> Step
+/// What this head, with the payload behind it, does to this level.
+#[inline(always)]
+pub fn step_of(header: Header, level: Level) -> Step
     ensures { (around : List Level) →
         behind_head header (level ∷ around) ≡ levels_by result around }
 {

@@ -28,5 +28,5 @@ pub use header::{Error, Header, head_size};
 pub use integer::{Integer, OutOfRange};
 pub use item_heads::{ItemHead, ItemHeads, NoItem, is_well_formed, item_len};
 pub use keep::{Answered, Keep};
-pub use levels::Level;
+pub use levels::{Level, Step, step_of};
 pub use writing::Failed;

@@ -7,3 +7,4 @@ pub mod TreeReading
 pub mod TreeCalls
 pub mod TreeFaults
 pub mod TreeLevels
+pub mod SkippedItems

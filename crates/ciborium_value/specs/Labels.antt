@@ -8,8 +8,7 @@ use Rattle.ciborium_ll.specs.Item.{Item, unsigned, negative, bytes, text, tag}
 use Rattle.ciborium_value.specs.Meaning.{is_bignum_tag}
 use Rattle.ciborium_value.specs.Places.{dictionary}
 use Rattle.ciborium_value.specs.Sinks.{Named, container_of, in_turn, named_text, number_item}
-use Rattle.ciborium_value.specs.Taken.{Taken, give, mapped, taken_integer}
-use Rattle.ciborium_value.specs.Taken.{taken_place, taken_value, then_read}
+use Rattle.ciborium_value.specs.Taken.{Taken, mapped, taken_integer, taken_place, taken_skip}
 use Rattle.ciborium_value.specs.declared.kind.Kind.TheVariants as kinds
 use Rattle.ciborium_value.specs.declared.labels.LabelKind.{LabelKind}
 use Rattle.ciborium_value.specs.declared.labels.LabelKind.TheVariants.{Name, Number, Other}
@@ -57,8 +56,7 @@ number_or (Some v) n m = n
 
 -- ---- what is read of a key
 
--- how a key is read: as a number, or as a name, tags before it skipped, or else as a value, which is
--- dropped
+-- how a key is read: as a number, or as a name, tags before it skipped, or else it is passed over
 abbrev pub label_kind : Item → LabelKind
 label_kind (unsigned n) = Number
 label_kind (negative n) = Number
@@ -74,7 +72,7 @@ name_place place name = place (named name)
 abbrev pub placed : {P : Type 0} → (Label → P) → LabelKind → Taken P
 placed place Name i = taken_place (name_place place) i
 placed place Number i = mapped (λ n. place (numbered (complement_if n.0 n.1))) (taken_integer i)
-placed place Other i = then_read (taken_value i) (λ v. give (place other))
+placed place Other i = mapped (λ _. place other) (taken_skip i)
 
 -- the place among labels of a key
 abbrev pub label_place : {P : Type 0} → (Label → P) → Taken P

@@ -5,8 +5,8 @@ use Rattle.std.specs.Prelude.{Err, ◌&&◌, if◌then◌else◌}
 use Rattle.ciborium_ll.specs.Item.{Item}
 use Rattle.ciborium_value.specs.Labels.{Label, is_label, taken_label}
 use Rattle.ciborium_value.specs.Readings.{Reading, option_of, spacious, unordered}
-use Rattle.ciborium_value.specs.Taken.{Steps, Taken, chosen, decided, give, mapped}
-use Rattle.ciborium_value.specs.Taken.{refuse, taken_value, then_read}
+use Rattle.ciborium_value.specs.Taken.{Steps, Taken, chosen, decided, give, mapped, refuse}
+use Rattle.ciborium_value.specs.Taken.{taken_skip, then_read}
 use Rattle.ciborium_value.specs.TakenParts.{after_pairs, taken_then}
 use Rattle.ciborium_value.specs.declared.kind.Kind.{Kind}
 use Rattle.ciborium_value.specs.declared.kind.Kind.TheVariants as kinds
@@ -19,9 +19,9 @@ use Rattle.ciborium_value.specs.declared.wanted.FieldPlace.TheVariants.{First, B
 abbrev pub FieldsTaken : Type 0 → Type 1
 FieldsTaken C = Label → C → Taken C
 
--- no field: whatever stands there is read as a value, and dropped
+-- no field: whatever stands there is passed over
 abbrev pub no_field_taken : {C : Type 0} → FieldsTaken C
-no_field_taken name c = taken_then taken_value (λ _. give c)
+no_field_taken name c i = mapped (λ _. c) (taken_skip i)
 
 -- no field, and no other name: whatever stands there is refused
 abbrev pub no_other_taken : {C : Type 0} → FieldsTaken C

@@ -11,7 +11,7 @@ use Rattle.ciborium_ll.specs.Item.{Item, Items, Pairs, unsigned, negative, bytes
 use Rattle.ciborium_ll.specs.Item.{simple, float}
 use Rattle.ciborium_value.specs.Meaning.{big_endian, without_zeros, is_bignum_tag, folding_bytes}
 use Rattle.ciborium_value.specs.Meaning.{bignum_meaning, simple_meaning}
-use Rattle.ciborium_value.specs.Nesting.{Limit}
+use Rattle.ciborium_value.specs.Nesting.{Limit, nesting}
 use Rattle.ciborium_value.specs.Tree as trees
 use Rattle.ciborium_value.specs.Tree.{Tree, Trees, TreePairs}
 use Rattle.ciborium_value.specs.declared.kind.Kind.{Kind}
@@ -52,6 +52,11 @@ refuse k = decided (Err k)
 abbrev pub take_each : {X A : Type 0} → (X → Steps A) → List X → Steps (List A)
 take_each f [] = give []
 take_each f (x ∷ xs) = then_read (f x) (λ v. mapped (λ vs. v ∷ vs) (take_each f xs))
+
+-- these inside so many levels, all of which have to be left
+abbrev pub within_levels : {A : Type 0} → ℕ → Steps A → Steps A
+within_levels zero s = s
+within_levels (suc n) s = leveled (within_levels n s)
 
 -- ---- outcomes within a limit
 
@@ -309,6 +314,12 @@ bare_variant _ = refuse kinds.Variant
 -- name and the data
 abbrev pub taken_variant : Taken (List ℕ × Item)
 taken_variant i = bare_variant (untagged i)
+
+-- ---- whatever is ahead
+
+-- an item of any kind, whether it has a meaning or not, where it nests within the levels
+abbrev pub taken_skip : Taken (Unit {0})
+taken_skip i = within_levels (nesting i) (give tt)
 
 -- ---- whatever is ahead, as a tree
 

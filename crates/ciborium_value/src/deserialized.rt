@@ -11,7 +11,7 @@ ghost use Rattle.ciborium_value.specs.TreeAnswers.{IsErrorOf, tree_fault, value_
 use crate::deserialize::Deserialize;
 use crate::error::Error;
 use crate::kind::Kind;
-use crate::labels::{LabelKind, Labels};
+use crate::labels::Labels;
 use crate::source::Source;
 use crate::tree::Value;
 use ciborium_ll::Integer;
@@ -23,8 +23,8 @@ mod parts;
 
 use folding::fold_value;
 use parts::{
-    copy_bytes, copy_name, copy_text, find_boolean, find_character, find_label_kind,
-    find_lone_pair, find_name, find_null, find_number, skip_tags,
+    copy_bytes, copy_name, copy_text, find_boolean, find_character, find_lone_pair, find_null,
+    find_number, find_place, skip_tags,
 };
 
 impl Value {
@@ -187,18 +187,12 @@ impl<'a> Source for TreeSource<'a> {
         }
     }
 
-    fn place<N: Labels>(&mut self, _alloc: Global, names: &N) -> Result<N::Place, Error> {
+    fn label<N: Labels>(&mut self, _alloc: Global, labels: &N) -> Result<N::Place, Error> {
         match self.take() {
-            Pending::Whole(value) => Ok(names.find_name(find_name(value)?)),
-            _ => Err(Error::Custom(Kind::Name)),
-        }
-    }
-
-    fn label_ahead(&mut self) -> Result<LabelKind, Error> {
-        match self.ahead {
-            Pending::Whole(value) => Ok(find_label_kind(value)),
-            Pending::Byte(_) => Ok(LabelKind::Number),
-            _ => Ok(LabelKind::Other),
+            Pending::Whole(value) => find_place(value, labels),
+            Pending::Byte(byte) => Ok(labels.find_number(false, u128::from(byte))),
+            Pending::Null => Ok(labels.find_other()),
+            Pending::Nothing => Err(Error::Custom(Kind::Other)),
         }
     }
 
@@ -334,6 +328,13 @@ impl<'a> Source for TreeSource<'a> {
             Pending::Byte(byte) => Ok(Value::Integer(Integer::from(byte))),
             Pending::Null => Ok(Value::Null),
             Pending::Nothing => Err(Error::Custom(Kind::Other)),
+        }
+    }
+
+    fn skip(&mut self, _alloc: Global) -> Result<(), Error> {
+        match self.take() {
+            Pending::Nothing => Err(Error::Custom(Kind::Other)),
+            _ => Ok(()),
         }
     }
 

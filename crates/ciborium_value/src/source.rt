@@ -13,14 +13,13 @@ ghost use Rattle.ciborium_value.specs.Sources.{TakesOnly, TakesTo, Tells, of_kin
 ghost use Rattle.ciborium_value.specs.View.{read_as, tree_of};
 ghost use Rattle.ciborium_value.specs.Taken.{taken_boolean, taken_bytes, taken_character};
 ghost use Rattle.ciborium_value.specs.Taken.{taken_integer, taken_name, taken_outer_tag};
-ghost use Rattle.ciborium_value.specs.Labels.{label_kind, placed};
-ghost use Rattle.ciborium_value.specs.declared.labels.LabelKind.TheVariants.{Name};
-ghost use Rattle.ciborium_value.specs.Taken.{is_null, taken_pairs, taken_seq, taken_text};
-ghost use Rattle.ciborium_value.specs.Taken.{taken_unit, taken_value, taken_variant};
+ghost use Rattle.ciborium_value.specs.Labels.{label_place};
+ghost use Rattle.ciborium_value.specs.Taken.{is_null, taken_pairs, taken_seq, taken_skip};
+ghost use Rattle.ciborium_value.specs.Taken.{taken_text, taken_unit, taken_value, taken_variant};
 ghost use Rattle.ciborium_value.specs.Tree.{Tree};
 
 use crate::kind::Kind;
-use crate::labels::{LabelKind, Labels};
+use crate::labels::Labels;
 use crate::tree::Value;
 use std::alloc::Global;
 
@@ -121,23 +120,13 @@ pub trait Source {
         ensures takes { TakesOneItem stands_before is_unread has_taken left cause self.old self.new
             taken_name string_bytes result };
 
-    /// The place among these names of a name, which is read as `name` reads it. Memory is taken
-    /// only for a name that the source does not hold in one piece: any other is looked up where it
-    /// stands. Skips tags; another item is refused as `Name`.
-    fn place<N: Labels>(&mut self, alloc: Global, names: &N) -> Result<N::Place, Self::Error>
+    /// The place among these labels of a key: of an integer, or tag 2 or 3, as a number that
+    /// `integer` reads; of a string, or any other tag, as a name that `name` reads; of another item
+    /// as neither, and that is passed over as `skip` does it. Memory is taken for a name only where
+    /// it is of indefinite length, a byte string, or long.
+    fn label<N: Labels>(&mut self, alloc: Global, labels: &N) -> Result<N::Place, Self::Error>
         ensures takes { TakesOneItem stands_before is_unread has_taken left cause self.old self.new
-            (placed (N.place_of names.now) Name) (λ v. v) result };
-
-    /// How the item ahead is read as a label. It is not taken.
-    fn label_ahead(&mut self) -> Result<LabelKind, Self::Error>
-        ensures ok { IfOk result (λ k. Tells stands_before label_kind self.old self.new k) }
-        ensures refused { IfErr result
-            (λ e. RefusesToTell stands_before self.old (cause self.new e)) }
-        ensures memory { IfErr result (λ e. IsGrantedFault (cause self.new e) false) }
-        ensures took { OnOk result (TakesNothing is_unread self.old self.new) }
-        ensures only { TakesOnly has_taken self.old self.new }
-        ensures less { OnOk result (left self.new ≤ left self.old) }
-        ensures no_more { OnErr result (left self.new ≤ left self.old) };
+            (label_place (N.place_of labels.now)) (λ v. v) result };
 
     /// Whether the item ahead is null or undefined, without a tag. It is not taken.
     fn null_ahead(&mut self) -> Result<bool, Self::Error>
@@ -237,6 +226,13 @@ pub trait Source {
         ensures takes { TakesOneItem stands_before is_unread has_taken left cause self.old self.new
             taken_value tree_of result }
         ensures reads { reads self.old self.new (read_as tree_of result) };
+
+    /// Passes over the item ahead, of any kind, also one that no `Value` holds, as a float. Nothing
+    /// is made of it: memory is taken only for what is open around a place in it, a level each. It
+    /// takes the levels that `value` takes.
+    fn skip(&mut self, alloc: Global) -> Result<(), Self::Error>
+        ensures takes { TakesOneItem stands_before is_unread has_taken left cause self.old self.new
+            taken_skip (λ v. v) result };
 
     /// The error with which an implementation of `Deserialize` refuses an item.
     fn refuse(&self, kind: Kind) -> Self::Error

@@ -5,7 +5,6 @@ ghost use Rattle.std.specs.Prelude.{Option, Some, false, true};
 ghost use Rattle.std.specs.Option.{option_map, unwrap_or};
 ghost use Rattle.ciborium_ll.specs.Item.{Item};
 ghost use Rattle.ciborium_value.specs.Labels as labels;
-ghost use Rattle.ciborium_value.specs.Labels.{label_place};
 ghost use Rattle.ciborium_value.specs.Nesting.{Limit};
 ghost use Rattle.ciborium_value.specs.Sources.{RefusesAhead, TakesAhead, TakesItem, TakesOneItem};
 ghost use Rattle.ciborium_value.specs.Sources.{TakesOnly, of_kind};
@@ -17,7 +16,7 @@ ghost use Rattle.ciborium_value.specs.declared.kind.Kind.TheVariants.{Other};
 use crate::deserialize::Deserialize;
 use crate::fields::NoField;
 use crate::kind::Kind;
-use crate::labels::{LabelKind, Labels, SoughtLabel};
+use crate::labels::{Labels, SoughtLabel};
 use crate::source::Source;
 use std::alloc::Global;
 
@@ -71,9 +70,9 @@ pub trait WantedFields: Labels + Drop {
 
     /// Reads the item that the source stands before, which is the value under a label with this
     /// place and at this offset: as the type of the first field of this label, replacing what was
-    /// read of it before, or, where there is no such field, as a `Value`, which is dropped. It is
-    /// refused where the item is, and where the end of the fields refuses the label. Then a prefix
-    /// of what was unread has been taken and nothing else, and no more is left to read than before.
+    /// read of it before. Where there is no such field, it is passed over, or the end of the fields
+    /// refuses the label. Where it is refused, a prefix of what was unread has been taken and
+    /// nothing else, and no more is left to read than before.
     fn read_field<S: Source>(
         &mut self,
         place: Self::Place,
@@ -108,9 +107,9 @@ pub trait FieldsEnd: Drop {
     fn is_once() -> bool
         ensures { result ≡ once };
 
-    /// Reads the item that the source stands before, which is the value under a key that is no
-    /// field's, at this offset; or refuses the key. Then a prefix of what was unread has been taken
-    /// and nothing else, and no more is left to read than before.
+    /// Passes over the item that the source stands before, which is the value under a key that is
+    /// no field's, at this offset; or refuses the key. Then a prefix of what was unread has been
+    /// taken and nothing else, and no more is left to read than before.
     fn read_other<S: Source>(
         offset: Option<usize>,
         alloc: Global,
@@ -140,8 +139,7 @@ impl FieldsEnd for NoField {
         alloc: Global,
         source: &mut S,
     ) -> Result<(), S::Error> {
-        drop(source.value(alloc)?);
-        Ok(())
+        source.skip(alloc)
     }
 }
 
@@ -275,35 +273,10 @@ impl<L: SoughtLabel, V: Deserialize, R: WantedFields> WantedFields for Wanted<L,
     }
 }
 
-// The place of a key among these labels.
-#[inline(always)]
-fn read_place<N: Labels, S: Source>(
-    alloc: Global,
-    source: &mut S,
-    names: &N,
-) -> Result<N::Place, S::Error>
-    ensures { TakesOneItem S.stands_before S.is_unread S.has_taken S.left S.cause source.old
-        source.new (label_place (N.place_of names.now)) (λ v. v) result }
-{
-    match source.label_ahead()? {
-        LabelKind::Name => source.place(alloc, names),
-        LabelKind::Number => {
-            let (negative, n) = source.integer()?;
-            Ok(names.find_number(negative, n))
-        }
-        LabelKind::Other => {
-            drop(source.value(alloc)?);
-            Ok(names.find_other())
-        }
-    }
-}
-
-/// Reads a map whose keys are labels: a number, as `Source::integer` reads it, a name, as
-/// `Source::name` reads it, or another item, which is read as a `Value` and dropped; behind a tag
-/// other than 2 and 3 a name. The value under the label of a field is read as the field's type, and
-/// of a repeated label the last one counts; the value under another key is read as a `Value`, and
-/// dropped. Where the end of the fields refuses one of them, it does so before the value is read.
-/// Skips tags. A field that does not occur stays as it was.
+/// Reads a map whose keys are labels, as `Source::label` reads them. The value under the label of a
+/// field is read as the field's type, and of a repeated label the last one counts; the value under
+/// another key is passed over. Where the end of the fields refuses one of them, it does so before
+/// the value is read. Skips tags. A field that does not occur stays as it was.
 ///
 /// # Errors
 ///
@@ -323,7 +296,7 @@ pub fn read_fields<F: WantedFields, S: Source>(
     let mut seq = source.begin_map()?;
     while source.next(&mut seq)? {
         let offset = source.offset();
-        let place = read_place(alloc, source, fields)?;
+        let place = source.label(alloc, fields)?;
         fields.read_field(place, offset, alloc, source)?;
     }
     Ok(())

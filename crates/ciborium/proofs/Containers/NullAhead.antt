@@ -3,14 +3,12 @@ use Rattle.std.proofs.Common.{◌≡◌, ℕ, List, ◌++◌, Option, Some, refl
 use Rattle.std.proofs.Common.{append_assoc, arith, length, length-append}
 use Rattle.ciborium_ll.specs.declared.header.Header.{Header}
 use Rattle.ciborium_ll.specs.Header.{SpellsHeader}
-use Rattle.ciborium_ll.specs.Item as items
-use Rattle.ciborium_ll.specs.Item.{Item, array, bytes, float, negative, simple, tag, text, unsigned}
+use Rattle.ciborium_ll.specs.Item.{Item, simple}
 use Rattle.ciborium_value.specs.Ahead.{end_of}
-use Rattle.ciborium_value.specs.Labels.{label_kind}
 use Rattle.ciborium_value.specs.Sources.{Fault, RefusesToTell, TakesNothing, Tells}
 use Rattle.ciborium_value.specs.Taken.{is_null}
 use Rattle.ciborium.specs.declared.de.byte_source.ByteSource.{ByteSource}
-use Rattle.ciborium.specs.inner.ByteSources.{IsUnread, StandsBefore, end_at, head_label_kind, reader_of, tells_null}
+use Rattle.ciborium.specs.inner.ByteSources.{IsUnread, StandsBefore, end_at, reader_of, tells_null}
 use Rattle.ciborium.specs.inner.FrontItems.{TakesHead, DeniesHead}
 use Rattle.ciborium.specs.inner.Unread.{IsRest}
 use Rattle.ciborium.proofs.Items.ItemHeads.{header_of, first-head, first-payload, same-head}
@@ -22,20 +20,6 @@ null-head h i e = subst (λ k. tells_null k ≡ is_null i) e (by i)
     by : (i : Item) → tells_null (header_of i) ≡ is_null i
     by (simple n) = refl
     by _ = refl
-
-pub label-head : (h : Header) (i : Item) → header_of i ≡ h → head_label_kind h ≡ label_kind i
-label-head h i e = subst (λ k. head_label_kind k ≡ label_kind i) e (by i)
-  where
-    by : (i : Item) → head_label_kind (header_of i) ≡ label_kind i
-    by (unsigned n) = refl
-    by (negative n) = refl
-    by (bytes o b) = refl
-    by (text o b) = refl
-    by (array o is) = refl
-    by (items.map o ps) = refl
-    by (tag t j) = refl
-    by (simple n) = refl
-    by (float raw) = refl
 
 module _ {S W : Type 0} (remaining : S → Option (List ℕ)) (old mid new : ByteSource S W) (h : Header)
     (took : TakesHead (IsUnread remaining) old mid h)

@@ -21,7 +21,7 @@ use std::alloc::Global;
 use std::io;
 
 // The length of the byte string over which the tag folds (RFC 8949, section 3.4.3).
-fn find_folding(tag: u64, header: Header) -> Option<usize>
+pub(crate) fn find_folding(tag: u64, header: Header) -> Option<usize>
     ensures { IsFolding tag header result }
 {
     match header {

@@ -5,16 +5,7 @@ use Rattle.ciborium_ll.specs.declared.levels.Levels.{Levels}
 use Rattle.ciborium_ll.specs.declared.levels.Level.{Level}
 use Rattle.ciborium_ll.specs.declared.levels.Misfit.{Misfit}
 use Rattle.ciborium_ll.specs.declared.levels.Misfit.TheVariants as misfit
-use Rattle.ciborium_ll.specs.declared.levels.Step.{Step}
-use Rattle.ciborium_ll.specs.declared.levels.Step.TheVariants.{Within, Opens, Ends, Misplaced}
 use Rattle.ciborium_ll.specs.Levels.{behind_head, incomplete}
-
--- the levels behind a step, of which these are open around the innermost before it
-abbrev pub levels_by : Step → List Level → Option (List Level)
-levels_by (Within level) levels = Some (level ∷ levels)
-levels_by (Opens level inner) levels = Some (inner ∷ level ∷ levels)
-levels_by Ends levels = Some levels
-levels_by Misplaced levels = None
 
 -- the levels that are kept, the innermost first
 abbrev pub levels_in : Levels → List Level

@@ -7,7 +7,7 @@ use Rattle.ciborium_value.specs.Sources.{Fault, IsFaultOf, TakesAhead, RefusesAh
 use Rattle.ciborium_value.specs.StructReadings.{FieldsTaken, take_fields, take_named}
 use Rattle.ciborium_value.specs.Labels.{Label, label_kind, label_place, placed, taken_label}
 use Rattle.ciborium_value.specs.Taken.{Outcome, gives, nests, outcome, outcome_map, refuses, taken_integer, taken_name}
-use Rattle.ciborium_value.specs.Taken.{taken_value, then_read, then_take}
+use Rattle.ciborium_value.specs.Taken.{taken_skip, then_read, then_take}
 use Rattle.ciborium_value.specs.declared.labels.LabelKind.{LabelKind}
 use Rattle.ciborium_value.specs.declared.labels.LabelKind.TheVariants as kind
 use Rattle.ciborium_value.specs.declared.wanted.FieldPlace.TheVariants.{First, Behind}
@@ -21,12 +21,6 @@ map-twice f g (gives a) = refl
 map-twice f g (refuses k) = refl
 map-twice f g nests = refl
 
-then-map : {A B C : Type 0} (b : B) (g : B → C) (o : Outcome A) →
-    then_take o (λ a. gives (g b)) ≡ outcome_map g (then_take o (λ a. gives b))
-then-map b g (gives a) = refl
-then-map b g (refuses k) = refl
-then-map b g nests = refl
-
 -- the place of a key is that of its label
 label-placed : {P : Type 0} (place : Label → P) (l : Limit) (i : Item) →
     outcome l (label_place place i) ≡ outcome_map place (outcome l (taken_label i))
@@ -35,7 +29,7 @@ label-placed place l i = by (label_kind i)
     by : (k : LabelKind) → outcome l (placed place k i) ≡ outcome_map place (outcome l (placed (λ x. x) k i))
     by kind.Name = map-twice _ place (outcome l (taken_name i))
     by kind.Number = map-twice _ place (outcome l (taken_integer i))
-    by kind.Other = then-map _ place (outcome l (taken_value i))
+    by kind.Other = map-twice _ place (outcome l (taken_skip i))
 
 -- what has a place is a label with this place
 name_at : {A P : Type 0} (place : A → P) {p : P} (o : Outcome A) → outcome_map place o ≡ gives p →

@@ -1,11 +1,12 @@
 -- What a call for one item says at a value.
-use Rattle.std.proofs.Common.{◌≡◌, ◌<◌, ℕ, None, Result, Ok, Err, IfOk, IfErr, sym, ap, ◌∙◌, subst, arith}
+use Rattle.std.proofs.Common.{◌≡◌, ◌<◌, ℕ, None, Result, Ok, Err, IfOk, IfErr, refl, sym, ap, ◌∙◌, subst, arith}
 use Rattle.std.specs.Borrow.{Bor}
 use Rattle.ciborium_ll.specs.Item.{Item}
 use Rattle.ciborium_value.specs.Sources.{IsFaultOf, TakesOneItem}
 use Rattle.ciborium_value.specs.Taken.{Outcome, Taken, gives, outcome}
 use Rattle.ciborium_value.specs.Ahead.{end_of}
 use Rattle.ciborium_value.specs.TreeAnswers.{IsErrorOf, tree_fault, value_item}
+use Rattle.ciborium_value.specs.declared.deserialized.Pending.{Pending}
 use Rattle.ciborium_value.specs.declared.deserialized.Pending.TheVariants as pending
 use Rattle.ciborium_value.specs.declared.deserialized.TreeSource.{TreeSource}
 use Rattle.ciborium_value.specs.declared.error.Error.{Error}
@@ -35,6 +36,15 @@ module _ {A V : Type 0} (taken : Taken A) (content : V → A) (old new : TreeSou
   some_ahead : (v : Bor Value) → pending.Whole v ≡ old.ahead → 0 < pending_tree_weight old.ahead
   some_ahead v here = subst (λ o. 0 < pending_tree_weight o) here (let some = some_node (tree_of v.now) in
       omega (arith, some))
+
+  pub some-weight : ¬ (old.ahead ≡ pending.Nothing) → 0 < pending_tree_weight old.ahead
+  some-weight some = by old.ahead some
+    where
+      by : (p : Pending) → ¬ (p ≡ pending.Nothing) → 0 < pending_tree_weight p
+      by pending.Nothing h = absurd (h refl)
+      by (pending.Whole v) h = let some = some_node (tree_of v.now) in omega (arith, some)
+      by (pending.Byte n) h = omega arith
+      by pending.Null h = omega arith
 
   weighs-less : 0 < pending_tree_weight old.ahead → source_weight new < source_weight old
   weighs-less some =

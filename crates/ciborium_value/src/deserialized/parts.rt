@@ -4,7 +4,7 @@ ghost use Rattle.std.specs.Prelude.{◌≡◌, ◌+◌, ◌<◌, ◌≤◌, IfEr
 ghost use Rattle.std.specs.Prelude.{Err, None, Ok, chars, false, map, string_bytes};
 ghost use Rattle.ciborium_value.specs.Counts.{tree_pairs_node_count, tree_pairs_payload_size};
 ghost use Rattle.ciborium_value.specs.Encoding.{pairs_of};
-ghost use Rattle.ciborium_value.specs.Labels.{label_kind};
+ghost use Rattle.ciborium_value.specs.Labels.{label_kind, label_place};
 ghost use Rattle.ciborium_value.specs.Sources.{IsGrantedFault};
 ghost use Rattle.ciborium_value.specs.Taken as taken;
 ghost use Rattle.ciborium_value.specs.Taken.{bignum_of, gives, outcome, outcome_map, refuses};
@@ -19,7 +19,7 @@ ghost use Rattle.ciborium_value.specs.declared.kind.Kind.TheVariants as kinds;
 use crate::bignum::find_magnitude;
 use crate::error::Error;
 use crate::kind::Kind;
-use crate::labels::LabelKind;
+use crate::labels::{LabelKind, Labels};
 use crate::tree::Value;
 use ciborium_ll::tag::{BIGNEG, BIGPOS};
 use std::alloc::Global;
@@ -79,7 +79,7 @@ pub(super) fn find_number(value: &Value) -> Result<(bool, u128), Error>
 }
 
 // How a value is read as a label.
-pub(super) fn find_label_kind(value: &Value) -> LabelKind
+fn find_label_kind(value: &Value) -> LabelKind
     ensures { result ≡ label_kind (value_item value.now) }
 {
     match value {
@@ -93,6 +93,23 @@ pub(super) fn find_label_kind(value: &Value) -> LabelKind
             }
         }
         _ => LabelKind::Other,
+    }
+}
+
+// The place of a value among these labels, where it is a key.
+pub(super) fn find_place<N: Labels>(value: &Value, labels: &N) -> Result<N::Place, Error>
+    ensures ok { IfOk result (λ p.
+        outcome None (label_place (N.place_of labels.now) (value_item value.now)) ≡ gives p) }
+    ensures refused { IfErr result (λ e. IsErrorOf e
+        (outcome None (label_place (N.place_of labels.now) (value_item value.now)))) }
+{
+    match find_label_kind(value) {
+        LabelKind::Name => Ok(labels.find_name(find_name(value)?)),
+        LabelKind::Number => {
+            let (negative, n) = find_number(value)?;
+            Ok(labels.find_number(negative, n))
+        }
+        LabelKind::Other => Ok(labels.find_other()),
     }
 }
 

@@ -5,7 +5,7 @@ ghost use Rattle.std.specs.Prelude.{string_bytes, ℕ};
 ghost use Rattle.ciborium_ll.specs.Decoding.{HasSameReader};
 ghost use Rattle.ciborium_ll.specs.StringRefusal.{of_text};
 ghost use Rattle.ciborium_value.specs.Sources.{TakesOnly};
-ghost use Rattle.ciborium_value.specs.Labels.{name_place, placed};
+ghost use Rattle.ciborium_value.specs.Labels.{label_place, name_place, placed};
 ghost use Rattle.ciborium_value.specs.Taken.{taken_name};
 ghost use Rattle.ciborium_value.specs.declared.labels.LabelKind.TheVariants.{Name};
 ghost use Rattle.ciborium.specs.inner.ByteSources.{AnswersItem, HasTaken, IsUnread, PassesItem};
@@ -42,14 +42,14 @@ fn short_len(len: Option<usize>) -> Option<usize>
 
 // How the item that this head begins is read as a label.
 #[inline(always)]
-pub(crate) fn label_kind(header: &Header) -> LabelKind
-    ensures { result ≡ head_label_kind header.now }
+fn label_kind(header: Header) -> LabelKind
+    ensures { result ≡ head_label_kind header }
 {
     match header {
         Header::Positive(_) | Header::Negative(_) => LabelKind::Number,
         Header::Bytes(_) | Header::Text(_) => LabelKind::Name,
         Header::Tag(tag) => {
-            if *tag == BIGPOS || *tag == BIGNEG {
+            if tag == BIGPOS || tag == BIGNEG {
                 LabelKind::Number
             } else {
                 LabelKind::Name
@@ -147,27 +147,81 @@ impl<'a, R, A: Access<R>> ByteSource<'a, R, A> {
         Ok(names.find_name(&name))
     }
 
-    /// The place of a name among these, which is read as `name` reads it.
-    #[inline(always)]
-    pub(crate) fn place<N: Labels>(&mut self, alloc: Global, names: &N) -> Result<N::Place, Refusal>
+    // The place of a name among these labels, which is read as `name` reads it.
+    fn named_place<N: Labels>(&mut self, alloc: Global, labels: &N) -> Result<N::Place, Refusal>
         ensures keeps { PassesItem A.remaining self.old self.new result }
         ensures answer { AnswersItem A.can_fail A.remaining self.old self.new (Some self.old.levels)
-            (placed (N.place_of names.now) Name) (λ v. v) result }
+            (placed (N.place_of labels.now) Name) (λ v. v) result }
     {
         let (header, offset) = self.bare_head(false)?;
         match header {
             Header::Text(len) => {
-                let place = self.text_place(alloc, len, offset, names)?;
+                let place = self.text_place(alloc, len, offset, labels)?;
                 Ok(place)
             }
             Header::Bytes(len) => {
                 let bytes = self.bytes_content(alloc, len)?;
                 match str::from_utf8(&bytes) {
-                    Ok(name) => Ok(names.find_name(name)),
+                    Ok(name) => Ok(labels.find_name(name)),
                     Err(_) => Err(Error::Semantic(Some(offset), Kind::Name)),
                 }
             }
             _ => Err(Error::Semantic(Some(offset), Kind::Name)),
+        }
+    }
+
+    // The place among these labels of a key of this kind.
+    #[inline(never)]
+    fn place_of_kind<N: Labels>(
+        &mut self,
+        alloc: Global,
+        kind: LabelKind,
+        labels: &N,
+    ) -> Result<N::Place, Refusal>
+        ensures keeps { PassesItem A.remaining self.old self.new result }
+        ensures answer { AnswersItem A.can_fail A.remaining self.old self.new (Some self.old.levels)
+            (placed (N.place_of labels.now) kind) (λ v. v) result }
+    {
+        match kind {
+            LabelKind::Name => {
+                let place = self.named_place(alloc, labels)?;
+                Ok(place)
+            }
+            LabelKind::Number => {
+                let ((negative, n), _) = self.read_integer()?;
+                Ok(labels.find_number(negative, n))
+            }
+            LabelKind::Other => {
+                self.skip(alloc)?;
+                Ok(labels.find_other())
+            }
+        }
+    }
+
+    /// The place of a key among these labels.
+    #[inline(always)]
+    pub(crate) fn label<N: Labels>(
+        &mut self,
+        alloc: Global,
+        labels: &N,
+    ) -> Result<N::Place, Refusal>
+        ensures keeps { PassesItem A.remaining self.old self.new result }
+        ensures answer { AnswersItem A.can_fail A.remaining self.old self.new (Some self.old.levels)
+            (label_place (N.place_of labels.now)) (λ v. v) result }
+    {
+        let (header, offset) = self.next_head()?;
+        match header {
+            Header::Text(len) => {
+                let place = self.text_place(alloc, len, offset, labels)?;
+                Ok(place)
+            }
+            Header::Positive(n) => Ok(labels.find_number(false, u128::from(n))),
+            Header::Negative(n) => Ok(labels.find_number(true, u128::from(n))),
+            _ => {
+                self.pending = Some((header, offset));
+                let place = self.place_of_kind(alloc, label_kind(header), labels)?;
+                Ok(place)
+            }
         }
     }
 }

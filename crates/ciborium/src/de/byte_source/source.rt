@@ -5,12 +5,11 @@ ghost use Rattle.ciborium.specs.inner.ByteSources.{HasTakenSince, IsUnread, Leve
 ghost use Rattle.ciborium.specs.inner.ByteSources.{ReadsValue, SeqStands, StandsBefore, fault_at};
 ghost use Rattle.ciborium.specs.inner.ByteSources.{offset_of_next, seq_left, weight_left};
 
-use crate::de::byte_source::names::label_kind;
 use crate::de::byte_source::scalars::is_null_head;
 use crate::de::byte_source::{ByteLevel, ByteSeq, ByteSource};
 use crate::de::error::{Error, Refusal};
 use ciborium_ll::Access;
-use ciborium_value::{Kind, LabelKind, Labels, Source, Value};
+use ciborium_value::{Kind, Labels, Source, Value};
 use std::alloc::Global;
 
 impl<'a, R, A: Access<R>> Source for ByteSource<'a, R, A> {
@@ -81,8 +80,8 @@ impl<'a, R, A: Access<R>> Source for ByteSource<'a, R, A> {
     }
 
     #[inline(always)]
-    fn place<N: Labels>(&mut self, alloc: Global, names: &N) -> Result<N::Place, Refusal> {
-        self.place(alloc, names)
+    fn label<N: Labels>(&mut self, alloc: Global, labels: &N) -> Result<N::Place, Refusal> {
+        self.label(alloc, labels)
     }
 
     #[inline(always)]
@@ -91,14 +90,6 @@ impl<'a, R, A: Access<R>> Source for ByteSource<'a, R, A> {
         let answer = is_null_head(&header);
         self.pending = Some((header, offset));
         Ok(answer)
-    }
-
-    #[inline(always)]
-    fn label_ahead(&mut self) -> Result<LabelKind, Refusal> {
-        let (header, offset) = self.next_head()?;
-        let kind = label_kind(&header);
-        self.pending = Some((header, offset));
-        Ok(kind)
     }
 
     #[inline(always)]
@@ -139,6 +130,11 @@ impl<'a, R, A: Access<R>> Source for ByteSource<'a, R, A> {
     #[inline(always)]
     fn value(&mut self, alloc: Global) -> Result<Value, Refusal> {
         self.value(alloc)
+    }
+
+    #[inline(always)]
+    fn skip(&mut self, alloc: Global) -> Result<(), Refusal> {
+        self.skip(alloc)
     }
 
     #[inline(always)]

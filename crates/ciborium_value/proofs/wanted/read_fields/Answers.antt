@@ -23,19 +23,19 @@ returns-in_err-next g c =
 
 pub returns-in_err-place : goal.returns-in_err-place
 returns-in_err-place g c =
-    let e = g.S.Source.cause c.read_place.new.source c.in_err-place.field-0.0 in
+    let e = g.S.Source.cause c.label.new.self c.in_err-place.field-0.0 in
     let fields = g.F.WantedFields.fields c.args.fields.now in
     passes_on _ c.in_err-place.field-0.0 c.from_residual-in_err-place.ensures.1
     (blames g.S.Source.stands_before (taken_fields fields (g.F.WantedFields.content c.args.fields.now)) e
     (so c.loop-seq.invariant.inside
     (fields_blame_name g.S.Source.stands_before g.S.Source.seq_stands fields
     (g.F.Labels.place_of c.loop-seq.fields) (g.F.WantedFields.content c.loop-seq.fields) e
-    (rw c.if-branch.true at c.in_ok-next.ensures.ok) c.in_err-place.ensures.refused)))
-    (λ first h. c.read_place.ensures.only first (c.next.ensures.only first (c.loop-seq.invariant.only first h)))
+    (rw c.if-branch.true at c.in_ok-next.ensures.ok) c.in_err-place.ensures.takes.refused)))
+    (λ first h. c.label.ensures.takes.only first (c.next.ensures.only first (c.loop-seq.invariant.only first h)))
     (omega (
       arith,
       c.in_ok-next.ensures.less,
-      c.in_err-place.ensures.no_more,
+      c.in_err-place.ensures.takes.no_more,
       c.loop-seq.invariant.less,
     ))
 
@@ -48,16 +48,16 @@ returns-in_err-read_field g c =
     (so c.loop-seq.invariant.inside
     (fields_blame_field g.S.Source.stands_before g.S.Source.seq_stands fields
     (g.F.Labels.place_of c.loop-seq.fields) (g.F.WantedFields.content c.loop-seq.fields) e
-    (rw c.if-branch.true at c.in_ok-next.ensures.ok) c.in_ok-place.ensures.ok
+    (rw c.if-branch.true at c.in_ok-next.ensures.ok) c.in_ok-place.ensures.takes.ok
     (λ name at l i f st. subst (IsFaultOf (end_of f) e)
     (c.loop-seq.invariant.names name (g.F.WantedFields.content c.loop-seq.fields) l i)
     (c.in_err-read_field.ensures.refused name at l i f st)))))
-    (λ first h. c.read_field.ensures.only first (c.read_place.ensures.only first
+    (λ first h. c.read_field.ensures.only first (c.label.ensures.takes.only first
     (c.next.ensures.only first (c.loop-seq.invariant.only first h))))
     (omega (
       arith,
       c.in_ok-next.ensures.less,
-      c.in_ok-place.ensures.less,
+      c.in_ok-place.ensures.takes.less,
       c.in_err-read_field.ensures.no_more,
       c.loop-seq.invariant.less,
     ))
@@ -68,18 +68,18 @@ loop-seq-preserved g c = record {
   inside = so c.loop-seq.invariant.inside (fields_more g.S.Source.stands_before g.S.Source.seq_stands
       (g.F.WantedFields.fields c.args.fields.now) (g.F.Labels.place_of c.loop-seq.fields)
       (g.F.WantedFields.content c.loop-seq.fields) (rw c.if-branch.true at c.in_ok-next.ensures.ok)
-      c.in_ok-place.ensures.ok
+      c.in_ok-place.ensures.takes.ok
       (λ name at l i f st. let there = c.in_ok-read_field.ensures.ok name at l i f st in
       (sym (c.loop-seq.invariant.names name (g.F.WantedFields.content c.loop-seq.fields) l i) ∙ there.0, there.1)));
   owed = owed_pair g.S.Source.is_unread g.S.Source.owes _ _ _ _ _ _ _ c.loop-seq.invariant.owed
-      (rw c.if-branch.true at c.in_ok-next.ensures.took) c.in_ok-place.ensures.took
+      (rw c.if-branch.true at c.in_ok-next.ensures.took) c.in_ok-place.ensures.takes.took
       c.in_ok-read_field.ensures.took;
-  only = λ first h. c.read_field.ensures.only first (c.read_place.ensures.only first
+  only = λ first h. c.read_field.ensures.only first (c.label.ensures.takes.only first
       (c.next.ensures.only first (c.loop-seq.invariant.only first h)));
   less = omega (
     arith,
     c.in_ok-next.ensures.less,
-    c.in_ok-place.ensures.less,
+    c.in_ok-place.ensures.takes.less,
     c.in_ok-read_field.ensures.less,
     c.loop-seq.invariant.less,
   );

@@ -15,13 +15,13 @@ use Rattle.ciborium_value.specs.Places.{is_open}
 use Rattle.ciborium.proofs.Containers.NamedVariants.{bytes-name, bytes-no-name, name-other}
 use Rattle.ciborium.proofs.Items.SkippedTags.{untagged-under}
 use Rattle.ciborium.proofs.Items.BareHeads.{head-denied, other-denied, string-denied, string-read}
-use Rattle.ciborium.proofs.de.byte_source.ByteSource.place.Goals as goal
+use Rattle.ciborium.proofs.de.byte_source.ByteSource.named_place.Goals as goal
 
 pub returns-in_err-header-clause-answer : goal.returns-in_err-header-clause-answer
 returns-in_err-header-clause-answer g c =
     let exit = err_from_is_err_and c.from_residual.result c.from_residual.ensures.1 in
     rw (exit.1, exit.2) (head-denied g.A.Access.remaining c.args.self.now
-    (placed (g.N.Labels.place_of c.args.names.now) Name)
+    (placed (g.N.Labels.place_of c.args.labels.now) Name)
     (fault_at g.A.Access.can_fail g.A.Access.remaining c.bare_head.new.self c.in_err-header.field-0.0)
     c.in_err-header.ensures.denied)
 
@@ -30,18 +30,19 @@ returns-in_err-place-in-Text-clause-answer g c =
     let exit = err_from_is_err_and c.from_residual-in_err-place-in-Text.result
     c.from_residual-in_err-place-in-Text.ensures.1 in
     rw (exit.1, exit.2) (string-denied g.A.Access.remaining c.args.self.now
-    (placed (g.N.Labels.place_of c.args.names.now) Name) c.bare_head.new.self
+    (placed (g.N.Labels.place_of c.args.labels.now) Name) c.bare_head.new.self
     c.in_ok-header.header c.in_ok-header.ensures.head of_text c.in-Text.len c.in-Text.is
     c.in_ok-header.ensures.reads.only (fault_at g.A.Access.can_fail g.A.Access.remaining c.text_place.new.self
     c.in_err-place-in-Text.field-0.0) c.in_err-place-in-Text.ensures.denied)
 
 pub returns-in-Text-clause-answer : goal.returns-in-Text-clause-answer
 returns-in-Text-clause-answer g c =
-    let place = name_place (g.N.Labels.place_of c.args.names.now) in
+    let place = name_place (g.N.Labels.place_of c.args.labels.now) in
     let (payload, content, is) = c.in_ok-place-in-Text.ensures.ok in
-    string-read g.A.Access.remaining c.args.self.now (placed (g.N.Labels.place_of c.args.names.now) Name) c.bare_head.new.self c.in_ok-header.header
-    c.in_ok-header.ensures.head of_text c.in-Text.len c.in-Text.is c.text_place.new.self payload
-    c.in_ok-place-in-Text.place content (λ ts all. ap (λ x. outcome_map place (settled (bare_name x)))
+    string-read g.A.Access.remaining c.args.self.now (placed (g.N.Labels.place_of c.args.labels.now) Name)
+    c.bare_head.new.self c.in_ok-header.header c.in_ok-header.ensures.head of_text c.in-Text.len c.in-Text.is
+    c.text_place.new.self payload c.in_ok-place-in-Text.place content
+    (λ ts all. ap (λ x. outcome_map place (settled (bare_name x)))
     (untagged-under ts (string_item of_text c.in-Text.len payload)) ∙ ap gives (sym is))
 
 pub returns-in_err-bytes-in-Bytes-clause-answer : goal.returns-in_err-bytes-in-Bytes-clause-answer
@@ -49,7 +50,7 @@ returns-in_err-bytes-in-Bytes-clause-answer g c =
     let exit = err_from_is_err_and c.from_residual-in_err-bytes-in-Bytes.result
     c.from_residual-in_err-bytes-in-Bytes.ensures.1 in
     rw (exit.1, exit.2) (string-denied g.A.Access.remaining c.args.self.now
-    (placed (g.N.Labels.place_of c.args.names.now) Name) c.bare_head.new.self
+    (placed (g.N.Labels.place_of c.args.labels.now) Name) c.bare_head.new.self
     c.in_ok-header.header c.in_ok-header.ensures.head of_bytes c.in-Bytes.len c.in-Bytes.is
     c.in_ok-header.ensures.reads.only (fault_at g.A.Access.can_fail g.A.Access.remaining c.bytes_content.new.self
     c.in_err-bytes-in-Bytes.field-0.0) c.in_err-bytes-in-Bytes.ensures.denied)
@@ -57,20 +58,22 @@ returns-in_err-bytes-in-Bytes-clause-answer g c =
 pub returns-in-Ok-clause-answer : goal.returns-in-Ok-clause-answer
 returns-in-Ok-clause-answer g c =
     let l = Some c.args.self.now.levels in
-    let place = name_place (g.N.Labels.place_of c.args.names.now) in
+    let place = name_place (g.N.Labels.place_of c.args.labels.now) in
     let payload = c.in_ok-bytes-in-Bytes.bytes.items in
     let same : c.in-Ok.name.now ≡ payload = c.in-Ok.ensures.cases.0 ∙ c.deref.ensures.value in
     let utf8 : IsUtf8 payload = subst IsUtf8 c.deref.ensures.value c.in-Ok.ensures.cases.1 in
-    string-read g.A.Access.remaining c.args.self.now (placed (g.N.Labels.place_of c.args.names.now) Name) c.bare_head.new.self c.in_ok-header.header
-    c.in_ok-header.ensures.head of_bytes c.in-Bytes.len c.in-Bytes.is c.bytes_content.new.self payload c.find_name.result
+    let found : c.find_name.result ≡ place payload =
+    subst (λ b. c.find_name.result ≡ place b) same c.find_name.ensures in
+    string-read g.A.Access.remaining c.args.self.now (placed (g.N.Labels.place_of c.args.labels.now) Name)
+    c.bare_head.new.self c.in_ok-header.header c.in_ok-header.ensures.head of_bytes c.in-Bytes.len c.in-Bytes.is
+    c.bytes_content.new.self payload c.find_name.result
     c.in_ok-bytes-in-Bytes.ensures.ok (λ ts all.
-    ap (outcome_map place) (bytes-name ts l (is_open c.in-Bytes.len) payload utf8) ∙
-    ap (λ b. gives (place b)) (sym same) ∙ ap gives (sym c.find_name.ensures))
+    ap (outcome_map place) (bytes-name ts l (is_open c.in-Bytes.len) payload utf8) ∙ ap gives (sym found))
 
 pub returns-in-Bytes-clause-answer : goal.returns-in-Bytes-clause-answer
 returns-in-Bytes-clause-answer g c b s z i end u sp e fits =
     fault_map end (of_kind kinds.Name)
-    (name_place (g.N.Labels.place_of c.args.names.now)) (outcome (Some c.args.self.now.levels) (taken_name i))
+    (name_place (g.N.Labels.place_of c.args.labels.now)) (outcome (Some c.args.self.now.levels) (taken_name i))
     (bytes-no-name (IsUnread g.A.Access.remaining) (end_at g.A.Access.remaining) c.args.self.now c.bare_head.new.self
     c.bytes_content.new.self c.in-Bytes.len (Some c.args.self.now.levels) c.in_ok-bytes-in-Bytes.bytes.items
     (λ u. c.in-Err.ensures.cases.0 (subst IsUtf8 (sym c.deref.ensures.value) u))
@@ -79,8 +82,9 @@ returns-in-Bytes-clause-answer g c b s z i end u sp e fits =
 
 pub returns-clause-answer : goal.returns-clause-answer
 returns-clause-answer g c =
-    let place = name_place (g.N.Labels.place_of c.args.names.now) in
-    other-denied g.A.Access.remaining c.args.self.now (placed (g.N.Labels.place_of c.args.names.now) Name) c.bare_head.new.self c.in_ok-header.header
-    c.in_ok-header.ensures.head kinds.Name (λ ts i all head. ap (outcome_map place)
+    let place = name_place (g.N.Labels.place_of c.args.labels.now) in
+    other-denied g.A.Access.remaining c.args.self.now (placed (g.N.Labels.place_of c.args.labels.now) Name)
+    c.bare_head.new.self c.in_ok-header.header c.in_ok-header.ensures.head kinds.Name
+    (λ ts i all head. ap (outcome_map place)
     (name-other (Some c.args.self.now.levels) c.in_ok-header.header
     c.in_ok-header.ensures.reads.bare c.in_default.not-Text c.in_default.not-Bytes ts i all head))

@@ -1,0 +1,151 @@
+//! Payloads that are passed over.
+
+ghost use Rattle.std.specs.Prelude.{◌≡◌, ◌+◌, ◌<◌, ◌≤◌, ◌++◌, IfErr, IfNone, IfSome, IsUtf8};
+ghost use Rattle.std.specs.Prelude.{List, None, OnErr, OnOk, Some, drop, false, length, take, ℕ};
+ghost use Rattle.ciborium_ll.specs.Decoding.{HasSameReader};
+ghost use Rattle.ciborium_ll.specs.declared.header.Header.TheVariants as heads;
+ghost use Rattle.ciborium_value.specs.Sources.{IsGrantedFault, TakesOnly};
+ghost use Rattle.ciborium.specs.inner.ByteSources.{HasTaken, IsUnread, bytes_weight, end_at};
+ghost use Rattle.ciborium.specs.inner.ByteSources.{fault_at, weight_left};
+ghost use Rattle.ciborium.specs.inner.PassedOver.{DeniesPayload, TakesPayload};
+
+use crate::de::byte_source::ByteSource;
+use crate::de::error::{Error, Refusal};
+use ciborium_ll::{Access, Header};
+use std::str;
+
+// How many bytes of a payload are taken at once.
+const ROOM_SIZE: usize = 64;
+
+// How many bytes at the front are whole characters, or none where no text begins with these.
+#[inline(always)]
+fn whole_len(bytes: &[u8]) -> Option<usize>
+    ensures within { IfSome result
+        (λ whole. (whole ≤ length bytes.now) × (length bytes.now < whole + 4)) }
+    ensures whole { IfSome result (λ whole. IsUtf8 (take whole bytes.now)) }
+    ensures cut { IfSome result
+        (λ whole. IsUtf8 (drop whole bytes.now) → whole ≡ length bytes.now) }
+    ensures none { IfNone result ((t : List ℕ) → ¬ (IsUtf8 (bytes.now ++ t))) }
+{
+    match str::from_utf8(bytes) {
+        Ok(text) => Some(text.len()),
+        Err(e) => match e.error_len() {
+            Some(_) => None,
+            None => Some(e.valid_up_to()),
+        },
+    }
+}
+
+// Moves a character that the end cuts to the front. Its length so far, or none as for `whole_len`.
+#[inline(always)]
+fn keep_cut(bytes: &mut [u8]) -> Option<usize>
+    ensures short { IfSome result (λ kept. (kept ≤ length bytes.old) × (kept < 4)) }
+    ensures kept { IfSome result (λ kept. (v : List ℕ) × IsUtf8 v ×
+        (bytes.old ≡ v ++ take kept bytes.new)) }
+    ensures cut { IfSome result (λ kept. IsUtf8 (take kept bytes.new) → kept ≡ 0) }
+    ensures none { IfNone result ((t : List ℕ) → ¬ (IsUtf8 (bytes.old ++ t))) }
+{
+    let whole = whole_len(bytes)?;
+    let kept = bytes.len() - whole;
+    if kept > 0 {
+        bytes.copy_within(whole.., 0);
+    }
+    Some(kept)
+}
+
+impl<'a, R, A: Access<R>> ByteSource<'a, R, A> {
+    // Passes over the payload of a byte string, of `len` bytes.
+    fn skip_bytes(&mut self, len: usize) -> Result<(), Refusal>
+        requires { self.old.pending ≡ None }
+        ensures same_reader { HasSameReader self.old.decoder self.new.decoder }
+        ensures only { TakesOnly (HasTaken A.remaining) self.old.decoder self.new.decoder }
+        ensures no_more { OnErr result (weight_left self.new ≤ weight_left self.old) }
+        ensures levels { self.new.levels ≡ self.old.levels }
+        ensures pending { self.new.pending ≡ None }
+        ensures fewer { OnOk result (bytes_weight self.new ≤ bytes_weight self.old) }
+        ensures ok { OnOk result (TakesPayload (IsUnread A.remaining self.old)
+            (IsUnread A.remaining self.new) (heads.Bytes (Some len))) }
+        ensures denied { IfErr result
+            (λ e. DeniesPayload (IsUnread A.remaining self.old) (end_at A.remaining self.old)
+            (heads.Bytes (Some len)) (fault_at A.can_fail A.remaining self.new e)) }
+        ensures memory { IfErr result
+            (λ e. IsGrantedFault (fault_at A.can_fail A.remaining self.new e) false) }
+    {
+        let mut room = [0u8; ROOM_SIZE];
+        let mut left = len;
+        while left > 0 {
+            let size = left.min(ROOM_SIZE);
+            self.fill(&mut room[..size])?;
+            left -= size;
+        }
+        Ok(())
+    }
+
+    // Passes over the payload of a text, of `len` bytes, whose head stands at this offset. The
+    // beginning of a character that a piece cuts stays at the front of the room. What is no text is
+    // taken whole too before it is refused, as where a text is read.
+    fn skip_text(&mut self, len: usize, offset: usize) -> Result<(), Refusal>
+        requires { self.old.pending ≡ None }
+        ensures same_reader { HasSameReader self.old.decoder self.new.decoder }
+        ensures only { TakesOnly (HasTaken A.remaining) self.old.decoder self.new.decoder }
+        ensures no_more { OnErr result (weight_left self.new ≤ weight_left self.old) }
+        ensures levels { self.new.levels ≡ self.old.levels }
+        ensures pending { self.new.pending ≡ None }
+        ensures fewer { OnOk result (bytes_weight self.new ≤ bytes_weight self.old) }
+        ensures ok { OnOk result (TakesPayload (IsUnread A.remaining self.old)
+            (IsUnread A.remaining self.new) (heads.Text (Some len))) }
+        ensures denied { IfErr result
+            (λ e. DeniesPayload (IsUnread A.remaining self.old) (end_at A.remaining self.old)
+            (heads.Text (Some len)) (fault_at A.can_fail A.remaining self.new e)) }
+        ensures memory { IfErr result
+            (λ e. IsGrantedFault (fault_at A.can_fail A.remaining self.new e) false) }
+    {
+        let mut room = [0u8; ROOM_SIZE];
+        // How much of a character that the last piece cut is kept, at the front of the room.
+        let mut kept = 0;
+        let mut left = len;
+        while left > 0 {
+            let size = left.min(ROOM_SIZE - kept);
+            let bytes = &mut room[..kept + size];
+            self.fill(&mut bytes[kept..])?;
+            left -= size;
+            match keep_cut(bytes) {
+                Some(n) => kept = n,
+                None => {
+                    self.skip_bytes(left)?;
+                    return Err(Error::Syntax(offset));
+                }
+            }
+        }
+        if kept > 0 {
+            return Err(Error::Syntax(offset));
+        }
+        Ok(())
+    }
+
+    /// Passes over the payload behind this head, which was taken last and stands at this offset:
+    /// that of a definite string. Any other head has none. No memory is taken.
+    #[inline(always)]
+    pub(crate) fn skip_payload(&mut self, header: Header, offset: usize) -> Result<(), Refusal>
+        requires { self.old.pending ≡ None }
+        ensures same_reader { HasSameReader self.old.decoder self.new.decoder }
+        ensures only { TakesOnly (HasTaken A.remaining) self.old.decoder self.new.decoder }
+        ensures no_more { OnErr result (weight_left self.new ≤ weight_left self.old) }
+        ensures levels { self.new.levels ≡ self.old.levels }
+        ensures pending { self.new.pending ≡ None }
+        ensures fewer { OnOk result (bytes_weight self.new ≤ bytes_weight self.old) }
+        ensures ok { OnOk result (TakesPayload (IsUnread A.remaining self.old)
+            (IsUnread A.remaining self.new) header) }
+        ensures denied { IfErr result
+            (λ e. DeniesPayload (IsUnread A.remaining self.old) (end_at A.remaining self.old) header
+            (fault_at A.can_fail A.remaining self.new e)) }
+        ensures memory { IfErr result
+            (λ e. IsGrantedFault (fault_at A.can_fail A.remaining self.new e) false) }
+    {
+        match header {
+            Header::Bytes(Some(n)) => self.skip_bytes(n),
+            Header::Text(Some(n)) => self.skip_text(n, offset),
+            _ => Ok(()),
+        }
+    }
+}
