@@ -60,6 +60,16 @@ def message(place):
     return head(5, 2) + string("version") + head(0, place % 256) + string("body") + string(f"message {place}")
 
 
+def wide_message(r, place):
+    """A message with 20 fields that nobody asks for: numbers, texts, truths, byte strings, arrays and a map."""
+    others = [number(r, (4, 8, 16, 32)) for _ in range(8)] + [text(r, LETTERS, 4, 20) for _ in range(5)]
+    others += [b"\xf4", b"\xf5", head(2, 8) + r.randbytes(8)] + [b"\x83" + head(0, place) + b"\x01\x02" for _ in range(3)]
+    others += [b"\xa1" + string("at") + b"\x82\x01\x02"]
+    pairs = [string(f"field {n}") + other for n, other in enumerate(others)]
+    wanted = [string("version") + head(0, place % 256), string("body") + string(f"message {place}")]
+    return head(5, 22) + b"".join(pairs[:10] + wanted[:1] + pairs[10:] + wanted[1:])
+
+
 def words(r, count):
     keys = sorted({text(r, LETTERS[:36], 12, 12) for _ in range(count)})
     return [head(5, len(keys))] + [k + head(0, r.randrange(1 << 40)) for k in keys]
@@ -81,6 +91,7 @@ DOCUMENTS = {
     "map": ("map", 100_000, words),
     "texts": ("texts", 200_000, array(lambda r: text(r, LETTERS, 20, 20))),
     "structs": ("structs", 100_000, lambda r, count: [head(4, count)] + [message(place) for place in range(count)]),
+    "unknown": ("structs", 50_000, lambda r, count: [head(4, count)] + [wide_message(r, i) for i in range(count)]),
     "keys": ("sort", 200_000, array(key)),
     "messages": ("messages", 200_000, lambda r, count: [record(r) for _ in range(count)]),
 }

@@ -345,14 +345,14 @@ class ByteSource:
             raise self.refuse("name", head[2]) from None
 
     def label(self):
-        """A key of a struct: a number, a name, or None for what is neither, which is read as a value and dropped."""
+        """A key of a struct: a number, a name, or None for what is neither, which is passed over."""
         head = self.pull()
         self.push(head)
         if head[0] in (POSITIVE, NEGATIVE) or head[0] == TAG and head[1] in BIGNUM_TAGS:
             return self.integer()
         if head[0] in (BYTES, TEXT, TAG):
             return self.name()
-        self.value()
+        self.skip()
         return None
 
     def begin_tag(self):
@@ -481,6 +481,34 @@ class ByteSource:
         return ("tag", tag, content)
 
 
+    def skip(self):
+        self.skip_item(self.pull())
+
+    def skip_item(self, head):
+        """Passes over the item of any kind that a head begins, in the order in which its value would be read."""
+        what, number, _ = head
+        if what == BREAK:
+            raise self.unfit(head, "break")
+        if what == TAG:
+            content = self.pull()
+            if number in BIGNUM_TAGS and content[0] == BYTES and content[1] is not None and content[1] <= LONGEST_FOLDING:
+                self.payload(content[1])
+                return
+            self.take_level()
+            self.skip_item(content)
+            self.give_level()
+        elif what == BYTES:
+            self.byte_string(head)
+        elif what == TEXT:
+            self.text_string(head)
+        elif what in (ARRAY, MAP):
+            sequence = self.enter(head)
+            while self.next(sequence):
+                self.skip()
+                if what == MAP:
+                    self.skip()
+
+
 # --- The source over a tree ----------------------------------------------------------------------------------------
 
 
@@ -526,7 +554,7 @@ class TreeSource:
             return self.integer()
         if word in ("bytes", "text", "tag"):
             return self.name()
-        self.value()
+        self.skip()
         return None
 
     def content_of(self, word):
@@ -628,6 +656,9 @@ class TreeSource:
 
     def value(self):
         return self.fold(self.waiting.pop())
+
+    def skip(self):
+        self.waiting.pop()
 
     def fold(self, value):
         """The value with its bignums folded, at every place."""
@@ -832,7 +863,7 @@ LEFT_OUT = object()
 def struct_of(fields, once=False, closed=False):
     """A struct by the labels of its fields, each a name or a number, a type, and what counts where it is missing; one
     that is LEFT_OUT where it is missing is not written where there is nothing. Of a repeated label the last one counts;
-    what stands under another key is read as a value and dropped. Or a repeated label is refused, or another key, at its
+    what stands under another key is passed over. Or a repeated label is refused, or another key, at its
     offset, before its content is read."""
     types = {name: field_type for name, field_type, _ in fields}
 
@@ -851,7 +882,7 @@ def struct_of(fields, once=False, closed=False):
             elif closed:
                 raise source.refuse("unknownfield", offset)
             else:
-                source.value()
+                source.skip()
         for name, _, _ in fields:
             if found[name] is MISSING:
                 raise source.refuse("other")
@@ -1228,7 +1259,46 @@ Message 256 a0 => semantic - other | custom other
 Message 256 a16776657273696f6e01 => semantic - other | custom other
 Message 256 a164626f64796161 => semantic - other | custom other
 Message 256 a101f6 => semantic - other | custom other
-Message 256 a16178f93c00 => semantic 3 float | none
+Message 256 a16178f93c00 => semantic - other | none
+Message 256 a36776657273696f6e0164626f647961616178f93c00 => ok a26776657273696f6e0164626f64796161 0 | none
+Message 256 a36776657273696f6e0164626f647961616178f7
+=> ok a26776657273696f6e0164626f64796161 0 | ok a26776657273696f6e0164626f64796161
+Message 256 a36776657273696f6e0164626f647961616178f0 => ok a26776657273696f6e0164626f64796161 0 | none
+Message 256 a36776657273696f6e0164626f64796161617882f94000fb400921fb54442d1800
+=> ok a26776657273696f6e0164626f64796161 1 | none
+Message 256 a36776657273696f6e0164626f64796161f93c0001 => ok a26776657273696f6e0164626f64796161 0 | none
+Message 256 a36776657273696f6e0164626f64796161617862c328 => syntax 19 | none
+Message 256 a36776657273696f6e0164626f6479616161787f61c361bcff => syntax 20 | none
+Message 256 a36776657273696f6e0164626f647961616178ff => semantic 19 break | none
+Message 256 a36776657273696f6e0164626f647961616178bf01ff => semantic 21 break | none
+Message 256 a36776657273696f6e0164626f6479616161785f6101ff => syntax 20 | none
+Message 256 a36776657273696f6e0164626f647961616178c350ffffffffffffffffffffffffffffffff
+=> ok a26776657273696f6e0164626f64796161 0 | none
+Message 2 a36776657273696f6e0164626f6479616161788180 => nesting | ok a26776657273696f6e0164626f64796161
+Message 3 a36776657273696f6e0164626f6479616161788180
+=> ok a26776657273696f6e0164626f64796161 0 | ok a26776657273696f6e0164626f64796161
+Message 1 a36776657273696f6e0164626f647961616178c16161 => nesting | ok a26776657273696f6e0164626f64796161
+Message 1 a36776657273696f6e0164626f647961616178c24101
+=> ok a26776657273696f6e0164626f64796161 0 | ok a26776657273696f6e0164626f64796161
+Message 1 a36776657273696f6e0164626f647961616178c2510100000000000000000000000000000000
+=> nesting | ok a26776657273696f6e0164626f64796161
+Message 1 a36776657273696f6e0164626f647961616178c2 => io | none
+Message 1 a36776657273696f6e0164626f6479616161785f4101ff
+=> ok a26776657273696f6e0164626f64796161 0 | ok a26776657273696f6e0164626f64796161
+Message 256 a36776657273696f6e0164626f647961616178f9 => io | none
+Message 256 a36776657273696f6e0164626f6479616161789f => io | none
+Message 256 a36776657273696f6e0164626f6479616161781c => syntax 19 | none
+Message 256 a36776657273696f6e0164626f6479616161787846,63*61,c3bc,5*61
+=> ok a26776657273696f6e0164626f64796161 0 | ok a26776657273696f6e0164626f64796161
+Message 256 a36776657273696f6e0164626f6479616161787846,62*61,e282ac,5*61
+=> ok a26776657273696f6e0164626f64796161 0 | ok a26776657273696f6e0164626f64796161
+Message 256 a36776657273696f6e0164626f6479616161787840,63*61,c3 => syntax 19 | none
+Message 256 a36776657273696f6e0164626f6479616161787846,64*61,ff,5*61 => syntax 19 | none
+Message 256 a36776657273696f6e0164626f6479616161787846,ff,3*61 => io | none
+Message 256 a36776657273696f6e0164626f6479616161787846,63*61,c328,5*61 => syntax 19 | none
+Message 256 a36776657273696f6e0164626f6479616161785846,70*ff
+=> ok a26776657273696f6e0164626f64796161 0 | ok a26776657273696f6e0164626f64796161
+Message 256 a36776657273696f6e0164626f64796161617858ff,250*00,ff => io | none
 Message 1 a1617880 => nesting | custom other
 Message 2 a1617880 => semantic - other | custom other
 Message 256 a16776657273696f6e20 => semantic - range | custom range
