@@ -7,7 +7,7 @@ use Rattle.std.specs.Bool.{MatchBool}
 use Rattle.std.specs.Char.{digit_value}
 use Rattle.ciborium_value.specs.declared.key_order.KeyOrder.TheVariants.{LengthFirst, Bytewise}
 use Rattle.cbor.specs.declared.command.Command.{Command}
-use Rattle.cbor.specs.declared.command.Command.TheVariants.{Answer, Sort, Show, Tell}
+use Rattle.cbor.specs.declared.command.Command.TheVariants.{Answer, Sort, Show, Dump, Tell}
 use Rattle.cbor.specs.declared.command.Topic.TheVariants.{Help, Version}
 use Rattle.cbor.specs.declared.reading.Layout.TheVariants.{OneLine, Indented}
 use Rattle.cbor.specs.declared.reading.Reading.TheVariants as readings
@@ -87,6 +87,8 @@ named words (Sort Bytewise) asked = subst (λ (ws : List (List ℕ)). NameLimitB
 named words (Show showings.Encoding n) asked = asked
 named words (Show (showings.Notation OneLine) n) asked = asked
 named words (Show (showings.Notation Indented) n) asked = asked
+named words Dump asked = subst (λ (ws : List (List ℕ)). NameLimitBehind (command_words Dump) ws 256) (sym asked)
+    (no-others (command_words Dump))
 named words (Tell Help) asked = subst (λ (ws : List (List ℕ)). NameLimitBehind (command_words (Tell Help)) ws 256)
     (sym asked) (no-others (command_words (Tell Help)))
 named words (Tell Version) asked = subst (λ (ws : List (List ℕ)). NameLimitBehind (command_words (Tell Version)) ws 256)
@@ -111,6 +113,7 @@ are-names (Show (showings.Notation Indented) n) = (
   λ h. omega (arith, h),
   (λ h. omega (arith, h), (λ h. omega (arith, h), tt)),
 )
+are-names Dump = (λ h. omega (arith, h), (λ h. omega (arith, h), tt))
 are-names (Tell Help) = (λ h. omega (arith, h), tt)
 are-names (Tell Version) = (λ h. omega (arith, h), tt)
 
@@ -134,6 +137,7 @@ command-of total n =
     else if total == 1147 then Show showings.Encoding n
     else if total == 1140 then Show (showings.Notation OneLine) n
     else if total == 1872 then Show (showings.Notation Indented) n
+    else if total == 1173 then Dump
     else if total == 515 then Tell Help
     else Tell Version
 
@@ -153,6 +157,7 @@ told-apart (Sort Bytewise) = refl
 told-apart (Show showings.Encoding n) = refl
 told-apart (Show (showings.Notation OneLine) n) = refl
 told-apart (Show (showings.Notation Indented) n) = refl
+told-apart Dump = refl
 told-apart (Tell Help) = refl
 told-apart (Tell Version) = refl
 

@@ -2,6 +2,7 @@ pub mod AnsweredLines
 pub mod AskedWords
 pub mod DigitPairs
 pub mod DumpedHeads
+pub mod DumpedInputs
 pub mod HexDigits
 pub mod ItemsInRow
 pub mod JudgedAnswers

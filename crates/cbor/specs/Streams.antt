@@ -1,4 +1,5 @@
--- What is written for an input that is a sequence of items as bytes (RFC 8742), not in hex.
+-- What is written for an input as bytes, not in hex: a sequence of items (RFC 8742), or one item,
+-- which is dumped.
 use Rattle.std.specs.Prelude.{◌≡◌, ℕ, ◌+◌, ◌<◌, Bool, true, false, List, [], ◌++◌, length, Option}
 use Rattle.std.specs.Prelude.{Some, Result, MatchResult}
 use Rattle.std.specs.List.{flat_map}
@@ -10,6 +11,7 @@ use Rattle.cbor.specs.declared.answer.Refusal.{Refusal as Reason}
 use Rattle.cbor.specs.declared.reading.Showing.{Showing}
 use Rattle.cbor.specs.declared.reading.Spelling.TheVariants.{Any}
 use Rattle.cbor.specs.Answer.{IsFrontRefused}
+use Rattle.cbor.specs.Dumped.{IsDumpOf}
 use Rattle.cbor.specs.Line.{refusal_text}
 use Rattle.cbor.specs.Lines.{text_line}
 use Rattle.cbor.specs.Sequence.{AreItemsBefore, refused_item_text}
@@ -47,3 +49,13 @@ IsReadNext b limit after next = MatchResult next
     (λ value. (left : List ℕ) × HasItemBefore Any b limit (tree_of value) left ×
     (after ≡ Some left))
     (λ reason. IsFrontRefused Any b limit reason)
+
+-- the lines of a dump: behind the reason in which that of no item ends stands a line feed
+abbrev pub dump_lines : Bool → List ℕ → List ℕ
+dump_lines true text = text
+dump_lines false text = text_line text
+
+-- all of b is dumped behind w, and nothing else is written; is_item says whether b is one item
+abbrev pub IsDumpedBehind : List ℕ → List ℕ → Bool → Option (List ℕ) → Type 0
+IsDumpedBehind b w is_item after = (text : List ℕ) × IsDumpOf b is_item text ×
+    (after ≡ Some (w ++ dump_lines is_item text))

@@ -5,7 +5,7 @@ use Rattle.std.specs.Str.Parse.{IsNumeral, digits_value}
 use Rattle.ciborium_value.specs.declared.key_order.KeyOrder.{KeyOrder}
 use Rattle.ciborium_value.specs.declared.key_order.KeyOrder.TheVariants.{LengthFirst, Bytewise}
 use Rattle.cbor.specs.declared.command.Command.{Command}
-use Rattle.cbor.specs.declared.command.Command.TheVariants.{Answer, Sort, Show, Tell}
+use Rattle.cbor.specs.declared.command.Command.TheVariants.{Answer, Sort, Show, Dump, Tell}
 use Rattle.cbor.specs.declared.command.Topic.TheVariants.{Help, Version}
 use Rattle.cbor.specs.declared.reading.Layout.{Layout}
 use Rattle.cbor.specs.declared.reading.Layout.TheVariants.{OneLine, Indented}
@@ -58,6 +58,7 @@ command_words (Sort order) = codes "sort" ∷ order_flags order
 command_words (Show showings.Encoding n) = codes "read" ∷ (codes "--binary" ∷ [])
 command_words (Show (showings.Notation layout) n) =
     codes "diag" ∷ (codes "--binary" ∷ layout_flags layout)
+command_words Dump = codes "dump" ∷ (codes "--binary" ∷ [])
 command_words (Tell Help) = codes "--help" ∷ []
 command_words (Tell Version) = codes "--version" ∷ []
 
@@ -70,6 +71,7 @@ command_limit (Answer (readings.Notation layout n)) = Some n
 command_limit (Answer readings.Dump) = None
 command_limit (Sort order) = None
 command_limit (Show showing n) = Some n
+command_limit Dump = None
 command_limit (Tell topic) = None
 
 -- the words ask for this: they are the words for it, and a limit behind them where it takes one

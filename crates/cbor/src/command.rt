@@ -13,6 +13,8 @@ pub enum Command {
     /// To show each item of the input, which is a sequence as bytes (RFC 8742), in this way and
     /// within this many levels.
     Show(Showing, usize),
+    /// To dump the input, which is one item as bytes.
+    Dump,
     /// To print something about the program itself.
     Tell(Topic),
 }

@@ -13,7 +13,7 @@ pub enum Fault {
     Input,
     /// An answer could not be written.
     Output,
-    /// An allocation for a line, or for the list to sort, failed.
+    /// An allocation for a line, for the list to sort or for the dump of bytes failed.
     Memory,
 }
 

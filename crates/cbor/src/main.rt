@@ -1,6 +1,6 @@
 //! `cbor` looks at CBOR (RFC 8949) on the standard input: lines of hex, an item or a sequence each,
-//! or a sequence of items as bytes (RFC 8742). `cbor --help` lists the commands, and `run` says
-//! what they do.
+//! or bytes, a sequence of items (RFC 8742) or one item. `cbor --help` lists the commands, and
+//! `run` says what they do.
 #![tactic(auto)]
 
 mod answer;
@@ -8,6 +8,7 @@ mod answering;
 mod command;
 mod digits;
 mod dumping;
+mod dumping_streams;
 mod fault;
 mod items;
 mod line_laws;

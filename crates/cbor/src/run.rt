@@ -6,17 +6,18 @@ ghost use Rattle.std.specs.Io.KnownBytes.{Appends, Keeps};
 ghost use Rattle.ciborium_value.specs.declared.key_order.KeyOrder.{KeyOrder};
 ghost use Rattle.cbor.specs.Lines.{AreAnswered};
 ghost use Rattle.cbor.specs.SortedLines.{AreSortedLines, AreSortedOrRefused};
-ghost use Rattle.cbor.specs.Streams.{IsStreamShown};
+ghost use Rattle.cbor.specs.Streams.{IsDumpedBehind, IsStreamShown};
 ghost use Rattle.cbor.specs.Topics.{topic_text};
 ghost use Rattle.cbor.specs.Words.{AreWrong, AskFor};
 ghost use Rattle.cbor.specs.declared.command.Command.{Command};
-ghost use Rattle.cbor.specs.declared.command.Command.TheVariants.{Answer, Show, Sort, Tell};
+ghost use Rattle.cbor.specs.declared.command.Command.TheVariants.{Answer, Dump, Show, Sort, Tell};
 ghost use Rattle.cbor.specs.declared.command.Topic.{Topic};
 ghost use Rattle.cbor.specs.declared.reading.Reading.{Reading};
 ghost use Rattle.cbor.specs.declared.reading.Showing.{Showing};
 
 use crate::answering::answer_lines;
 use crate::command::{Command, Topic};
+use crate::dumping_streams::dump_input;
 use crate::fault::Fault;
 use crate::sorting::sort_lines;
 use crate::streams::show_items;
@@ -55,13 +56,16 @@ cbor --help tells of the other commands
 /// `diag --binary` and `read --binary`, and a limit after them, take the input as the items of a
 /// sequence in bytes. They show each as soon as it is read, by its notation or its encoding in hex,
 /// until the end or the first item that is refused: for this one they write `item`, its number,
-/// counted from 1, a colon and the reason, with the offset counted inside that item. `--help` lists
-/// the commands, and `--version` prints the version.
+/// counted from 1, a colon and the reason, with the offset counted inside that item.
+/// `dump --binary` takes all of the input as the bytes of one item, reads it whole, and then writes
+/// its dump, with a line feed behind the reason where it is none. `--help` lists the commands, and
+/// `--version` prints the version.
 ///
 /// The status is 0 where every line or item is as it is asked for, and 1 where one is not. It is 2
 /// for any other words, and for none: the usage is then written to `errors`, and input and output
 /// are left alone. Where the input or the output fails, or an allocation for a line, an item of
-/// bytes or the list to sort, the run ends with status 1, and `errors` names the first such fault.
+/// bytes, the list to sort or the dump of bytes, the run ends with status 1, and `errors` names the
+/// first such fault.
 pub fn run<R: Read, W: Write, E: Write>(
     alloc: Global,
     words: &[String],
@@ -86,6 +90,9 @@ pub fn run<R: Read, W: Write, E: Write>(
         AskFor (map string_bytes words.now) (Show showing limit) →
         R.remaining input.old ≡ Some b → W.contents output.old ≡ Some w → result ≡ 0 →
         IsStreamShown showing b limit w true (W.contents output.new) }
+    ensures dumped { (b w : List ℕ) → AskFor (map string_bytes words.now) Dump →
+        R.remaining input.old ≡ Some b → W.contents output.old ≡ Some w → result ≡ 0 →
+        IsDumpedBehind b w true (W.contents output.new) }
     ensures told { (topic : Topic) (w : List ℕ) →
         AskFor (map string_bytes words.now) (Tell topic) → W.contents output.old ≡ Some w →
         result ≡ 0 → W.contents output.new ≡ Some (w ++ topic_text topic) }
@@ -139,6 +146,9 @@ fn perform<R: Read, W: Write>(
         command ≡ Show showing limit → R.remaining input.old ≡ Some b →
         W.contents output.old ≡ Some w →
         IfOk result (λ all. IsStreamShown showing b limit w all (W.contents output.new)) }
+    ensures dumped { (b w : List ℕ) → command ≡ Dump → R.remaining input.old ≡ Some b →
+        W.contents output.old ≡ Some w →
+        IfOk result (λ all. IsDumpedBehind b w all (W.contents output.new)) }
     ensures told { (topic : Topic) (w : List ℕ) → command ≡ Tell topic →
         W.contents output.old ≡ Some w →
         OnOk result (W.contents output.new ≡ Some (w ++ topic_text topic)) }
@@ -156,6 +166,10 @@ fn perform<R: Read, W: Write>(
         Command::Show(showing, limit) => {
             let shown = show_items(alloc, input, showing, limit, output);
             finish(shown, output)
+        }
+        Command::Dump => {
+            let dumped = dump_input(alloc, input, output);
+            finish(dumped, output)
         }
         Command::Tell(topic) => {
             let told = tell(topic, output);

@@ -43,6 +43,9 @@ fn judge_alone(words: &[String]) -> Option<Command>
     if are_words(words, &["dump"]) {
         return Some(Command::Answer(Reading::Dump));
     }
+    if are_words(words, &["dump", "--binary"]) {
+        return Some(Command::Dump);
+    }
     if are_words(words, &["--help"]) {
         return Some(Command::Tell(Topic::Help));
     }

@@ -431,6 +431,19 @@ const BYTE_RUNS: &[(&[&str], &[u8], &str, u8)] = &[
         "item 1: semantic 0 break\n",
         1,
     ),
+    (
+        &["dump", "--binary"],
+        b"\xa1\x61a\xf9\x3e\x00",
+        "0: a1  map of 1\n1:   6161  text of 1 \"a\"\n3:   f93e00  float of 2 bytes\n",
+        0,
+    ),
+    (
+        &["dump", "--binary"],
+        b"\x82\x00\x0a\n",
+        "0: 82  array of 2\n1:   00  unsigned 0\n2:   0a  unsigned 10\ntrailing 1\n",
+        1,
+    ),
+    (&["dump", "--binary"], b"", "incomplete\n", 1),
     (&["--version"], b"\xff", "cbor 0.4.0\n", 0),
 ];
 
@@ -497,6 +510,7 @@ fn tells_its_commands(rt: HostRuntime) -> Result<(), Fail> {
         "  cbor sort [--core] ",
         "  cbor diag --binary [--indent] [limit] ",
         "  cbor read --binary [limit] ",
+        "  cbor dump --binary ",
         "  cbor --help, cbor --version ",
     ] {
         assert!(rt; HELP.contains(words), "{words}");
@@ -653,7 +667,10 @@ const WRONG_WORDS: &[&[&str]] = &[
     &["diag", "--binary", "--binary"],
     &["DIAG"],
     &["dump", "1"],
-    &["dump", "--binary"],
+    &["dump", "--binary", "1"],
+    &["dump", "--binary", "--indent"],
+    &["dump", "--binary", "--binary"],
+    &["--binary", "dump"],
     &["DUMP"],
     &["read", "--binary", "x"],
     &["read", "--binary", "--binary"],
@@ -751,6 +768,24 @@ fn tells_a_fault_of_the_output(rt: HostRuntime) -> Result<(), Fail> {
             assert!(rt; output.as_bytes().starts_with(held), "{room}");
             expect_end(&rt, &ended, 1, held, "output failed\n", input);
         }
+    }
+    Ok(())
+}
+
+// Whether the input fails, in some way, or only the flush of the output; what is written, and told.
+const DUMP_FAULTS: [(Option<ErrorKind>, &str, &str); 3] = [
+    (Some(ErrorKind::OutOfMemory), "", "input failed\n"),
+    (Some(ErrorKind::UnexpectedEof), "", "input failed\n"),
+    (None, "0: 00  unsigned 0\n", "output failed\n"),
+];
+
+#[test]
+fn tells_a_fault_of_a_dump(rt: HostRuntime) -> Result<(), Fail> {
+    for (fault, output, errors) in DUMP_FAULTS {
+        let mut source = Source::new(b"\x00", usize::MAX, fault);
+        let device = Device::new(rt.alloc(), usize::MAX, true);
+        let ended = run_on(rt.alloc(), &["dump", "--binary"], &mut source, device)?;
+        expect_end(&rt, &ended, 1, output.as_bytes(), errors, errors);
     }
     Ok(())
 }

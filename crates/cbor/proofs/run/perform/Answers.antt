@@ -1,10 +1,11 @@
 use Rattle.std.proofs.Common.{◌≡◌, ◌++◌}
 use Rattle.cbor.specs.Lines.{AreAnswered}
 use Rattle.cbor.specs.SortedLines.{AreSortedOrRefused}
-use Rattle.cbor.specs.Streams.{IsStreamShown}
+use Rattle.cbor.specs.Streams.{IsDumpedBehind, IsStreamShown}
 use Rattle.cbor.specs.Topics.{topic_text}
 use Rattle.cbor.proofs.AnsweredLines.{answered-still, flushed-each, flushed-told, still}
 use Rattle.cbor.proofs.MeantLines.{sorted-still}
+use Rattle.cbor.proofs.DumpedInputs.{dumped-still}
 use Rattle.cbor.proofs.ShownItems.{shown-still}
 use Rattle.cbor.proofs.run.perform.Goals as goal
 
@@ -34,6 +35,14 @@ returns-in-Show-clause-shown g c showing limit b w same e f =
     c.show_items-shown.result finish.result finish.ensures.same
     (λ all. shown-still showing b limit w all _ _ finish.ensures.kept)
     (rw (so, within) at c.show_items-shown.ensures b w e f)
+
+pub returns-in-Dump-clause-dumped : goal.returns-in-Dump-clause-dumped
+returns-in-Dump-clause-dumped g c b w same e f =
+    let finish = c.finish-in-Dump in
+    flushed-each (λ all. IsDumpedBehind b w all _) (λ all. IsDumpedBehind b w all _) c.dump_input-dumped.result
+    finish.result finish.ensures.same
+    (λ all. dumped-still b w all _ _ finish.ensures.kept)
+    (c.dump_input-dumped.ensures b w e f)
 
 pub returns-in-Tell-clause-told : goal.returns-in-Tell-clause-told
 returns-in-Tell-clause-told g c topic w same e =

@@ -1,5 +1,5 @@
 use Rattle.std.proofs.Common.{map, string_bytes}
-use Rattle.cbor.specs.declared.command.Command.TheVariants.{Answer, Show, Sort, Tell}
+use Rattle.cbor.specs.declared.command.Command.TheVariants.{Answer, Dump, Show, Sort, Tell}
 use Rattle.cbor.proofs.AskedWords.{asks-for-one}
 use Rattle.cbor.proofs.run.run.Goals as goal
 
@@ -20,6 +20,11 @@ returns-in-Some-clause-shown g c showing limit b w asked e f zero =
     let same = asks-for-one (map string_bytes c.args.words.now) c.in-Some.command (Show showing limit) c.in-Some.ensures
     asked in
     rw (c.conclude.ensures.all.0 zero) at c.perform-done.ensures.shown showing limit b w same e f
+
+pub returns-in-Some-clause-dumped : goal.returns-in-Some-clause-dumped
+returns-in-Some-clause-dumped g c b w asked e f zero =
+    let same = asks-for-one (map string_bytes c.args.words.now) c.in-Some.command Dump c.in-Some.ensures asked in
+    rw (c.conclude.ensures.all.0 zero) at c.perform-done.ensures.dumped b w same e f
 
 pub returns-in-Some-clause-told : goal.returns-in-Some-clause-told
 returns-in-Some-clause-told g c topic w asked e zero =
