@@ -6,3 +6,4 @@ pub mod ReadDigits
 pub mod OpenNumbers
 pub mod ShortNames
 pub mod SkippedPayloads
+pub mod VisitedPayloads

@@ -52,8 +52,7 @@ use std::io::{self, Read};
 /// What reading a `Value` promises, whatever the bytes and the limit. Some bytes are taken: at `Ok`
 /// they are just one item, which means the answer, nests within the limit and ends within the
 /// greatest offset; else they are refused so, whatever follows them. And where such an item stands
-/// at the front, it is taken and answered, unless the reader failed or memory was refused. The
-/// other reading calls promise the same of a `Value`.
+/// at the front, it is taken and answered, unless the reader failed or memory was refused.
 pub fn value_is_read<R: Read>(
     alloc: Global,
     reader: &mut R,

@@ -54,3 +54,15 @@ AppendsHeld old new can_fail most (Err (Io e)) before after = Keeps old new × (
 AppendsHeld old new can_fail most (Err (Syntax p)) before after = ⊥
 AppendsHeld old new can_fail most (Err TooLong) before after = ⊥
 AppendsHeld old new can_fail most (Err Memory) before after = Keeps old new × (after ≡ before)
+
+-- the n bytes at the front were taken, of which this was made; where they are not held whole, or
+-- the call is refused, none was
+abbrev pub VisitsHeld : {V E : Type 0} → Option (List ℕ) → Option (List ℕ) → Bool → ℕ →
+    (List ℕ → V → Type 0) → Option (Result V (Error E)) → Type 0
+VisitsHeld old new can_fail n Makes None = Keeps old new
+VisitsHeld old new can_fail n Makes (Some (Ok v)) = TakesSome old new n (λ b. Makes b v)
+VisitsHeld old new can_fail n Makes (Some (Err (Io e))) = Keeps old new × (0 < n) ×
+    IsUsedUp can_fail new
+VisitsHeld old new can_fail n Makes (Some (Err (Syntax p))) = ⊥
+VisitsHeld old new can_fail n Makes (Some (Err TooLong)) = ⊥
+VisitsHeld old new can_fail n Makes (Some (Err Memory)) = ⊥

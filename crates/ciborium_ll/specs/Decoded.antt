@@ -1,9 +1,11 @@
 -- What the calls on a decoder answer, of any reader, and what they leave: each in one record, for a
 -- call and for its twin that keeps the reader's error.
-use Rattle.std.specs.Prelude.{◌≡◌, ℕ, Bool, List, Option, Some, None, IfErr, IfNone, IfSome, Result}
-use Rattle.std.specs.Prelude.{Ok}
+use Rattle.std.specs.Prelude.{◌≡◌, ℕ, ◌+◌, ◌<◌, ◌≤◌, Bool, List, [], length, Option, Some, None}
+use Rattle.std.specs.Prelude.{IfErr, IfNone, IfSome, Result, Ok, Err}
 use Rattle.ciborium_ll.specs.declared.header.Header.{Header}
 use Rattle.ciborium_ll.specs.declared.header.Error.{Error}
+use Rattle.ciborium_ll.specs.declared.header.Error.TheVariants.{Io, Syntax, TooLong, Memory}
+use Rattle.ciborium_ll.specs.Bytes.{greatest_offset}
 use Rattle.ciborium_ll.specs.declared.decoder.Decoder.{Decoder}
 use Rattle.ciborium_ll.specs.Decoding.{HasEndedFor, HasSameReader, IsAhead, ReadsNothing}
 use Rattle.ciborium_ll.specs.Decoding.{MeasuresHead}
@@ -43,6 +45,28 @@ pub record HasFilled {S W E : Type 0} (can_fail : Bool) (remaining : S → Optio
   pub taken : Takes remaining old new (λ b. IsFillTaken b (count_of old) buffer result)
   -- a reader that cannot fail before its end has nothing left at `Io`
   pub ended : IfErr result (λ e. HasEndedFor can_fail remaining new e)
+
+-- b is taken at offset p where n bytes are visited: these, of which the value is made, or none
+abbrev pub IsVisited : {V E : Type 0} → ℕ → (List ℕ → V → Type 0) → List ℕ → ℕ →
+    Option (Result V (Error E)) → Type 0
+IsVisited n Makes b p None = b ≡ []
+IsVisited n Makes b p (Some (Ok v)) = (length b ≡ n) × (p + n ≤ greatest_offset) × Makes b v
+IsVisited n Makes b p (Some (Err (Io e))) = (b ≡ []) × (0 < n) × (p + n ≤ greatest_offset)
+IsVisited n Makes b p (Some (Err (Syntax at))) = ⊥
+IsVisited n Makes b p (Some (Err TooLong)) = ⊥
+IsVisited n Makes b p (Some (Err Memory)) = ⊥
+
+-- the next n bytes were visited, or none
+pub record HasVisited {S W V E : Type 0} (can_fail : Bool) (remaining : S → Option (List ℕ))
+    (old new : Decoder S W) (n : ℕ) (Makes : List ℕ → V → Type 0)
+    (result : Option (Result V (Error E))) : Type 0 where
+  pub same_reader : HasSameReader old new
+  pub none_pushed : pushed_of new ≡ None
+  pub last : last_of new ≡ last_of old
+  pub head_len : head_len_of new ≡ head_len_of old
+  pub taken : Takes remaining old new (λ b. IsVisited n Makes b (count_of old) result)
+  -- a reader that cannot fail before its end has nothing left at `Io`
+  pub ended : IfSome result (λ r. IfErr r (λ e. HasEndedFor can_fail remaining new e))
 
 -- what the last head, that of a string, announces was put behind `before`, whole or up to what is
 -- refused

@@ -6,18 +6,19 @@ ghost use Rattle.std.specs.Prelude.{Some, length, take, ℕ};
 ghost use Rattle.std.specs.Io.{ReadsAtMost};
 ghost use Rattle.std.specs.Io.KnownBytes.{Keeps, ReadConsumes};
 ghost use Rattle.ciborium_ll.specs.Accesses.{AppendsHeld, HasEnded, HasReadToEnd};
-ghost use Rattle.ciborium_ll.specs.Accesses.{TakesHeldHead};
+ghost use Rattle.ciborium_ll.specs.Accesses.{TakesHeldHead, VisitsHeld};
 ghost use Rattle.ciborium_ll.specs.Bytes.{AreBytes};
 ghost use Rattle.ciborium_ll.specs.FirstHeads.{IsHeadIo};
 
 use crate::header::{Error, Header};
 use crate::keep::Keep;
 use crate::reading::front_head;
+use crate::visitor::Visitor;
 use std::io::{self, BufRead, ErrorKind, Read};
 
 /// How the bytes of a reader are taken. Beside `read`, which every reader has, one that holds bytes
 /// may hand them out where they stand: a head that is held whole is parsed there, and a payload is
-/// appended from there.
+/// visited there, or appended from there.
 pub trait Access<R> {
     // The bytes that are left, where they are known.
     ghost remaining: { R → Option (List ℕ) };
@@ -62,6 +63,17 @@ pub trait Access<R> {
     ) -> Result<Option<usize>, Error<K::Kept>>
         ensures { AppendsHeld (remaining reader.old) (remaining reader.new) can_fail most result
             out.old.items out.new.items };
+
+    /// Takes the next n bytes, where they are held whole, and answers what the visitor makes of
+    /// them. `None`, and an error, takes nothing.
+    fn visit<V: Visitor, K: Keep>(
+        reader: &mut R,
+        n: usize,
+        visitor: &V,
+        keep: &mut K,
+    ) -> Option<Result<V::Value, Error<K::Kept>>>
+        ensures { VisitsHeld (remaining reader.old) (remaining reader.new) can_fail n
+            (V.makes visitor.now) result };
 }
 
 // The error of a reader that has come to its end.
@@ -117,6 +129,16 @@ impl<R: Read> Access<R> for Plain {
         _keep: &mut K,
     ) -> Result<Option<usize>, Error<K::Kept>> {
         Ok(None)
+    }
+
+    #[inline(always)]
+    fn visit<V: Visitor, K: Keep>(
+        _reader: &mut R,
+        _n: usize,
+        _visitor: &V,
+        _keep: &mut K,
+    ) -> Option<Result<V::Value, Error<K::Kept>>> {
+        None
     }
 }
 
@@ -183,6 +205,29 @@ impl<R: BufRead> Access<R> for Buffered {
         reader.consume(count);
         Ok(Some(count))
     }
+
+    #[inline(always)]
+    fn visit<V: Visitor, K: Keep>(
+        reader: &mut R,
+        n: usize,
+        visitor: &V,
+        keep: &mut K,
+    ) -> Option<Result<V::Value, Error<K::Kept>>> {
+        if n == 0 {
+            return None;
+        }
+        let value = match reader.fill_buf() {
+            Ok(held) => {
+                if held.len() < n {
+                    return None;
+                }
+                visitor.visit(front(held, n))
+            }
+            Err(e) => return Some(Err(Error::Io(keep.keep(e)))),
+        };
+        reader.consume(n);
+        Some(Ok(value))
+    }
 }
 
 /// Of a slice, which holds all of its bytes, and never fails.
@@ -238,5 +283,21 @@ impl<'s> Access<&'s [u8]> for Slice {
         }
         *reader = &held[count..];
         Ok(Some(count))
+    }
+
+    #[inline(always)]
+    fn visit<V: Visitor, K: Keep>(
+        reader: &mut &'s [u8],
+        n: usize,
+        visitor: &V,
+        _keep: &mut K,
+    ) -> Option<Result<V::Value, Error<K::Kept>>> {
+        let held: &'s [u8] = *reader;
+        if held.len() < n {
+            return None;
+        }
+        let value = visitor.visit(front(held, n));
+        *reader = &held[n..];
+        Some(Ok(value))
     }
 }

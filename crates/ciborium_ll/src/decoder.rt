@@ -6,6 +6,7 @@ use crate::cursor::Cursor;
 use crate::header::{Error, Header};
 use crate::keep::{Answered, Keep};
 use crate::strings::Kind;
+use crate::visitor::Visitor;
 use std::io::{self, Read};
 use std::marker::PhantomData;
 use std::mem;
@@ -55,7 +56,7 @@ impl<'a, R, A: Access<R>> Decoder<'a, R, A> {
     ghost use Rattle.ciborium_ll.specs.Decoding.{MeasuresHead, Pulls, ReadsNothing, Takes};
     ghost use Rattle.ciborium_ll.specs.Decoding.{count_of, head_len_of, last_of, left_of};
     ghost use Rattle.ciborium_ll.specs.Decoding.{offset_of, pushed_of};
-    ghost use Rattle.ciborium_ll.specs.Decoded.{HasAppended, HasFilled, HasPulled};
+    ghost use Rattle.ciborium_ll.specs.Decoded.{HasAppended, HasFilled, HasPulled, HasVisited};
     ghost use Rattle.ciborium_ll.specs.FirstHeads.{IsEndOrFault, IsFirstTaken, MeasuresFirst};
     ghost use Rattle.ciborium_ll.specs.FirstHeads.{PullsFirst};
     ghost use Rattle.ciborium_ll.specs.ReaderSteps.{IsHeadTaken};
@@ -271,6 +272,34 @@ impl<'a, R, A: Access<R>> Decoder<'a, R, A> {
             keep,
         }
         .fill(buffer)
+    }
+
+    /// Takes the next n bytes where the reader holds them whole, and answers what the visitor makes
+    /// of them there; the reader's error goes to `keep`. `None`, which takes nothing, where they
+    /// are not held, or would pass the greatest offset: then `read_exact_keeping` says which.
+    ///
+    /// # Errors
+    ///
+    /// `Io`, with nothing taken, where the reader fails.
+    #[inline(always)]
+    pub fn visit_keeping<V: Visitor, K: Keep>(
+        &mut self,
+        n: usize,
+        visitor: &V,
+        keep: &mut K,
+    ) -> Option<Result<V::Value, Error<K::Kept>>>
+        requires { pushed_of self.old ≡ None }
+        ensures { HasVisited A.can_fail A.remaining self.old self.new n (V.makes visitor.now)
+            result }
+    {
+        if usize::MAX - self.counter.count < n {
+            return None;
+        }
+        let visited = A::visit(self.reader, n, visitor, keep)?;
+        if visited.is_ok() {
+            self.counter.count += n;
+        }
+        Some(visited)
     }
 
     /// Appends the payload of the byte string whose head was pulled last. `len` is the length in

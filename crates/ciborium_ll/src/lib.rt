@@ -19,6 +19,7 @@ pub mod spelling_laws;
 mod strings;
 pub mod tag;
 mod texts;
+mod visitor;
 mod writing;
 
 pub use access::{Access, Buffered, Plain, Slice};
@@ -29,4 +30,5 @@ pub use integer::{Integer, OutOfRange};
 pub use item_heads::{ItemHead, ItemHeads, NoItem, is_well_formed, item_len};
 pub use keep::{Answered, Keep};
 pub use levels::{Level, Step, step_of};
+pub use visitor::Visitor;
 pub use writing::Failed;

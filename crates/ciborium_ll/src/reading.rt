@@ -4,13 +4,15 @@
 //! of a head.
 
 ghost use Rattle.std.specs.Prelude.{◌≡◌, ◌+◌, ◌<◌, ◌≤◌, ◌%◌, ◌∷◌, IfErr, IfSome, length, take};
+ghost use Rattle.ciborium_ll.specs.Accesses.{HasEnded};
 ghost use Rattle.ciborium_ll.specs.Bytes.{AreBytes};
 ghost use Rattle.ciborium_ll.specs.FirstHeads.{IsHeadIo};
 ghost use Rattle.ciborium_ll.specs.Header.{announced_length};
 ghost use Rattle.ciborium_ll.specs.Refusal.{argument_length};
-ghost use Rattle.ciborium_ll.specs.ReaderSteps.{IsHeadTaken, IsParsed};
+ghost use Rattle.ciborium_ll.specs.ReaderSteps.{Advances, IsHeadTaken, IsParsed};
 
 use crate::access::Access;
+use crate::counter::Counter;
 use crate::cursor::Cursor;
 use crate::header::{Error, Header};
 use crate::keep::Keep;
@@ -109,6 +111,30 @@ pub(crate) fn front_head<E>(start: usize, held: &[u8]) -> Option<(Result<Header,
     Some((head, size))
 }
 
+// Reads the head at the front, which is not held whole. Out of line: where bytes are held it is
+// seldom called. What it reads from comes in parts, so that no cursor need stand in memory.
+#[inline(never)]
+fn read_apart<R, A: Access<R>, K: Keep>(
+    reader: &mut R,
+    counter: &mut Counter,
+    keep: &mut K,
+) -> Result<Header, Error<K::Kept>>
+    ensures head { Advances (A.remaining reader.old) (A.remaining reader.new) counter.old.count
+        counter.new.count (λ b. IsHeadTaken b counter.old.count result) }
+    ensures ended { IfErr result (HasEnded A.can_fail (A.remaining reader.new)) }
+{
+    let start = counter.count;
+    let mut cursor = Cursor {
+        reader,
+        access: PhantomData::<A>,
+        counter,
+        keep,
+    };
+    let mut first = [0u8; 1];
+    cursor.fill(&mut first)?;
+    cursor.read_behind(start, first[0])
+}
+
 impl<'c, R, A: Access<R>, K: Keep> Cursor<'c, R, A, K> {
     ghost use Rattle.std.specs.Prelude.{IfNone, IfOk};
     ghost use Rattle.std.specs.Io.KnownBytes.{IsAtEnd};
@@ -153,23 +179,7 @@ impl<'c, R, A: Access<R>, K: Keep> Cursor<'c, R, A, K> {
         self.read_argument(start, initial, &mut room[..size])
     }
 
-    // Reads the head at the front, which is not held whole. Out of line: where bytes are held it is
-    // seldom called.
-    #[inline(never)]
-    fn read_apart(&mut self) -> Result<Header, Error<K::Kept>>
-        ensures same { IsSameCursor self.old self.new }
-        ensures head { Moves A.remaining self.old self.new
-            (λ b. IsHeadTaken b (count_at self.old) result) }
-        ensures ended { IfErr result (λ e. HasEndedAt A.can_fail A.remaining self.new e) }
-    {
-        let start = self.counter.count;
-        let mut first = [0u8; 1];
-        self.fill(&mut first)?;
-        self.read_behind(start, first[0])
-    }
-
-    // Reads the head at the front. A cursor of its own goes out of line, so that this one need not
-    // stand in memory.
+    // Reads the head at the front.
     #[inline(always)]
     pub(crate) fn read_head(&mut self) -> Result<Header, Error<K::Kept>>
         ensures same { IsSameCursor self.old self.new }
@@ -182,13 +192,7 @@ impl<'c, R, A: Access<R>, K: Keep> Cursor<'c, R, A, K> {
                 self.counter.count += size;
                 head
             }
-            None => Cursor {
-                reader: self.reader,
-                access: PhantomData::<A>,
-                counter: self.counter,
-                keep: self.keep,
-            }
-            .read_apart(),
+            None => read_apart::<R, A, K>(self.reader, self.counter, self.keep),
         }
     }
 

@@ -298,9 +298,6 @@ module _ (P Q R : List ℕ → Type 0) (m : ℕ) where
 
 -- ---- heads in a row
 
-pub none-passed : (P : List ℕ → Type 0) (m : ℕ) (levels : List Level) → PassesHeads P P m levels levels
-none-passed P m levels y u = (y, u, λ limited z. (λ to. to, λ to. to))
-
 pub passed-then : (P Q R : List ℕ → Type 0) (m : ℕ) (a b c : List Level) → PassesHeads P Q m a b →
     PassesHeads Q R m b c → PassesHeads P R m a c
 passed-then P Q R m a b c f g y u =

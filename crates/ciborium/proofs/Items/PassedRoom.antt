@@ -81,13 +81,3 @@ module _ (l : Limit) where
             big,
             (length b, x, b ++ c, head, le, behind ∙ ap (λ (v : List ℕ). v ++ c) f ∙ append_assoc x b c),
           )
-
-  -- so the head behind such a tag is that of a short byte string
-  pub no-room-behind : (m t : ℕ) (header : Header) (h x r z : List ℕ) (level : Level) (levels : List Level) →
-      SpellsHeader h (heads.Tag t) → SpellsHeader x header → AreOpen (level ∷ levels) → l ≡ Some m →
-      m ≤ length levels → LevelsTo l (level ∷ levels) (h ++ (x ++ r)) z →
-      (is_bignum_tag t ≡ true) × ((k : ℕ) × (header ≡ heads.Bytes (Some k)) × (k ≤ 16))
-  no-room-behind m t header h x r z level levels hd xd some limit full ends =
-      let (big, (k, u, v, ud, le, e)) = no-room-tag m t h (x ++ r) z level levels hd some limit full ends in
-      let one = one_header_at_front x u r v header (heads.Bytes (Some k)) xd ud e in
-      (big, (k, one.2, le))

@@ -1,7 +1,7 @@
 //! Names.
 
 ghost use Rattle.std.specs.Prelude.{◌≡◌, ◌≤◌, IfErr, IfOk, IfSome, List, None, OnErr, OnOk, Some};
-ghost use Rattle.std.specs.Prelude.{string_bytes, ℕ};
+ghost use Rattle.std.specs.Prelude.{IsUtf8, MatchOption, string_bytes, ℕ};
 ghost use Rattle.ciborium_ll.specs.Decoding.{HasSameReader};
 ghost use Rattle.ciborium_ll.specs.StringRefusal.{of_text};
 ghost use Rattle.ciborium_value.specs.Sources.{TakesOnly};
@@ -16,7 +16,7 @@ ghost use Rattle.ciborium.specs.inner.StringContents.{DeniesContent, TakesPlace}
 use crate::de::byte_source::ByteSource;
 use crate::de::error::{Error, Refusal};
 use ciborium_ll::tag::{BIGNEG, BIGPOS};
-use ciborium_ll::{Access, Header};
+use ciborium_ll::{Access, Header, Visitor};
 use ciborium_value::{Kind, LabelKind, Labels};
 use std::alloc::Global;
 use std::str;
@@ -59,6 +59,27 @@ fn label_kind(header: Header) -> LabelKind
     }
 }
 
+// Finds the place of a name, or none where the bytes are no text.
+#[derive(Clone, Copy, Drop)]
+struct NameFinder<'n, N> {
+    names: &'n N,
+}
+
+impl<'n, N: Labels> Visitor for NameFinder<'n, N> {
+    type Value = Option<N::Place>;
+
+    ghost makes = { λ self bytes found. MatchOption found (¬ IsUtf8 bytes)
+        (λ place. IsUtf8 bytes × (place ≡ name_place (N.place_of self.names.now) bytes)) };
+
+    #[inline(always)]
+    fn visit(&self, bytes: &[u8]) -> Option<N::Place> {
+        match str::from_utf8(bytes) {
+            Ok(name) => Some(self.names.find_name(name)),
+            Err(_) => None,
+        }
+    }
+}
+
 impl<'a, R, A: Access<R>> ByteSource<'a, R, A> {
     /// A text, or a byte string that is UTF-8 once its chunks are joined.
     #[inline(always)]
@@ -84,9 +105,10 @@ impl<'a, R, A: Access<R>> ByteSource<'a, R, A> {
         }
     }
 
-    // The place of the text of n bytes whose head, at this offset, was taken last.
+    // The place of the text of n bytes whose head, at this offset, was taken last, where they are
+    // not held.
     #[inline(always)]
-    fn short_place<N: Labels>(
+    fn copied_place<N: Labels>(
         &mut self,
         n: usize,
         offset: usize,
@@ -113,6 +135,36 @@ impl<'a, R, A: Access<R>> ByteSource<'a, R, A> {
         match str::from_utf8(payload) {
             Ok(name) => Ok(names.find_name(name)),
             Err(_) => Err(Error::Syntax(offset)),
+        }
+    }
+
+    // The place of the text of n bytes whose head, at this offset, was taken last.
+    #[inline(always)]
+    fn short_place<N: Labels>(
+        &mut self,
+        n: usize,
+        offset: usize,
+        names: &N,
+    ) -> Result<N::Place, Refusal>
+        requires pending { self.old.pending ≡ None }
+        requires short { n ≤ 64 }
+        ensures same_reader { HasSameReader self.old.decoder self.new.decoder }
+        ensures only { TakesOnly (HasTaken A.remaining) self.old.decoder self.new.decoder }
+        ensures no_more { OnErr result (weight_left self.new ≤ weight_left self.old) }
+        ensures levels { self.new.levels ≡ self.old.levels }
+        ensures pending { self.new.pending ≡ None }
+        ensures fewer { OnOk result (bytes_weight self.new ≤ bytes_weight self.old) }
+        ensures ok { IfOk result (λ place. TakesPlace (IsUnread A.remaining self.old)
+            (IsUnread A.remaining self.new) of_text (Some n) (name_place (N.place_of names.now))
+            place) }
+        ensures denied { IfErr result
+            (λ e. DeniesContent (IsUnread A.remaining self.old) (end_at A.remaining self.old)
+            of_text (Some n) (fault_at A.can_fail A.remaining self.new e)) }
+    {
+        match self.visit(n, &NameFinder { names })? {
+            Some(Some(place)) => Ok(place),
+            Some(None) => Err(Error::Syntax(offset)),
+            None => self.copied_place(n, offset, names),
         }
     }
 

@@ -1,7 +1,9 @@
 //! Payloads that are passed over.
 
 ghost use Rattle.std.specs.Prelude.{◌≡◌, ◌+◌, ◌<◌, ◌≤◌, ◌++◌, IfErr, IfNone, IfSome, IsUtf8};
-ghost use Rattle.std.specs.Prelude.{List, None, OnErr, OnOk, Some, drop, false, length, take, ℕ};
+ghost use Rattle.std.specs.Prelude.{List, MatchBool, None, OnErr, OnOk, Some, drop, false, length};
+ghost use Rattle.std.specs.Prelude.{take, ℕ};
+ghost use Rattle.ciborium_ll.specs.Bytes.{AreBytes};
 ghost use Rattle.ciborium_ll.specs.Decoding.{HasSameReader};
 ghost use Rattle.ciborium_ll.specs.declared.header.Header.TheVariants as heads;
 ghost use Rattle.ciborium_value.specs.Sources.{IsGrantedFault, TakesOnly};
@@ -11,7 +13,7 @@ ghost use Rattle.ciborium.specs.inner.PassedOver.{DeniesPayload, TakesPayload};
 
 use crate::de::byte_source::ByteSource;
 use crate::de::error::{Error, Refusal};
-use ciborium_ll::{Access, Header};
+use ciborium_ll::{Access, Header, Visitor};
 use std::str;
 
 // How many bytes of a payload are taken at once.
@@ -53,9 +55,37 @@ fn keep_cut(bytes: &mut [u8]) -> Option<usize>
     Some(kept)
 }
 
+// Bytes, of which nothing is made.
+#[derive(Clone, Copy, Drop)]
+struct AnyBytes;
+
+impl Visitor for AnyBytes {
+    type Value = ();
+
+    ghost makes = { λ self bytes none. AreBytes bytes };
+
+    #[inline(always)]
+    fn visit(&self, _bytes: &[u8]) {}
+}
+
+// Whether bytes are a text.
+#[derive(Clone, Copy, Drop)]
+struct TextTest;
+
+impl Visitor for TextTest {
+    type Value = bool;
+
+    ghost makes = { λ self bytes is_text. MatchBool is_text (IsUtf8 bytes) (¬ IsUtf8 bytes) };
+
+    #[inline(always)]
+    fn visit(&self, bytes: &[u8]) -> bool {
+        str::from_utf8(bytes).is_ok()
+    }
+}
+
 impl<'a, R, A: Access<R>> ByteSource<'a, R, A> {
-    // Passes over the payload of a byte string, of `len` bytes.
-    fn skip_bytes(&mut self, len: usize) -> Result<(), Refusal>
+    // Passes over the payload of a byte string, of `len` bytes, piece by piece.
+    fn skip_pieces(&mut self, len: usize) -> Result<(), Refusal>
         requires { self.old.pending ≡ None }
         ensures same_reader { HasSameReader self.old.decoder self.new.decoder }
         ensures only { TakesOnly (HasTaken A.remaining) self.old.decoder self.new.decoder }
@@ -81,10 +111,10 @@ impl<'a, R, A: Access<R>> ByteSource<'a, R, A> {
         Ok(())
     }
 
-    // Passes over the payload of a text, of `len` bytes, whose head stands at this offset. The
-    // beginning of a character that a piece cuts stays at the front of the room. What is no text is
-    // taken whole too before it is refused, as where a text is read.
-    fn skip_text(&mut self, len: usize, offset: usize) -> Result<(), Refusal>
+    // Passes over the payload of a text, of `len` bytes, whose head stands at this offset, piece by
+    // piece. The beginning of a character that a piece cuts stays at the front of the room. What is
+    // no text is taken whole too before it is refused, as where a text is read.
+    fn skip_text_pieces(&mut self, len: usize, offset: usize) -> Result<(), Refusal>
         requires { self.old.pending ≡ None }
         ensures same_reader { HasSameReader self.old.decoder self.new.decoder }
         ensures only { TakesOnly (HasTaken A.remaining) self.old.decoder self.new.decoder }
@@ -112,7 +142,7 @@ impl<'a, R, A: Access<R>> ByteSource<'a, R, A> {
             match keep_cut(bytes) {
                 Some(n) => kept = n,
                 None => {
-                    self.skip_bytes(left)?;
+                    self.skip_pieces(left)?;
                     return Err(Error::Syntax(offset));
                 }
             }
@@ -121,6 +151,55 @@ impl<'a, R, A: Access<R>> ByteSource<'a, R, A> {
             return Err(Error::Syntax(offset));
         }
         Ok(())
+    }
+
+    // Passes over the payload of a byte string, of `len` bytes.
+    #[inline(always)]
+    fn skip_bytes(&mut self, len: usize) -> Result<(), Refusal>
+        requires { self.old.pending ≡ None }
+        ensures same_reader { HasSameReader self.old.decoder self.new.decoder }
+        ensures only { TakesOnly (HasTaken A.remaining) self.old.decoder self.new.decoder }
+        ensures no_more { OnErr result (weight_left self.new ≤ weight_left self.old) }
+        ensures levels { self.new.levels ≡ self.old.levels }
+        ensures pending { self.new.pending ≡ None }
+        ensures fewer { OnOk result (bytes_weight self.new ≤ bytes_weight self.old) }
+        ensures ok { OnOk result (TakesPayload (IsUnread A.remaining self.old)
+            (IsUnread A.remaining self.new) (heads.Bytes (Some len))) }
+        ensures denied { IfErr result
+            (λ e. DeniesPayload (IsUnread A.remaining self.old) (end_at A.remaining self.old)
+            (heads.Bytes (Some len)) (fault_at A.can_fail A.remaining self.new e)) }
+        ensures memory { IfErr result
+            (λ e. IsGrantedFault (fault_at A.can_fail A.remaining self.new e) false) }
+    {
+        match self.visit(len, &AnyBytes)? {
+            Some(()) => Ok(()),
+            None => self.skip_pieces(len),
+        }
+    }
+
+    // Passes over the payload of a text, of `len` bytes, whose head stands at this offset.
+    #[inline(always)]
+    fn skip_text(&mut self, len: usize, offset: usize) -> Result<(), Refusal>
+        requires { self.old.pending ≡ None }
+        ensures same_reader { HasSameReader self.old.decoder self.new.decoder }
+        ensures only { TakesOnly (HasTaken A.remaining) self.old.decoder self.new.decoder }
+        ensures no_more { OnErr result (weight_left self.new ≤ weight_left self.old) }
+        ensures levels { self.new.levels ≡ self.old.levels }
+        ensures pending { self.new.pending ≡ None }
+        ensures fewer { OnOk result (bytes_weight self.new ≤ bytes_weight self.old) }
+        ensures ok { OnOk result (TakesPayload (IsUnread A.remaining self.old)
+            (IsUnread A.remaining self.new) (heads.Text (Some len))) }
+        ensures denied { IfErr result
+            (λ e. DeniesPayload (IsUnread A.remaining self.old) (end_at A.remaining self.old)
+            (heads.Text (Some len)) (fault_at A.can_fail A.remaining self.new e)) }
+        ensures memory { IfErr result
+            (λ e. IsGrantedFault (fault_at A.can_fail A.remaining self.new e) false) }
+    {
+        match self.visit(len, &TextTest)? {
+            Some(true) => Ok(()),
+            Some(false) => Err(Error::Syntax(offset)),
+            None => self.skip_text_pieces(len, offset),
+        }
     }
 
     /// Passes over the payload behind this head, which was taken last and stands at this offset:

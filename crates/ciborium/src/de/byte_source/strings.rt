@@ -1,7 +1,7 @@
 //! Strings.
 
-ghost use Rattle.std.specs.Prelude.{◌≡◌, ◌+◌, ◌<◌, ◌≤◌, IfErr, IfOk, None, OnErr, OnOk, Some};
-ghost use Rattle.std.specs.Prelude.{false, length, string_bytes};
+ghost use Rattle.std.specs.Prelude.{◌≡◌, ◌+◌, ◌<◌, ◌≤◌, IfErr, IfNone, IfOk, IfSome, List, None};
+ghost use Rattle.std.specs.Prelude.{OnErr, OnOk, Some, false, length, string_bytes, ℕ};
 ghost use Rattle.ciborium_ll.specs.Decoding.{HasSameReader};
 ghost use Rattle.ciborium_ll.specs.StringRefusal.{of_bytes, of_text};
 ghost use Rattle.ciborium_value.specs.Sources.{IsGrantedFault, TakesOnly};
@@ -14,7 +14,7 @@ ghost use Rattle.ciborium.specs.inner.StringContents.{TakesJust};
 
 use crate::de::byte_source::ByteSource;
 use crate::de::error::{Error, Refusal};
-use ciborium_ll::{Access, Header};
+use ciborium_ll::{Access, Header, Visitor};
 use ciborium_value::Kind;
 use std::alloc::Global;
 
@@ -38,6 +38,40 @@ impl<'a, R, A: Access<R>> ByteSource<'a, R, A> {
     {
         self.decoder.read_exact_keeping(buffer, &mut self.failure)?;
         Ok(())
+    }
+
+    /// What the visitor makes of the next n bytes, where they are held; `None` takes nothing.
+    #[inline(always)]
+    pub(crate) fn visit<V: Visitor>(
+        &mut self,
+        n: usize,
+        visitor: &V,
+    ) -> Result<Option<V::Value>, Refusal>
+        requires { self.old.pending ≡ None }
+        ensures same_reader { HasSameReader self.old.decoder self.new.decoder }
+        ensures only { TakesOnly (HasTaken A.remaining) self.old.decoder self.new.decoder }
+        ensures no_more { OnErr result (weight_left self.new ≤ weight_left self.old) }
+        ensures levels { self.new.levels ≡ self.old.levels }
+        ensures pending { self.new.pending ≡ None }
+        ensures fewer { OnOk result (bytes_weight self.new ≤ bytes_weight self.old) }
+        ensures none { IfOk result (λ o. IfNone o ((y : List ℕ) → IsUnread A.remaining self.old y →
+            IsUnread A.remaining self.new y)) }
+        ensures some { IfOk result (λ o. IfSome o (λ v. (b : List ℕ) × (length b ≡ n) ×
+            V.makes visitor.now b v ×
+            TakesJust (IsUnread A.remaining self.old) (IsUnread A.remaining self.new) b)) }
+        ensures outside { IfErr result
+            (λ e. DeniesJust (IsUnread A.remaining self.old) (end_at A.remaining self.old) n
+            (fault_at A.can_fail A.remaining self.new e)) }
+        ensures memory { IfErr result
+            (λ e. IsGrantedFault (fault_at A.can_fail A.remaining self.new e) false) }
+    {
+        match self.decoder.visit_keeping(n, visitor, &mut self.failure) {
+            Some(visited) => {
+                let value = visited?;
+                Ok(Some(value))
+            }
+            None => Ok(None),
+        }
     }
 
     /// The payload of the byte string whose head was taken last.

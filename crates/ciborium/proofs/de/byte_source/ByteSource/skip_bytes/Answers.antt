@@ -1,47 +1,21 @@
-use Rattle.std.proofs.Common.{◌≡◌, ◌∙◌, arith, rules, length, length-take-le, subst, Some}
+use Rattle.std.proofs.Common.{Some}
 use Rattle.std.proofs.lemmas.Result.{err_from_is_err_and}
 use Rattle.ciborium_ll.specs.declared.header.Header.TheVariants as header
 use Rattle.ciborium.specs.inner.ByteSources.{IsUnread, end_at, fault_at}
-use Rattle.ciborium.specs.inner.StringContents.{DeniesJust}
-use Rattle.ciborium.proofs.Items.TakenOnly.{same-end}
-use Rattle.ciborium.proofs.Payloads.SkippedPayloads.{bytes-taken, piece-denied, some-more}
+use Rattle.ciborium.proofs.Payloads.VisitedPayloads.{payload-denied, payload-denied-then}
 use Rattle.ciborium.proofs.de.byte_source.ByteSource.skip_bytes.Goals as goal
 
-pub returns-in_err-fill-clause-denied : goal.returns-in_err-fill-clause-denied
-returns-in_err-fill-clause-denied g c =
+pub returns-in_err-visit-clause-denied : goal.returns-in_err-visit-clause-denied
+returns-in_err-visit-clause-denied g c =
     let exit = err_from_is_err_and c.from_residual.result c.from_residual.ensures.1 in
-    let old = c.args.self.now in
-    let mid = c.loop-left.self in
-    let size = c.min-size.result in
-    let end = end_at g.A.Access.remaining mid in
-    let fault = fault_at g.A.Access.can_fail g.A.Access.remaining c.fill.new.self c.in_err-fill.field-0.0 in
-    let least = c.min-size.ensures in
-    let long : length c.loop-left.room ≡ 64 = search rules in
-    rw (exit.1, exit.2) (piece-denied (IsUnread g.A.Access.remaining old) (IsUnread g.A.Access.remaining mid)
-    (end_at g.A.Access.remaining old) end fault (header.Bytes (Some c.args.len)) c.args.len c.loop-left.left size
-    (λ p is. is.0) (omega (arith, least)) (same-end g.A.Access.remaining old mid c.loop-left.invariant.only)
-    c.loop-left.invariant.took (subst (λ k. DeniesJust (IsUnread g.A.Access.remaining mid) end k fault)
-    (length-take-le size c.loop-left.room (omega (arith, least, long))) c.in_err-fill.ensures.outside))
+    let fault = fault_at g.A.Access.can_fail g.A.Access.remaining c.visit.new.self c.in_err-visit.field-0.0 in
+    rw (exit.1, exit.2) (payload-denied (IsUnread g.A.Access.remaining c.args.self.now)
+    (end_at g.A.Access.remaining c.args.self.now) c.args.len fault (header.Bytes (Some c.args.len)) (λ p is. is.0)
+    c.in_err-visit.ensures.outside)
 
-pub loop-left-preserved : goal.loop-left-preserved
-loop-left-preserved g c =
-    let size = c.min-size.result in
-    let least = c.min-size.ensures in
-    let long : length c.loop-left.room ≡ 64 = search rules in record {
-      same_reader = c.in_ok-fill.ensures.same_reader ∙ c.loop-left.invariant.same_reader;
-      only = λ first h. c.in_ok-fill.ensures.only first (c.loop-left.invariant.only first h);
-      levels = c.in_ok-fill.ensures.levels ∙ c.loop-left.invariant.levels;
-      pending = c.in_ok-fill.ensures.pending;
-      fewer = omega (arith, c.in_ok-fill.ensures.fewer, c.loop-left.invariant.fewer);
-      took = some-more (IsUnread g.A.Access.remaining c.args.self.now) (IsUnread g.A.Access.remaining c.loop-left.self)
-          (IsUnread g.A.Access.remaining c.fill.new.self) c.args.len c.loop-left.left size c.fill.new.buffer
-          (omega (arith, least))
-          (c.fill.auto.buffer ∙ length-take-le size c.loop-left.room (omega (arith, least, long)))
-          c.in_ok-fill.ensures.ok c.loop-left.invariant.took;
-    }
-
-pub returns-clause-ok : goal.returns-clause-ok
-returns-clause-ok g c =
-    bytes-taken g.A.Access.remaining c.args.self.now c.loop-left.self c.args.len c.loop-left.left
-    c.loop-left.invariant.only c.requires c.loop-left.invariant.pending c.loop-left-test.false
-    c.loop-left.invariant.took
+pub returns-in-None-clause-denied : goal.returns-in-None-clause-denied
+returns-in-None-clause-denied g c =
+    let kept = rw c.in-None.is at c.in_ok-visit.ensures.none in
+    payload-denied-then g.A.Access.remaining c.args.self.now c.visit.new.self
+    (fault_at g.A.Access.can_fail g.A.Access.remaining c.skip_pieces.new.self) c.in_ok-visit.ensures.only kept
+    (header.Bytes (Some c.args.len)) c.skip_pieces.result c.skip_pieces.ensures.denied

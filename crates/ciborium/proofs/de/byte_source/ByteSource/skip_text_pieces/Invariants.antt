@@ -3,7 +3,7 @@ use Rattle.ciborium_ll.specs.Decoding.{HasSameReader}
 use Rattle.ciborium_value.specs.Sources.{TakesOnly}
 use Rattle.ciborium.specs.inner.ByteSources.{HasTaken, IsUnread, bytes_weight}
 use Rattle.ciborium.proofs.Payloads.SkippedPayloads.{TookText}
-use Rattle.ciborium.proofs.de.byte_source.ByteSource.skip_text.Given as goal
+use Rattle.ciborium.proofs.de.byte_source.ByteSource.skip_text_pieces.Given as goal
 
 abbrev pub invariant-loop-left : goal.invariant-loop-left
 invariant-loop-left g l = record {

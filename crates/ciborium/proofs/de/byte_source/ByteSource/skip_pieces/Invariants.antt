@@ -3,7 +3,7 @@ use Rattle.ciborium_ll.specs.Decoding.{HasSameReader}
 use Rattle.ciborium_value.specs.Sources.{TakesOnly}
 use Rattle.ciborium.specs.inner.ByteSources.{HasTaken, IsUnread, bytes_weight}
 use Rattle.ciborium.proofs.Payloads.SkippedPayloads.{TookSome}
-use Rattle.ciborium.proofs.de.byte_source.ByteSource.skip_bytes.Given as goal
+use Rattle.ciborium.proofs.de.byte_source.ByteSource.skip_pieces.Given as goal
 
 abbrev pub invariant-loop-left : goal.invariant-loop-left
 invariant-loop-left g l = record {
