@@ -6,5 +6,7 @@ pub mod TotalOrders
 pub mod HeadsInOrder
 pub mod SideBySide
 pub mod VisitCounts
+pub mod Rooms
 pub mod Encodings
 pub mod TreeEncodings
+pub mod OrderedStrings

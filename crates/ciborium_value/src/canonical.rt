@@ -2,12 +2,16 @@
 //! 8949, section 4.2.3), and the bytewise one (section 4.2.1).
 //!
 //! Bytewise, a comparison walks over both trees side by side, head against head and payload against
-//! payload, up to the first that differ: no encoding is a strict prefix of another. For the
-//! canonical order it measures each value first, by a walk over its tree, and walks over both only
-//! where the sizes are equal. No bytes are made, and no memory is taken.
+//! payload, up to the first that differ: no encoding is a strict prefix of another. In the
+//! canonical order the sizes come first, and such a walk follows only where these are equal.
+//! `cmp_value` measures both values whole. `cmp_keys` counts only until it knows which is the
+//! shorter, so that its work stays within a constant factor of the shorter size. No bytes are made,
+//! and no memory is taken.
 
-ghost use Rattle.std.specs.Prelude.{◌≡◌, ◌+◌, ◌*◌, ◌^◌, ◌<◌, ◌≤◌, length, vec_len};
+ghost use Rattle.std.specs.Prelude.{◌≡◌, ◌+◌, ◌-◌, ◌*◌, ◌^◌, ◌<◌, ◌≤◌, IfSome, length, vec_len};
 ghost use Rattle.std.specs.declared.cmp.Ordering.TheVariants.{Equal};
+ghost use Rattle.std.specs.Option.{SomeIff};
+ghost use Rattle.std.specs.Ordering.{nat_cmp};
 ghost use Rattle.ciborium_ll.specs.Bytes.{AreBytes};
 ghost use Rattle.ciborium_value.specs.Canonical.{bytewise_order, canonical_order, key_order};
 ghost use Rattle.ciborium_value.specs.Counts.{node_count, tree_pairs_node_count, trees_node_count};
@@ -16,7 +20,7 @@ ghost use Rattle.ciborium_value.specs.Encoding.{encoded_size, encoding};
 ghost use Rattle.ciborium_value.specs.inner.TreeHeads.{argument_of, head_order, tree_major};
 ghost use Rattle.ciborium_value.specs.ProperTrees.{AreProperTreePairs, AreProperTrees};
 ghost use Rattle.ciborium_value.specs.ProperTrees.{IsProperTree};
-ghost use Rattle.ciborium_value.specs.inner.SideBySide.{Decides};
+ghost use Rattle.ciborium_value.specs.inner.SideBySide.{Decides, payload_order};
 ghost use Rattle.ciborium_value.specs.Tree.{integer};
 ghost use Rattle.ciborium_value.specs.View.{tree_of, tree_pairs_of, trees_of};
 ghost use Rattle.ciborium_value.specs.Visits.{AddsAtMost, AddsVisits, both_node_count, saturated};
@@ -27,7 +31,8 @@ use ciborium_ll::{Integer, head_size, simple};
 use std::cmp::Ordering;
 
 /// The canonical order of two values, which is that of their encodings: the shorter first, and of
-/// two of equal length the bytewise lower one (RFC 8949, section 4.2.3). It takes no memory.
+/// two of equal length the bytewise lower one (RFC 8949, section 4.2.3). It measures both whole,
+/// which `cmp_keys` does not. It takes no memory.
 pub fn cmp_value(left: &Value, right: &Value) -> Ordering
     ensures order { result ≡ canonical_order (tree_of left.now) (tree_of right.now) }
     ensures equal { result ≡ Equal → tree_of left.now ≡ tree_of right.now }
@@ -85,14 +90,14 @@ pub fn cmp_bytewise_counted(left: &Value, right: &Value) -> (Ordering, u64)
     (order, visits.count)
 }
 
-/// The order of two values by the named order, as `cmp_value` or `cmp_bytewise` finds it. It takes
-/// no memory.
+/// The order of two values by the named order, that of `cmp_value` or `cmp_bytewise`. Its work is
+/// within a constant factor of the shorter encoding. It takes no memory.
 pub fn cmp_keys(order: KeyOrder, left: &Value, right: &Value) -> Ordering
     ensures order { result ≡ key_order order (tree_of left.now) (tree_of right.now) }
     ensures equal { result ≡ Equal → tree_of left.now ≡ tree_of right.now }
 {
     match order {
-        KeyOrder::LengthFirst => cmp_value(left, right),
+        KeyOrder::LengthFirst => cmp_length_first(left, right),
         KeyOrder::Bytewise => cmp_bytewise(left, right),
     }
 }
@@ -130,6 +135,16 @@ fn visit(value: &Value, visits: &mut Visits) -> Head
     ensures fits { argument_of (tree_of value.now) < 2 ^ 64 }
 {
     visits.count = visits.count.saturating_add(1);
+    head_of(value)
+}
+
+// The head of a value.
+#[inline(always)]
+fn head_of(value: &Value) -> Head
+    ensures major { result.major ≡ tree_major (tree_of value.now) }
+    ensures argument { result.argument ≡ argument_of (tree_of value.now) }
+    ensures fits { argument_of (tree_of value.now) < 2 ^ 64 }
+{
     match value {
         Value::Integer(number) => integer_head(*number),
         Value::Bytes(bytes) => Head {
@@ -249,6 +264,116 @@ fn payload_size(payload: &[u8]) -> u64
     ensures bytes { AreBytes payload.now }
 {
     payload.len() as u64
+}
+
+// ---- the shorter of two
+
+// The order of two payloads behind heads of one major type: the shorter first.
+#[inline(always)]
+fn cmp_payloads(left: &[u8], right: &[u8]) -> Ordering
+    ensures { result ≡ payload_order left.now right.now }
+{
+    left.len().cmp(&right.len()).then_with(|| left.cmp(right))
+}
+
+// The canonical order of two texts, or of two byte strings.
+#[inline(always)]
+fn cmp_strings(left: &Value, right: &Value) -> Option<Ordering>
+    ensures order { IfSome result (λ order.
+        order ≡ canonical_order (tree_of left.now) (tree_of right.now)) }
+    ensures equal { IfSome result (λ order.
+        order ≡ Equal → tree_of left.now ≡ tree_of right.now) }
+{
+    match (left, right) {
+        (Value::Text(left), Value::Text(right)) => {
+            Some(cmp_payloads(left.as_bytes(), right.as_bytes()))
+        }
+        (Value::Bytes(left), Value::Bytes(right)) => Some(cmp_payloads(left, right)),
+        _ => None,
+    }
+}
+
+// The canonical order of two values.
+fn cmp_length_first(left: &Value, right: &Value) -> Ordering
+    ensures order { result ≡ canonical_order (tree_of left.now) (tree_of right.now) }
+    ensures equal { result ≡ Equal → tree_of left.now ≡ tree_of right.now }
+{
+    if let Some(order) = cmp_strings(left, right) {
+        return order;
+    }
+    match cmp_sizes(left, right) {
+        Ordering::Equal => cmp_bytewise(left, right),
+        order => order,
+    }
+}
+
+// The last room: an encoding that does not fit in it has the greatest size that is counted.
+const LAST_ROOM: u64 = u64::MAX - 1;
+
+// The order of the sizes of two values' encodings. It tries rooms, each four times the one before,
+// until one of the encodings fits. Where both do, the shorter leaves more.
+fn cmp_sizes(left: &Value, right: &Value) -> Ordering
+    ensures { let left_size = encoded_size (tree_of left.now) in
+        let right_size = encoded_size (tree_of right.now) in result ≡ nat_cmp left_size right_size }
+{
+    let mut room = 64;
+    'rooms: loop {
+        match (spend(left, room), spend(right, room)) {
+            (Some(by_left), Some(by_right)) => return by_right.cmp(&by_left),
+            (Some(_), None) => return Ordering::Less,
+            (None, Some(_)) => return Ordering::Greater,
+            (None, None) => {}
+        }
+        if room == LAST_ROOM {
+            return Ordering::Equal;
+        }
+        room = room.saturating_mul(4).min(LAST_ROOM);
+    }
+}
+
+// What the encoding of a value leaves of a room, if it fits. Where it does not, the walk ends as
+// soon as the room is used up.
+#[cycle(spend)]
+fn spend(value: &Value, room: u64) -> Option<u64>
+    ensures { let size = length (encoding (tree_of value.now)) in
+        SomeIff result (size ≤ room) (room - size) }
+{
+    let room = room.checked_sub(head_size(head_of(value).argument))?;
+    match value {
+        Value::Integer(_) | Value::Bool(_) | Value::Null => Some(room),
+        Value::Bytes(bytes) => room.checked_sub(payload_size(bytes)),
+        Value::Text(text) => room.checked_sub(payload_size(text.as_bytes())),
+        Value::Tag(_, content) => spend(content, room),
+        Value::Array(items) => spend_items(items, room),
+        Value::Map(pairs) => spend_pairs(pairs, room),
+    }
+}
+
+// What the encodings of values leave of a room, if they fit.
+#[cycle(spend)]
+fn spend_items(items: &Vec<Value>, room: u64) -> Option<u64>
+    ensures { let size = length (encodings items.now.items) in
+        SomeIff result (size ≤ room) (room - size) }
+{
+    let mut left = room;
+    for item in items {
+        left = spend(item, left)?;
+    }
+    Some(left)
+}
+
+// What the encodings of pairs leave of a room, if they fit.
+#[cycle(spend)]
+fn spend_pairs(pairs: &Vec<(Value, Value)>, room: u64) -> Option<u64>
+    ensures { let size = length (pair_encodings pairs.now.items) in
+        SomeIff result (size ≤ room) (room - size) }
+{
+    let mut left = room;
+    for pair in pairs {
+        left = spend(&pair.0, left)?;
+        left = spend(&pair.1, left)?;
+    }
+    Some(left)
 }
 
 // ---- the first bytes that differ

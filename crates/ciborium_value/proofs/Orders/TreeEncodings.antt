@@ -32,16 +32,21 @@ encoding-is (array vs) = ap (λ n. shortest_head 4 n ++ items_bytes (items_of vs
 encoding-is (map ps) = ap (λ n. shortest_head 5 n ++ pairs_bytes (pairs_of ps)) (pairs_count-pairs_of ps)
 encoding-is _ = refl
 
+-- the length is that of the head and of what stands behind it
+pub encoding-length : (v : Tree) (major argument head : ℕ) → major ≡ tree_major v → argument ≡ argument_of v →
+    head ≡ length (shortest_head major argument) → length (encoding v) ≡ head + length (content_bytes v)
+encoding-length v major argument head m n h =
+    let first : head ≡ length (shortest_head (tree_major v) (argument_of v)) = h ∙
+    ap (λ k. length (shortest_head k argument)) m ∙ ap (λ k. length (shortest_head (tree_major v) k)) n in
+    ap length (encoding-is v) ∙ length-append (shortest_head (tree_major v) (argument_of v)) (content_bytes v) ∙
+    ap (λ k. k + length (content_bytes v)) (sym first)
+
 -- a size is that of the head and of what stands behind it
 pub encoded_size-is : (v : Tree) (major argument head content size : ℕ) → major ≡ tree_major v →
     argument ≡ argument_of v → head ≡ length (shortest_head major argument)
     → content ≡ saturated (length (content_bytes v)) → size ≡ saturated (head + content) → size ≡ encoded_size v
 encoded_size-is v major argument head content size m n h c s =
-    let first : head ≡ length (shortest_head (tree_major v) (argument_of v)) = h ∙
-    ap (λ k. length (shortest_head k argument)) m ∙ ap (λ k. length (shortest_head (tree_major v) k)) n in
-    let whole : length (encoding v) ≡ length (shortest_head (tree_major v) (argument_of v)) + length (content_bytes v) =
-    ap length (encoding-is v) ∙ length-append (shortest_head (tree_major v) (argument_of v)) (content_bytes v) in
-    omega (arith, first, c, s, whole)
+    let whole = encoding-length v major argument head m n h in omega (arith, c, s, whole)
 
 -- a head behind which nothing stands
 pub encoded_size-head : (v : Tree) (major argument head : ℕ) → major ≡ tree_major v → argument ≡ argument_of v →

@@ -1,6 +1,6 @@
 use Rattle.std.proofs.Common.{◌^◌, ◌<◌, subst}
 use Rattle.ciborium_value.proofs.Orders.TreeEncodings.{argument_of-Array, argument_of-Map}
-use Rattle.ciborium_value.proofs.canonical.visit.Goals as goal
+use Rattle.ciborium_value.proofs.canonical.head_of.Goals as goal
 
 pub returns-in-Array-clause-argument : goal.returns-in-Array-clause-argument
 returns-in-Array-clause-argument c = argument_of-Array _ _ _ c.in-Array.is c.len-in-Array.ensures

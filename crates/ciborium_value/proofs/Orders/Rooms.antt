@@ -1,0 +1,79 @@
+-- Encodings that are taken from a room, part by part.
+use Rattle.std.proofs.Common.{◌≡◌, ℕ, suc, ◌+◌, ◌-◌, ◌<◌, ◌≤◌, List, [], ◌++◌, length, take, drop, get_or}
+use Rattle.std.proofs.Common.{Option, Some, None, ap, ◌∙◌, length-append, arith}
+use Rattle.std.specs.Option.{SomeIff}
+use Rattle.ciborium_ll.specs.Head.{shortest_head}
+use Rattle.ciborium_value.specs.Encoding.{encoding}
+use Rattle.ciborium_value.specs.Tree.{Tree}
+use Rattle.ciborium_value.specs.View.{tree_of}
+use Rattle.ciborium_value.specs.declared.tree.Value.{Value}
+use Rattle.ciborium_value.specs.inner.EncodedLists.{encodings, pair_encodings}
+use Rattle.ciborium_value.specs.inner.TreeHeads.{tree_major, argument_of, content_bytes}
+use Rattle.ciborium_value.proofs.Orders.Encodings.{encodings-around, pair_encodings-around}
+use Rattle.ciborium_value.proofs.Orders.TreeEncodings.{encoding-length}
+
+-- one part, and then another
+SomeIff-then : (result : Option ℕ) (room left one other both : ℕ) → both ≡ one + other → (one ≤ room) ×
+    (left ≡ room - one) → SomeIff result (other ≤ left) (left - other) → SomeIff result (both ≤ room) (room - both)
+SomeIff-then None room left one other both sum first h = λ all. let fits = first.0 in let over = first.1 in
+    h (omega (arith, sum, fits, over, all))
+SomeIff-then (Some x) room left one other both sum first h =
+    let fits = first.0 in
+    let over = first.1 in
+    let behind = h.0 in
+    let is = h.1 in
+    (omega (arith, sum, fits, over, behind), omega (arith, sum, fits, over, behind, is))
+
+-- where the room does not suffice, nothing is left
+pub exhausted : (result : Option ℕ) (room size : ℕ) → result ≡ None → (size ≤ room → ⊥) →
+    SomeIff result (size ≤ room) (room - size)
+exhausted None room size e over = over
+exhausted (Some x) room size e over = absurd (let no : Some x ≡ None = e in cc)
+
+module _ (v : Tree) (major argument head room : ℕ) (m : major ≡ tree_major v) (n : argument ≡ argument_of v)
+    (h : head ≡ length (shortest_head major argument)) where
+  -- the head, and then what stands behind it
+  pub spends_content : (content left : ℕ) (result : Option ℕ) → length (content_bytes v) ≡ content →
+      (head ≤ room) × (left ≡ room - head) → SomeIff result (content ≤ left) (left - content)
+      → SomeIff result (length (encoding v) ≤ room) (room - length (encoding v))
+  spends_content content left result behind first rest =
+      SomeIff-then result room left head content (length (encoding v))
+      (encoding-length v major argument head m n h ∙ ap (λ k. head + k) behind) first rest
+
+  -- a head behind which nothing stands
+  pub spends_head : (left : ℕ) → content_bytes v ≡ [] → (head ≤ room) × (left ≡ room - head)
+      → SomeIff (Some left) (length (encoding v) ≤ room) (room - length (encoding v))
+  spends_head left none first = spends_content 0 left (Some left) (ap length none) first
+      (omega arith, omega arith)
+
+  -- not even the head
+  pub spends_nothing : (result : Option ℕ) → result ≡ None → (head ≤ room → ⊥)
+      → SomeIff result (length (encoding v) ≤ room) (room - length (encoding v))
+  spends_nothing result e over = exhausted result room (length (encoding v)) e
+      (λ all. let whole = encoding-length v major argument head m n h in over (omega (arith, whole, all)))
+
+-- ---- along lists
+
+-- up to the next value there are no more bytes than in all
+pub encodings-next-length : (i : ℕ) (vs : List Value) (v : Value) → i < length vs → v ≡ get_or vs i v
+    → length (encodings (take i vs)) + length (encoding (tree_of v)) ≤ length (encodings vs)
+encodings-next-length i vs v h e =
+    let front = encodings (take i vs) in
+    let one = encoding (tree_of v) in
+    let rest = encodings (drop (suc i) vs) in
+    let whole = ap length (encodings-around i vs v h e) ∙ length-append front (one ++ rest) ∙
+    ap (λ n. length front + n) (length-append one rest) in omega (arith, whole)
+
+-- up to the next pair there are no more bytes than in all
+pub pair_encodings-next-length : (i : ℕ) (ps : List (Value × Value)) (p : Value × Value) → i < length ps →
+    p ≡ get_or ps i p
+    → length (pair_encodings (take i ps)) + (length (encoding (tree_of p.0)) + length (encoding (tree_of p.1)))
+    ≤ length (pair_encodings ps)
+pair_encodings-next-length i ps p h e =
+    let front = pair_encodings (take i ps) in
+    let key = encoding (tree_of p.0) in
+    let mapped = encoding (tree_of p.1) in
+    let rest = pair_encodings (drop (suc i) ps) in
+    let whole = ap length (pair_encodings-around i ps p h e) ∙ length-append front (key ++ (mapped ++ rest)) ∙
+    ap (λ n. length front + n) (length-append key (mapped ++ rest)
+    ∙ ap (λ n. length key + n) (length-append mapped rest)) in omega (arith, whole)
