@@ -75,6 +75,26 @@ def words(r, count):
     return [head(5, len(keys))] + [k + head(0, r.randrange(1 << 40)) for k in keys]
 
 
+def falling(r, count):
+    """A map whose keys fall."""
+    return [head(5, count)] + [string(f"{place:012}") + b"\0" for place in reversed(range(count))]
+
+
+def prefixed(r, count):
+    """A map of keys that differ behind their first 100 letters."""
+    return [head(5, count)] + [string("k" * 100 + f"{place:012}") + b"\0" for place in range(count)]
+
+
+def long_key(r, count):
+    """A map of a small key and of a text of so many letters as the other."""
+    return [b"\xa2\0\0", head(3, count), b"k" * count, b"\0"]
+
+
+def nested_keys(r, count):
+    """250 maps, each of a small key and of the next map as the other; the innermost key is an array of numbers."""
+    return [b"\xa2\0\0" * 250, head(4, count), *(head(0, r.randrange(24)) for _ in range(count)), b"\0" * 250]
+
+
 # the name: the kind of the measuring program, the parts of the usual document, and what makes it
 DOCUMENTS = {
     "integers": ("value", 1_000_000, array(lambda r: number(r, (4, 4, 8, 16, 32, 63)))),
@@ -92,6 +112,10 @@ DOCUMENTS = {
     "texts": ("texts", 200_000, array(lambda r: text(r, LETTERS, 20, 20))),
     "structs": ("structs", 100_000, lambda r, count: [head(4, count)] + [message(place) for place in range(count)]),
     "unknown": ("structs", 50_000, lambda r, count: [head(4, count)] + [wide_message(r, i) for i in range(count)]),
+    "falling": ("value", 100_000, falling),
+    "prefixed": ("value", 100_000, prefixed),
+    "long_key": ("value", 1_000_000, long_key),
+    "nested_keys": ("value", 1_000_000, nested_keys),
     "keys": ("sort", 200_000, array(key)),
     "messages": ("messages", 200_000, lambda r, count: [record(r) for _ in range(count)]),
 }
