@@ -56,10 +56,6 @@ AreShownSoFar showing b limit w left held number =
     (trees : List Tree) × (rest : List ℕ) × (left ≡ Some rest) × AreItemsBefore b limit trees rest ×
     AreShownBehind showing w trees held × (number ≡ length trees + 1)
 
--- what looking at a reader says: whether it is at its end, and that it stays as it was
-abbrev pub EndIsTold : Option (List ℕ) → Bool → Type 0
-EndIsTold left is_end = (xs : List ℕ) → left ≡ Some xs → IsEndOf xs is_end
-
 abbrev pub IsKept : Option (List ℕ) → Option (List ℕ) → Type 0
 IsKept left kept = (xs : List ℕ) → left ≡ Some xs → kept ≡ Some xs
 
@@ -68,21 +64,25 @@ module _ (showing : Showing) (b : List ℕ) (limit : ℕ) (w : List ℕ) (left h
   abbrev behind : List Tree → List ℕ
   behind trees = w ++ flat_map (shown_line showing) trees
 
-  -- the input ends
-  pub all-shown : (is_end : Bool) → AreShownSoFar showing b limit w left held number → EndIsTold left is_end →
-      is_end ≡ true → IsStreamShown showing b limit w true held
-  all-shown is_end (trees, rest, e, a, same, count) told ends =
-      let none = subst (IsEndOf rest) ends (told rest e) in
-      whole trees held (subst (λ (r : List ℕ). AreItemsBefore b limit trees r) none a) same
+  -- what is shown stays so where what waits is sent
+  pub shown-still : (now : Option (List ℕ)) → AreShownSoFar showing b limit w left held number → IsKept held now →
+      AreShownSoFar showing b limit w left now number
+  shown-still now (trees, rest, e, a, same, count) keeps = (trees, rest, e, a, keeps (behind trees) same, count)
 
-  module _ (kept now : Option (List ℕ)) where
+  -- the input ends
+  pub all-shown : AreShownSoFar showing b limit w left held number → ((xs : List ℕ) → left ≡ Some xs → xs ≡ []) →
+      IsStreamShown showing b limit w true held
+  all-shown (trees, rest, e, a, same, count) ends =
+      whole trees held (subst (λ (r : List ℕ). AreItemsBefore b limit trees r) (ends rest e) a) same
+
+  module _ (now : Option (List ℕ)) where
     -- one more item is read and shown
     pub one-more-shown : (next : Option (List ℕ)) (v : Value) → AreShownSoFar showing b limit w left held number →
-        IsKept left kept → ((xs : List ℕ) → kept ≡ Some xs → IsReadNext xs limit next (Ok v)) →
+        ((xs : List ℕ) → left ≡ Some xs → IsReadNext xs limit next (Ok v)) →
         ((ys : List ℕ) → held ≡ Some ys → now ≡ Some (ys ++ shown_line showing (tree_of v))) →
         AreShownSoFar showing b limit w next now (number + 1)
-    one-more-shown next v (trees, rest, e, a, same, count) keeps read shown =
-        let item = read rest (keeps rest e) in
+    one-more-shown next v (trees, rest, e, a, same, count) read shown =
+        let item = read rest e in
         let more : length (trees ++ (tree_of v ∷ [])) ≡ length trees + 1 = length-append trees (tree_of v ∷ []) in (
           trees ++ (tree_of v ∷ []),
           item.0,
@@ -93,14 +93,22 @@ module _ (showing : Showing) (b : List ℕ) (limit : ℕ) (w : List ℕ) (left h
         )
 
     -- the next item is refused, and the line says so
-    pub first-refused : (is_end : Bool) (e : Refusal) →
-        AreShownSoFar showing b limit w left held number → EndIsTold left is_end → is_end ≡ false → IsKept left kept →
-        ((xs : List ℕ) → kept ≡ Some xs → IsFrontRefused Any xs limit e) →
+    pub first-refused : (e : Refusal) → AreShownSoFar showing b limit w left held number →
+        ((xs : List ℕ) → left ≡ Some xs → (0 < length xs) × IsFrontRefused Any xs limit e) →
         ((ys : List ℕ) → held ≡ Some ys → IsRefusalBehind ys number e now) → IsStreamShown showing b limit w false now
-    first-refused is_end e (trees, rest, is, a, same, count) told more keeps read shown =
-        let some = subst (IsEndOf rest) more (told rest is) in
+    first-refused e (trees, rest, is, a, same, count) read shown =
+        let (some, why) = read rest is in
         let line = shown (behind trees) same in
-        let f = front-refusal rest limit e line.0 (read rest (keeps rest is)) in
+        let f = front-refusal rest limit e line.0 why in
         let text = λ (n : ℕ) (t : List ℕ). Some (behind trees ++ text_line (refused_item_text n t)) in
         refused trees rest f.0 now a some f.1
         (line.1 ∙ ap (λ (n : ℕ). text n (refused_text e)) count ∙ ap (text (length trees + 1)) f.2)
+
+-- what is shown stays so where what waits is sent at the end
+pub shown-sent : (showing : Showing) (b : List ℕ) (limit : ℕ) (w : List ℕ) (held now : Option (List ℕ)) →
+    IsKept held now → (all : Bool) → IsStreamShown showing b limit w all held →
+    IsStreamShown showing b limit w all now
+shown-sent showing b limit w held now keeps all (whole trees was a same) =
+    whole trees now a (keeps (w ++ flat_map (shown_line showing) trees) same)
+shown-sent showing b limit w held now keeps all (refused trees rest e was a some f line) =
+    refused trees rest e now a some f (keeps _ line)

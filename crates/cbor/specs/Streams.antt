@@ -50,6 +50,10 @@ IsReadNext b limit after next = MatchResult next
     (after ≡ Some left))
     (λ reason. IsFrontRefused Any b limit reason)
 
+-- an item that has a meaning, within so many levels, begins these bytes
+abbrev pub HoldsItem : List ℕ → ℕ → Type 0
+HoldsItem b limit = (v : Tree) × (left : List ℕ) × HasItemBefore Any b limit v left
+
 -- the lines of a dump: behind the reason in which that of no item ends stands a line feed
 abbrev pub dump_lines : Bool → List ℕ → List ℕ
 dump_lines true text = text

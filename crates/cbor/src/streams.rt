@@ -1,20 +1,21 @@
 //! Streams of items: sequences as bytes, not in hex (RFC 8742).
 
-ghost use Rattle.std.specs.Prelude.{◌≡◌, ◌<◌, ◌++◌, ℕ, IfOk, IsTrue, List, OnOk, Some, [], false};
-ghost use Rattle.std.specs.Prelude.{length};
+ghost use Rattle.std.specs.Prelude.{◌≡◌, ◌<◌, ◌⊎◌, ◌++◌, ℕ, IfOk, IfSome, IsTrue, List, MatchOption};
+ghost use Rattle.std.specs.Prelude.{OnOk, Ok, Some, [], false, length};
 ghost use Rattle.std.specs.Bool.{MatchBool};
-ghost use Rattle.std.specs.Io.Buffered.{reader_remaining};
+ghost use Rattle.std.specs.Io.Buffered.{reader_buffer, reader_remaining};
+ghost use Rattle.std.specs.Io.KnownBytes.{Keeps, append_known};
 ghost use Rattle.ciborium_value.specs.View.{tree_of};
 ghost use Rattle.cbor.specs.Answer.{refused_text, wants_memory};
 ghost use Rattle.cbor.specs.Lines.{text_line};
 ghost use Rattle.cbor.specs.Sequence.{refused_item_text};
-ghost use Rattle.cbor.specs.Streams.{IsReadNext, IsStreamShown, shown_line};
+ghost use Rattle.cbor.specs.Streams.{HoldsItem, IsReadNext, IsStreamShown, shown_line};
 
 use crate::answer::Refusal;
 use crate::fault::Fault;
-use crate::items::name_refusal;
-use crate::lines::write_bytes;
-use crate::reading::Showing;
+use crate::items::{name_refusal, read_front};
+use crate::lines::{put_text, send_waiting};
+use crate::reading::{Showing, Spelling};
 use crate::retrying::Retrying;
 use crate::sequences::write_refused_item;
 use crate::showing::push_shown;
@@ -23,12 +24,13 @@ use ciborium_value::Value;
 use std::alloc::Global;
 use std::io::{self, BufRead, BufReader, ErrorKind, Read, Write};
 
-/// Shows each item of the input, which is a sequence as bytes, by a line on the output, as soon as
-/// it is read, and says whether all of the input is a sequence of items in any spelling, each
-/// within this many levels. For the first item that is refused the line gives its number, counted
-/// from 1, and the reason, with the offset counted inside that item; the reason is `io` where the
-/// end of the input cuts the item short. No item after it is read. The output is flushed after each
-/// line, and no item is held longer.
+/// Shows each item of the input, which is a sequence as bytes, by a line on the output, and says
+/// whether all of the input is a sequence of items in any spelling, each within this many levels.
+/// For the first item that is refused the line gives its number, counted from 1, and the reason,
+/// with the offset counted inside that item; the reason is `io` where the end of the input cuts the
+/// item short. No item after it is read. Lines wait until the input's device is asked for more, or
+/// until there are many, and are then written together and flushed. No item is held longer than
+/// until its line is made.
 ///
 /// # Errors
 ///
@@ -46,37 +48,85 @@ pub fn show_items<R: Read, W: Write>(
     let Ok(mut reader) = BufReader::new(alloc, Retrying::new(input)) else {
         return Err(Fault::Memory);
     };
-    show_stream(alloc, &mut reader, showing, limit, output)
+    let mut waiting = Vec::new(alloc);
+    let shown = show_stream(alloc, &mut reader, showing, limit, &mut waiting, output);
+    send_lines(&mut waiting, output)?;
+    shown
 }
 
-// Shows the items that a reader has left.
+// Shows the items that a reader has left, by lines behind the texts that wait.
 fn show_stream<R: Read, W: Write>(
     alloc: Global,
     reader: &mut BufReader<R>,
     showing: Showing,
     limit: usize,
+    waiting: &mut Vec<u8>,
     output: &mut W,
 ) -> Result<bool, Fault>
     ensures { (b w : List ℕ) → reader_remaining R.remaining reader.old ≡ Some b →
-        W.contents output.old ≡ Some w →
-        IfOk result (λ all. IsStreamShown showing b limit w all (W.contents output.new)) }
+        append_known (W.contents output.old) waiting.old.items ≡ Some w →
+        IfOk result (λ all. IsStreamShown showing b limit w all
+        (append_known (W.contents output.new) waiting.new.items)) }
 {
     let mut room = Vec::new(alloc);
     let mut line = Vec::new(alloc);
     'items: for number in 1..u64::MAX {
-        if is_at_end(reader)? {
-            return Ok(true);
-        }
-        match read_next(alloc, reader, limit)? {
-            Ok(value) => show_item(&value, showing, &mut room, &mut line, output)?,
-            Err(refusal) => {
-                show_refused(number, refusal, &mut line, output)?;
+        match next_item(alloc, reader, limit, waiting, output)? {
+            None => return Ok(true),
+            Some(Ok(value)) => show_item(&value, showing, &mut room, &mut line, waiting, output)?,
+            Some(Err(refusal)) => {
+                show_refused(number, refusal, &mut line, waiting, output)?;
                 return Ok(false);
             }
         }
     }
     // Unreachable in practice: no device gives so many items.
     Err(Fault::Input)
+}
+
+// Reads the item at the front, or says why it is refused, or that none is left. Where the buffer
+// does not hold it whole, so that the device is asked for more, the waiting lines are sent first.
+fn next_item<R: Read, W: Write>(
+    alloc: Global,
+    reader: &mut BufReader<R>,
+    limit: usize,
+    waiting: &mut Vec<u8>,
+    output: &mut W,
+) -> Result<Option<Result<Value, Refusal>>, Fault>
+    ensures next { (b : List ℕ) → reader_remaining R.remaining reader.old ≡ Some b →
+        IfOk result (λ next. MatchOption next (b ≡ []) (λ item. (0 < length b)
+        × IsReadNext b limit (reader_remaining R.remaining reader.new) item)) }
+    ensures sent { HoldsItem (reader_buffer reader.old) limit ⊎ (waiting.new.items ≡ []) }
+    ensures held { (w : List ℕ) →
+        append_known (W.contents output.old) waiting.old.items ≡ Some w →
+        OnOk result (append_known (W.contents output.new) waiting.new.items ≡ Some w) }
+{
+    if let Some(value) = read_held(alloc, reader, limit) {
+        return Ok(Some(Ok(value)));
+    }
+    send_lines(waiting, output)?;
+    if is_at_end(reader)? {
+        return Ok(None);
+    }
+    let next = read_next(alloc, reader, limit)?;
+    Ok(Some(next))
+}
+
+// Reads the item at the front where the buffer holds it whole, and otherwise takes nothing.
+fn read_held<R: Read>(alloc: Global, reader: &mut BufReader<R>, limit: usize) -> Option<Value>
+    ensures item { (b : List ℕ) → reader_remaining R.remaining reader.old ≡ Some b →
+        MatchOption result (reader_remaining R.remaining reader.new ≡ Some b)
+        (λ value. IsReadNext b limit (reader_remaining R.remaining reader.new) (Ok value)) }
+    ensures held { IfSome result (λ value. HoldsItem (reader_buffer reader.old) limit) }
+{
+    let bytes = reader.buffer();
+    let mut rest = bytes;
+    let Ok(value) = read_front(alloc, &mut rest, Spelling::Any, limit) else {
+        return None;
+    };
+    let taken = bytes.len() - rest.len();
+    reader.consume(taken);
+    Some(value)
 }
 
 // Whether a reader has nothing left.
@@ -124,47 +174,82 @@ fn is_cut_short<R: Read>(error: &Error<io::Error>, reader: &mut BufReader<R>) ->
     }
 }
 
-// Writes the line of an item. `room` and `line` are buffers for its encoding and for the line, to
-// be used again.
+// Puts the line of an item behind the texts that wait. `room` and `line` are buffers for its
+// encoding and for the line, to be used again.
 fn show_item<W: Write>(
     value: &Value,
     showing: Showing,
     room: &mut Vec<u8>,
     line: &mut Vec<u8>,
+    waiting: &mut Vec<u8>,
     output: &mut W,
 ) -> Result<(), Fault>
-    ensures { (w : List ℕ) → W.contents output.old ≡ Some w → OnOk result
-        (W.contents output.new ≡ Some (w ++ shown_line showing (tree_of value.now))) }
+    ensures { (w : List ℕ) → append_known (W.contents output.old) waiting.old.items ≡ Some w →
+        OnOk result (append_known (W.contents output.new) waiting.new.items
+        ≡ Some (w ++ shown_line showing (tree_of value.now))) }
 {
     line.clear();
     push_shown(value, showing, room, line)?;
-    write_line(line, output)
+    put_line(line, waiting, output)
 }
 
-// Writes the line of an item that is refused. `line` is a buffer for it, to be used again.
+// Puts the line of an item that is refused behind the texts that wait. `line` is a buffer for it,
+// to be used again.
 fn show_refused<W: Write>(
     number: u64,
     refusal: Refusal,
     line: &mut Vec<u8>,
+    waiting: &mut Vec<u8>,
     output: &mut W,
 ) -> Result<(), Fault>
-    ensures { (w : List ℕ) → W.contents output.old ≡ Some w → OnOk result
-        ((wants_memory refusal ≡ false) × (W.contents output.new
+    ensures { (w : List ℕ) → append_known (W.contents output.old) waiting.old.items ≡ Some w →
+        OnOk result ((wants_memory refusal ≡ false)
+        × (append_known (W.contents output.new) waiting.new.items
         ≡ Some (w ++ text_line (refused_item_text number (refused_text refusal))))) }
 {
     write_refused_item(number, refusal, line)?;
-    write_line(line, output)
+    put_line(line, waiting, output)
 }
 
-// Writes a text and a line feed whole, and flushes them, since somebody may be looking.
-fn write_line<W: Write>(text: &mut Vec<u8>, output: &mut W) -> Result<(), Fault>
-    ensures { (w : List ℕ) → W.contents output.old ≡ Some w →
-        OnOk result (W.contents output.new ≡ Some (w ++ text_line text.old.items)) }
+// Puts a text and a line feed behind the texts that wait. What there is no room for is written, and
+// flushed.
+fn put_line<W: Write>(
+    text: &mut Vec<u8>,
+    waiting: &mut Vec<u8>,
+    output: &mut W,
+) -> Result<(), Fault>
+    ensures { (w : List ℕ) → append_known (W.contents output.old) waiting.old.items ≡ Some w →
+        OnOk result (append_known (W.contents output.new) waiting.new.items
+        ≡ Some (w ++ text_line text.old.items)) }
 {
     if text.push(b'\n').is_err() {
         return Err(Fault::Memory);
     }
-    write_bytes(text, output)?;
+    put_text(text, waiting, output)?;
+    if waiting.is_empty() {
+        return flush(output);
+    }
+    Ok(())
+}
+
+// Writes the waiting lines, if any, and flushes them, since somebody may be looking.
+fn send_lines<W: Write>(waiting: &mut Vec<u8>, output: &mut W) -> Result<(), Fault>
+    ensures empty { waiting.new.items ≡ [] }
+    ensures written { (w : List ℕ) →
+        append_known (W.contents output.old) waiting.old.items ≡ Some w →
+        OnOk result (W.contents output.new ≡ Some w) }
+{
+    if waiting.is_empty() {
+        return Ok(());
+    }
+    send_waiting(waiting, output)?;
+    flush(output)
+}
+
+// Flushes the output.
+fn flush<W: Write>(output: &mut W) -> Result<(), Fault>
+    ensures { Keeps (W.contents output.old) (W.contents output.new) }
+{
     if output.flush().is_err() {
         return Err(Fault::Output);
     }

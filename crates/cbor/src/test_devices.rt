@@ -221,6 +221,40 @@ impl<'a> Write for Viewer<'a> {
     }
 }
 
+/// Counts the calls, and takes all bytes.
+#[derive(Drop)]
+pub struct Tally {
+    writes: usize,
+    flushes: usize,
+}
+
+impl Tally {
+    /// A tally of no calls.
+    pub fn new() -> Tally {
+        Tally {
+            writes: 0,
+            flushes: 0,
+        }
+    }
+
+    /// How often it was written to, and flushed.
+    pub fn calls(&self) -> (usize, usize) {
+        (self.writes, self.flushes)
+    }
+}
+
+impl Write for Tally {
+    fn write(&mut self, buffer: &[u8]) -> io::Result<usize> {
+        self.writes = self.writes.saturating_add(1);
+        Ok(buffer.len())
+    }
+
+    fn flush(&mut self) -> io::Result<()> {
+        self.flushes = self.flushes.saturating_add(1);
+        Ok(())
+    }
+}
+
 /// The status that a run ended with, and what it wrote.
 #[derive(Drop)]
 pub struct Ended {

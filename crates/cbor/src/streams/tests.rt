@@ -2,7 +2,7 @@
 use super::show_items;
 use crate::fault::Fault;
 use crate::reading::{Layout, Showing};
-use crate::test_devices::{Asker, Device, Mended, Source, Viewer};
+use crate::test_devices::{Asker, Device, Mended, Source, Tally, Viewer};
 use ciborium::de::RECURSION_LIMIT;
 use std::alloc::Global;
 use std::cell::Cell;
@@ -165,14 +165,84 @@ fn names_the_item_that_is_refused(rt: HostRuntime) {
 // one that is refused it is not asked again.
 #[test]
 fn shows_before_it_asks(rt: HostRuntime) {
-    let shown = Cell::new(0);
-    let mut input = Asker::new(&["\x01", "aa", "\x1e", " "], &shown);
-    let mut output = Viewer::new(&shown);
-    let showing = Showing::Encoding;
-    let ended = show_items(rt.alloc(), &mut input, showing, 256, &mut output);
+    expect_seen(&rt, rt.alloc(), &["\x01", "aa", "\x1e", " "], (3, 3));
+}
+
+// So it is where the device gives the head of an item behind another.
+#[test]
+fn shows_before_it_asks_for_the_rest(rt: HostRuntime) {
+    expect_seen(&rt, rt.alloc(), &["\x01a", "aa", "a\x1e", " "], (3, 4));
+}
+
+// Holds what the device gives, and the lines that are seen of it, to these numbers.
+fn expect_seen(rt: &impl Abort, alloc: Global, given: &[&str], expected: (usize, usize)) {
+    let seen = Cell::new(0);
+    let mut input = Asker::new(given, &seen);
+    let mut output = Viewer::new(&seen);
+    let ended = show_items(alloc, &mut input, Showing::Encoding, 256, &mut output);
     assert!(rt; matches!(ended, Ok(false)));
-    assert_eq!(rt; shown.get(), 3);
-    assert_eq!(rt; input.given(), 3);
+    assert_eq!(rt; (input.given(), seen.get()), expected);
+}
+
+// How often an item stands in a row, how many bytes the device gives at once, and how often the
+// lines are written, and flushed. At most 32 KiB wait.
+const ROWS: [(&[u8], usize, usize, usize, usize); 7] = [
+    (b"\x01", 0, 1, 0, 0),
+    (b"\x01", 5000, usize::MAX, 1, 1),
+    (b"\x01", 5000, 1, 5000, 5000),
+    (b"\x61a", 5000, 3, 3334, 3334),
+    (b"\x82\xf6\x20", 3000, usize::MAX, 2, 2),
+    (b"\xf6", 8192, usize::MAX, 3, 2),
+    (b"\x01", 20_000, usize::MAX, 3, 3),
+];
+
+#[test]
+fn writes_the_lines_of_a_read_at_once(rt: HostRuntime) -> Result<(), Fail> {
+    for (item, count, most, writes, flushes) in ROWS {
+        let mut bytes = Vec::new(rt.alloc());
+        for _ in 0..count {
+            bytes.extend_from_slice(item)?;
+        }
+        let mut source = Source::new(&bytes, most, None);
+        let mut output = Tally::new();
+        let showing = Showing::Notation(Layout::OneLine);
+        let shown = show_items(rt.alloc(), &mut source, showing, 256, &mut output);
+        assert!(rt; matches!(shown, Ok(true)));
+        assert_eq!(rt; output.calls(), (writes, flushes), "{count} {most}");
+    }
+    Ok(())
+}
+
+// A line that is too long to wait comes behind those that wait.
+#[test]
+fn keeps_the_order_of_a_long_line(rt: HostRuntime) -> Result<(), Fail> {
+    let mut bytes = Vec::new(rt.alloc());
+    let mut text = Vec::new(rt.alloc());
+    for (head, line) in [
+        ("\x01", "01\n"),
+        ("\x59\x4e\x20", "594e20"),
+        ("\x02", "\n02\n"),
+    ] {
+        bytes.extend_from_slice(head.as_bytes())?;
+        text.extend_from_slice(line.as_bytes())?;
+        for _ in 0..if head.len() > 1 { 20_000 } else { 0 } {
+            bytes.extend_from_slice(b"z")?;
+            text.extend_from_slice(b"7a")?;
+        }
+    }
+    for most in [1, usize::MAX] {
+        let mut source = Source::new(&bytes, most, None);
+        let expected = (true, text.as_slice());
+        expect_shown(
+            &rt,
+            rt.alloc(),
+            &mut source,
+            Showing::Encoding,
+            256,
+            expected,
+        );
+    }
+    Ok(())
 }
 
 // The bytes before a fault of the device, the fault, those behind it, and what is shown where the
@@ -218,7 +288,7 @@ fn tells_a_fault_of_the_output(rt: HostRuntime) {
         let mut output = Device::new(rt.alloc(), room, room == text.len());
         let shown = show_items(rt.alloc(), &mut input, Showing::Encoding, 256, &mut output);
         assert!(rt; matches!(shown, Err(Fault::Output)), "{room}");
-        let held = if room == text.len() { 3 } else { room };
+        let held = if room == text.len() { 8 } else { room };
         assert_eq!(rt; output.held(), &text[..held], "{room}");
     }
 }

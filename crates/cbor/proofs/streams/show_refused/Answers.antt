@@ -3,5 +3,5 @@ use Rattle.cbor.proofs.streams.show_refused.Goals as goal
 
 pub returns : goal.returns
 returns g c w e =
-    refused-shown w c.args.number c.args.refusal _ _ c.write_line.result
-    c.in_ok-write_refused_item.ensures (c.write_line.ensures w e)
+    refused-shown w c.args.number c.args.refusal _ _ c.put_line.result
+    c.in_ok-write_refused_item.ensures (c.put_line.ensures w e)

@@ -1,19 +1,29 @@
-use Rattle.cbor.proofs.StreamedItems.{all-shown, first-refused, one-more-shown}
+use Rattle.std.proofs.Common.{◌≡◌, ap, ◌∙◌, Err, Ok, Some}
+use Rattle.cbor.proofs.StreamedItems.{all-shown, first-refused, one-more-shown, shown-still}
 use Rattle.cbor.proofs.streams.show_stream.Goals as goal
 
-pub returns-then-branch : goal.returns-then-branch
-returns-then-branch g c b w e f =
-    all-shown c.args.showing b c.args.limit w _ _ c.items.number _ (c.items.invariant b w e f)
-    c.in_ok-is_at_end.ensures.end c.if-branch.true
+pub returns-in-None : goal.returns-in-None
+returns-in-None g c b w e f =
+    all-shown c.args.showing b c.args.limit w _ _ c.items.number
+    (shown-still c.args.showing b c.args.limit w _ _ c.items.number _ (c.items.invariant b w e f)
+    c.in_ok-next_item.ensures.held)
+    (λ xs h. rw c.in-None.is at (c.in_ok-next_item.ensures.next xs h))
 
-pub returns-in-Err : goal.returns-in-Err
-returns-in-Err g c b w e f =
-    first-refused c.args.showing b c.args.limit w _ _ c.items.number _ _ _ c.in-Err.refusal
-    (c.items.invariant b w e f) c.in_ok-is_at_end.ensures.end c.if-branch.false c.in_ok-is_at_end.ensures.kept
-    (λ xs h. rw c.in-Err.is at (c.in_ok-value.ensures xs h)) c.in_ok-show_refused-in-Err.ensures
+pub returns-in-Some-Err : goal.returns-in-Some-Err
+returns-in-Some-Err g c b w e f =
+    let next : c.in_ok-next_item.field-0 ≡ Some (Err c.in-Some-Err.refusal) = c.in-Some-Err.is ∙
+    ap Some c.in-Some-Err.field-0-is in
+    first-refused c.args.showing b c.args.limit w _ _ c.items.number _ c.in-Some-Err.refusal
+    (shown-still c.args.showing b c.args.limit w _ _ c.items.number _ (c.items.invariant b w e f)
+    c.in_ok-next_item.ensures.held)
+    (λ xs h. rw next at (c.in_ok-next_item.ensures.next xs h)) c.in_ok-show_refused-in-Some-Err.ensures
 
 pub items-preserved : goal.items-preserved
 items-preserved g c b w e f =
-    one-more-shown c.args.showing b c.args.limit w _ _ c.items.number _ _ _ c.in-Ok.value (c.items.invariant b w e f)
-    c.in_ok-is_at_end.ensures.kept (λ xs h. rw c.in-Ok.is at (c.in_ok-value.ensures xs h))
-    c.in_ok-show_item-in-Ok.ensures
+    let next : c.in_ok-next_item.field-0 ≡ Some (Ok c.in-Some-Ok.value) = c.in-Some-Ok.is ∙
+    ap Some c.in-Some-Ok.field-0-is in
+    one-more-shown c.args.showing b c.args.limit w _ _ c.items.number _ _ c.in-Some-Ok.value
+    (shown-still c.args.showing b c.args.limit w _ _ c.items.number _ (c.items.invariant b w e f)
+    c.in_ok-next_item.ensures.held)
+    (λ xs h. let (some, read) = rw next at (c.in_ok-next_item.ensures.next xs h) in read)
+    c.in_ok-show_item-in-Some-Ok.ensures
