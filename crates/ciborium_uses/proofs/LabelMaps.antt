@@ -1,6 +1,6 @@
 -- Maps of labels, by the trees of their entries.
 use Rattle.std.proofs.Common.{◌≡◌, refl, sym, ap, ◌∙◌, ℕ, List, [], ◌∷◌, length, map}
-use Rattle.std.proofs.Common.{cond, Bool, true, false, Some, is_eq, option_map, Option}
+use Rattle.std.proofs.Common.{cond, Bool, true, false, None, Some, is_eq, is_some, option_map, Option}
 use Rattle.std.proofs.lemmas.List.{length-map}
 use Rattle.std.specs.BTreeMap.{is_at}
 use Rattle.std.specs.Map.{lookup}
@@ -42,3 +42,7 @@ found_by_tree k [] = refl
 found_by_tree k (e ∷ es) =
     ap (λ o. option_map tree_of (cond (is_eq o) (Some e.1) (lookup (is_at (value_cmp k)) es))) (value_cmp-is k e.0) ∙
     found_in (is_eq (tree_cmp (tree_of k) (tree_of e.0))) e.1 _ _ (found_by_tree k es)
+
+pub is_some-by_tree : (o : Option Value) → is_some o ≡ is_some (option_map tree_of o)
+is_some-by_tree None = refl
+is_some-by_tree (Some v) = refl

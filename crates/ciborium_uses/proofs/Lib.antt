@@ -1,3 +1,6 @@
+mod CriticalLabels
 mod Exits
 mod LabelMaps
+mod Tagged
 mod WholeItems
+mod WrittenMessages

@@ -2,10 +2,11 @@
 -- and what their
 -- signatures sign.
 use Rattle.std.specs.Prelude.{◌≡◌, ℕ, ℤ, pos, List, [], ◌∷◌, codes, length, map}
-use Rattle.std.specs.Prelude.{Bool, IsTrue, true, false, ◌&&◌}
+use Rattle.std.specs.Prelude.{Bool, IsTrue, true, false, not, nat_le, ◌&&◌}
 use Rattle.std.specs.Prelude.{Option, Some, None, option_map, String, string_bytes}
 use Rattle.std.specs.declared.alloc.Global.{Global}
 use Rattle.std.specs.BTreeMap.{BTreeMap, is_at}
+use Rattle.std.specs.List.{list_all}
 use Rattle.std.specs.Map.{lookup}
 use Rattle.ciborium.specs.Item as item
 use Rattle.ciborium.specs.Item.{Item}
@@ -14,10 +15,10 @@ use Rattle.ciborium.specs.Encoding.{item_of}
 use Rattle.ciborium.specs.Order.{tree_cmp}
 use Rattle.ciborium.specs.TagReadings.{if_tag, is_tag, taken_with_tag}
 use Rattle.ciborium.specs.Taken.{Taken, gives, outcome, taken_value}
-use Rattle.ciborium.specs.TakenParts.{taken_map, taken_then}
+use Rattle.ciborium.specs.TakenParts.{has_key, taken_map, taken_then}
 use Rattle.ciborium.specs.Tree as trees
-use Rattle.ciborium.specs.Tree.{Tree, TreePairs, tree_pairs_count}
-use Rattle.ciborium.specs.View.{pair_trees}
+use Rattle.ciborium.specs.Tree.{Tree, TreePairs, Trees, tree_pairs_count}
+use Rattle.ciborium.specs.View.{pair_trees, tree_pairs_from}
 use Rattle.ciborium_value.specs.declared.byte_buf.ByteBuf.{ByteBuf}
 use Rattle.ciborium_value.specs.declared.tree.Value.{Value}
 use Rattle.ciborium_uses.specs.declared.envelopes.Envelope.{Envelope}
@@ -26,6 +27,8 @@ use Rattle.ciborium_uses.specs.declared.envelopes.error.EnvelopeError.{EnvelopeE
 use Rattle.ciborium_uses.specs.declared.envelopes.error.EnvelopeError.TheVariants as errors
 use Rattle.ciborium_uses.specs.declared.envelopes.error.Part.{Part}
 use Rattle.ciborium_uses.specs.declared.envelopes.error.Part.TheVariants as parts
+use Rattle.ciborium_uses.specs.declared.envelopes.wrapping.OtherMessage.{OtherMessage}
+use Rattle.ciborium_uses.specs.declared.envelopes.wrapping.OtherMessage.TheVariants as others
 use Rattle.ciborium_uses.specs.declared.envelopes.wrapping.Wrapping.{Wrapping}
 use Rattle.ciborium_uses.specs.declared.envelopes.wrapping.Wrapping.TheVariants.{Bare, Signed}
 use Rattle.ciborium_uses.specs.declared.envelopes.wrapping.Wrapping.TheVariants.{Token}
@@ -87,6 +90,37 @@ IsHeader (b ∷ bs) es = AreLabelBytes (b ∷ bs) es
 abbrev pub value_at : ℕ → List (Tree × Tree) → Option Tree
 value_at n es = lookup (is_at (tree_cmp (trees.integer (pos n)))) es
 
+-- ---- headers
+
+-- no label of the one header stands in the other (RFC 9052, section 3)
+abbrev pub are_apart : List (Tree × Tree) → List (Tree × Tree) → Bool
+are_apart es others = list_all (λ e. not (has_key tree_cmp others e.0)) es
+
+-- the labels that are understood: those of the common parameters (RFC 9052, section 3.1), and 7, the
+-- counter signature (RFC 8152, section 3.1)
+abbrev pub is_understood : Tree → Bool
+is_understood (trees.integer (pos n)) = nat_le 1 n && nat_le n 7
+is_understood _ = false
+
+-- each critical label stands in the protected header and is understood (RFC 9052, section 3.1)
+abbrev pub are_critical : List (Tree × Tree) → Trees → Bool
+are_critical es trees.no_trees = true
+are_critical es (trees.tree k ks) = (has_key tree_cmp es k && is_understood k) && are_critical es ks
+
+-- what `crit` is, where it is there: an array of such labels, of one at least (RFC 9052, section
+-- 3.1)
+abbrev pub is_crit : List (Tree × Tree) → Option Tree → Bool
+is_crit es None = true
+is_crit es (Some (trees.array (trees.tree k ks))) = are_critical es (trees.tree k ks)
+is_crit es (Some _) = false
+
+-- the headers go together: no label stands in both, `crit` is right, and stands in the protected
+-- one alone (RFC 9052, sections 3 and 3.1)
+pub record AreHeaders (protected unprotected : List (Tree × Tree)) : Type 0 where
+  pub apart : IsTrue (are_apart protected unprotected)
+  pub crit : IsTrue (is_crit protected (value_at 2 protected))
+  pub crit_protected : value_at 2 unprotected ≡ None
+
 -- ---- claims
 
 -- a claim is missing, or it is of this type
@@ -133,6 +167,7 @@ pub record IsMessage (t : Tree) (e : Envelope) : Type 0 where
       e.signature.0.items
   pub unprotected : AreLabels unprotected_tree (entry_trees e.unprotected)
   pub header : IsHeader e.protected.0.items (entry_trees e.header)
+  pub headers : AreHeaders (entry_trees e.header) (entry_trees e.unprotected)
   pub claims : AreClaimBytes e.payload.0.items e.claims
 
 -- the bytes are such a message under tag 18 (RFC 9052, section 4.2)
@@ -148,6 +183,27 @@ abbrev pub tags_of : Wrapping → Option ℕ × Option ℕ
 tags_of Bare = (None, None)
 tags_of Signed = (Some 18, None)
 tags_of Token = (Some 61, Some 18)
+
+-- under a tag, if there is one
+abbrev pub under : Option ℕ → Tree → Tree
+under None t = t
+under (Some n) t = trees.tag n t
+
+-- a message under the tags around it
+abbrev pub wrapped_tree : Wrapping → Tree → Tree
+wrapped_tree w t = under (tags_of w).0 (under (tags_of w).1 t)
+
+-- a header as it is written: the map of its labels, in their order
+abbrev pub labels_tree : BTreeMap Value Value → Tree
+labels_tree m = trees.map (tree_pairs_from (entry_trees m))
+
+-- the tags of the other messages (RFC 9052, section 2, table 1)
+abbrev pub other_tag : OtherMessage → ℕ
+other_tag others.Encrypt0 = 16
+other_tag others.Mac0 = 17
+other_tag others.Encrypt = 96
+other_tag others.Mac = 97
+other_tag others.Sign = 98
 
 -- the bytes are a message under these tags and no others
 pub record IsWrapped (bs : List ℕ) (w : Wrapping) (e : Envelope) : Type 0 where
@@ -179,6 +235,13 @@ abbrev pub wrapping_text : Wrapping → List ℕ
 wrapping_text Bare = codes "none"
 wrapping_text Signed = codes "18"
 wrapping_text Token = codes "61 over 18"
+
+abbrev pub other_text : OtherMessage → List ℕ
+other_text others.Encrypt0 = codes "COSE_Encrypt0"
+other_text others.Mac0 = codes "COSE_Mac0"
+other_text others.Encrypt = codes "COSE_Encrypt"
+other_text others.Mac = codes "COSE_Mac"
+other_text others.Sign = codes "COSE_Sign"
 
 abbrev pub part_text : Part → List ℕ
 part_text parts.Message = codes "the message"

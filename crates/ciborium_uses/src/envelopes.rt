@@ -14,23 +14,27 @@ ghost use Rattle.ciborium_uses.specs.declared.envelopes.wrapping.Wrapping.{Wrapp
 mod answer;
 mod claims;
 mod error;
+mod headers;
 mod items;
 mod labels;
 mod message;
 mod wrapping;
+mod writing;
 
 pub use answer::answer;
-use ciborium::tag::{Captured, Required};
+use ciborium::tag::Captured;
 use ciborium::value::{ByteBuf, Value};
 use ciborium::{ser, to_vec};
 pub use claims::Claims;
 pub use error::{EnvelopeError, Part};
+use headers::check_headers;
 use items::read_all;
 pub use labels::Labels;
 use labels::{labels_of, read_header, value_of};
 use std::alloc::Global;
 use std::io;
-pub use wrapping::Wrapping;
+pub use wrapping::{OtherMessage, Wrapping};
+pub use writing::write_envelope;
 
 /// A signed message whose payload is a set of claims.
 #[derive(Debug, Drop)]
@@ -53,15 +57,20 @@ pub struct Envelope {
 ///
 /// # Errors
 ///
-/// `Read` where the bytes of a part are not its item, `Shape` where the message is no array of
+/// `Read` where the bytes of a part are not its item, `Other` where another message of COSE stands
+/// there, `Tags` where it has another tag or none, `Shape` where the message is no array of
 /// four, `NotMap`, `Label` and `Repeated` where a header or the claims are no map, or a key there
-/// is neither an integer nor a text, or is there twice, `Claim` where a claim has another type, and
-/// `Memory`.
+/// is neither an integer nor a text, or is there twice, `Both`, `Critical`, `CriticalMissing`,
+/// `CriticalShape` and `CriticalUnprotected` where the headers do not go together (RFC 9052,
+/// sections 3 and 3.1), `Claim` where a claim has another type, and `Memory`.
 pub fn read_envelope(alloc: Global, bytes: &[u8]) -> Result<Envelope, EnvelopeError>
     ensures ok { IfOk result (λ e. IsEnvelope bytes.now e) }
     ensures refused { IfErr result (λ e. (v : Envelope) → IsEnvelope bytes.now v → IsOutside e) }
 {
-    let Required(message) = read_all::<Required<Value, 18>>(alloc, bytes, Part::Message)?;
+    let Captured(tag, message) = read_all::<Captured<Value>>(alloc, bytes, Part::Message)?;
+    if tag != Some(18) {
+        return Err(wrapping::refusal_of(tag, None));
+    }
     open(alloc, message)
 }
 
@@ -70,7 +79,7 @@ pub fn read_envelope(alloc: Global, bytes: &[u8]) -> Result<Envelope, EnvelopeEr
 ///
 /// # Errors
 ///
-/// Those of `read_envelope`, and `Tags` where other tags stand there.
+/// Those of `read_envelope`, `Other` and `Tags` where other tags stand there.
 pub fn read_wrapped(alloc: Global, bytes: &[u8]) -> Result<(Wrapping, Envelope), EnvelopeError>
     ensures ok { IfOk result (λ r. IsWrapped bytes.now r.0 r.1) }
     ensures refused { IfErr result (λ e. (w : Wrapping) (v : Envelope) →
@@ -82,7 +91,7 @@ pub fn read_wrapped(alloc: Global, bytes: &[u8]) -> Result<(Wrapping, Envelope),
         Part::Message,
     )?;
     let Some(wrapping) = wrapping::wrapping_of(outer, inner) else {
-        return Err(EnvelopeError::Tags);
+        return Err(wrapping::refusal_of(outer, inner));
     };
     let envelope = open(alloc, message)?;
     Ok((wrapping, envelope))
@@ -99,6 +108,7 @@ fn open(alloc: Global, message: Value) -> Result<Envelope, EnvelopeError>
     };
     let unprotected = labels_of(alloc, &parts.unprotected, Part::Unprotected)?;
     let header = read_header(alloc, &parts.protected)?;
+    check_headers(&header, &unprotected)?;
     let claims = claims::read_claims(alloc, &parts.payload)?;
     Ok(Envelope {
         protected: ByteBuf(parts.protected),

@@ -18,7 +18,7 @@ fn main(rt: HostRuntime) -> io::Result<()> {
             continue;
         }
         let (module, rest) = line.as_str().split_once(' ').unwrap_or((line.as_str(), ""));
-        if module == "envelope" || module == "wrapped" {
+        if matches!(module, "envelope" | "wrapped" | "again") {
             println!(rt; "{line}")?;
             envelopes::answer(alloc, module, rest, &mut rt.stdout().lock())?;
             continue;

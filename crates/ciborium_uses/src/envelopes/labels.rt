@@ -2,6 +2,8 @@
 
 ghost use Rattle.std.specs.Prelude.{◌≡◌, IfErr, IfOk, List};
 ghost use Rattle.std.specs.Option.{option_copied, option_map};
+ghost use Rattle.ciborium.specs.Order.{tree_cmp};
+ghost use Rattle.ciborium.specs.TakenParts.{has_key};
 ghost use Rattle.ciborium.specs.Tree.{Tree};
 ghost use Rattle.ciborium.specs.View.{tree_of, tree_pairs_of};
 ghost use Rattle.ciborium_uses.specs.Envelopes.{AreLabelBytes, AreLabels, IsHeader, IsOutside};
@@ -108,4 +110,11 @@ pub fn value_of<'a>(labels: &'a Labels, label: u8) -> Option<&'a Value>
     ensures { option_map tree_of (option_copied result) ≡ value_at label (entry_trees labels.now) }
 {
     labels.get(&Value::from(label))
+}
+
+/// Whether a label stands there.
+pub fn has_label(labels: &Labels, label: &Value) -> bool
+    ensures { result ≡ has_key tree_cmp (entry_trees labels.now) (tree_of label.now) }
+{
+    labels.contains_key(label)
 }

@@ -1,13 +1,22 @@
-use Rattle.std.proofs.Common.{subst, sym}
+use Rattle.std.proofs.Common.{◌≡◌, ◌∙◌, Some, ap, rules, subst, sym}
 use Rattle.ciborium_uses.proofs.Exits.{exit_by, refused_by}
+use Rattle.ciborium_uses.proofs.Tagged.{with_tag}
 use Rattle.ciborium_uses.specs.Envelopes.{IsMessage}
 use Rattle.ciborium_uses.proofs.envelopes.read_envelope.Goals as goal
 
-pub returns-in_err-message-clause-refused : goal.returns-in_err-message-clause-refused
-returns-in_err-message-clause-refused c =
-    exit_by _ c.from_residual.result c.from_residual.ensures.1 (λ v h. c.in_err-message.ensures.refused h.tree h.item)
+pub returns-in_err-tag-clause-refused : goal.returns-in_err-tag-clause-refused
+returns-in_err-tag-clause-refused c =
+    exit_by _ c.from_residual.result c.from_residual.ensures.1
+    (λ v h. c.in_err-tag.ensures.refused (Some 18, h.tree) (with_tag c.args.bytes.now h.tree h.item))
+
+pub returns-then-ne-clause-refused : goal.returns-then-ne-clause-refused
+returns-then-ne-clause-refused c v h =
+    let same = c.in_ok-tag.ensures.only (Some 18, h.tree) (with_tag c.args.bytes.now h.tree h.item) in
+    let tag : c.in_ok-tag.tag ≡ Some 18 = sym c.in_ok-tag.tag-is ∙ ap (λ p. p.0) same in
+    let other : ¬ (c.in_ok-tag.tag ≡ Some 18) = search rules in
+    absurd (other tag)
 
 pub returns-clause-refused : goal.returns-clause-refused
-returns-clause-refused c = refused_by c.open.result c.open.ensures.refused
-    (λ e refused v h.
-    refused v (subst (λ t. IsMessage t v) (sym (c.in_ok-message.ensures.only h.tree h.item)) h.message))
+returns-clause-refused c = refused_by c.open.result c.open.ensures.refused (λ e refused v h.
+    let same = c.in_ok-tag.ensures.only (Some 18, h.tree) (with_tag c.args.bytes.now h.tree h.item) in
+    refused v (subst (λ t. IsMessage t v) (sym (ap (λ p. p.1) same)) h.message))

@@ -17,4 +17,4 @@ returns-in_err-envelope-clause-refused c =
 pub returns-in_default-clause-refused : goal.returns-in_default-clause-refused
 returns-in_default-clause-refused c w v h =
     let same = c.in_ok-outer.ensures.only ((tags_of w).0, ((tags_of w).1, h.tree)) h.item in
-    c.in_default.ensures.none w (ap (λ p. (p.0, p.1.0)) (sym same))
+    absurd (c.in_default.ensures.none w (ap (λ p. (p.0, p.1.0)) (sym same)))
