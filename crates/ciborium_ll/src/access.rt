@@ -218,6 +218,9 @@ impl<R: BufRead> Access<R> for Buffered {
         }
         let value = match reader.fill_buf() {
             Ok(held) => {
+                if held.is_empty() {
+                    return Some(Err(end_of_bytes(keep)));
+                }
                 if held.len() < n {
                     return None;
                 }
