@@ -1,7 +1,7 @@
 //! Streams of items: sequences as bytes, not in hex (RFC 8742).
 
-ghost use Rattle.std.specs.Prelude.{◌≡◌, ◌<◌, ◌⊎◌, ◌++◌, ℕ, IfOk, IfSome, IsTrue, List, MatchOption};
-ghost use Rattle.std.specs.Prelude.{OnOk, Ok, Some, [], false, length};
+ghost use Rattle.std.specs.Prelude.{◌≡◌, ◌<◌, ◌⊎◌, ◌++◌, ℕ, IfOk, IfSome, IsTrue, List};
+ghost use Rattle.std.specs.Prelude.{MatchOption, OnOk, Ok, Some, [], false, length};
 ghost use Rattle.std.specs.Bool.{MatchBool};
 ghost use Rattle.std.specs.Io.Buffered.{reader_buffer, reader_remaining};
 ghost use Rattle.std.specs.Io.KnownBytes.{Keeps, append_known};

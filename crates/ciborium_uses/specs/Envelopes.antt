@@ -96,8 +96,8 @@ value_at n es = lookup (is_at (tree_cmp (trees.integer (pos n)))) es
 abbrev pub are_apart : List (Tree × Tree) → List (Tree × Tree) → Bool
 are_apart es others = list_all (λ e. not (has_key tree_cmp others e.0)) es
 
--- the labels that are understood: those of the common parameters (RFC 9052, section 3.1), and 7, the
--- counter signature (RFC 8152, section 3.1)
+-- the labels that are understood: those of the common parameters (RFC 9052, section 3.1), and 7,
+-- the counter signature (RFC 8152, section 3.1)
 abbrev pub is_understood : Tree → Bool
 is_understood (trees.integer (pos n)) = nat_le 1 n && nat_le n 7
 is_understood _ = false
