@@ -1,10 +1,11 @@
 //! The containers and tags that are open while a value is put together.
 
 ghost use Rattle.std.specs.Prelude.{◌≡◌, ◌∷◌, ◌++◌, [], IfOk, List, MatchOption, None, OnErr, OnOk};
-ghost use Rattle.std.specs.Prelude.{Some, drop, length, map, option_map};
+ghost use Rattle.std.specs.Prelude.{Some, drop, length, map, option_map, true};
 ghost use Rattle.ciborium_value.specs.inner.Frames.{array, closed, fill, map as open_map, placed};
 ghost use Rattle.ciborium_value.specs.inner.Frames.{tree_ended, waiting_keys};
 ghost use Rattle.ciborium_value.specs.inner.Stack.{begun_frame, filled_of, frame_of, frames_of};
+ghost use Rattle.ciborium_value.specs.inner.Stack.{map_frame};
 ghost use Rattle.ciborium_value.specs.inner.Stack.{tree_frames, placed_of};
 ghost use Rattle.ciborium_value.specs.View.{pair_trees, tree_of};
 
@@ -32,11 +33,11 @@ enum Frame {
         items: Vec<Value>,
         behind: Option<usize>,
     },
-    // The key waits for its value.
+    // Where a key waits, it stands in the last pair, and null in the place of its value.
     Map {
         pairs: Vec<(Value, Value)>,
         behind: Option<usize>,
-        key: Option<Value>,
+        waits: bool,
     },
     Tag(u64),
 }
@@ -52,7 +53,7 @@ fn begin(alloc: Global, opening: Opening) -> Frame
         Opening::Map { behind } => Frame::Map {
             pairs: Vec::new(alloc),
             behind,
-            key: None,
+            waits: false,
         },
         Opening::Tag(tag) => Frame::Tag(tag),
     }
@@ -76,14 +77,6 @@ fn take_parts<T: Drop>(alloc: Global, parts: &mut Vec<T>) -> Vec<T>
     ensures { result ≡ parts.old }
 {
     mem::replace(parts, Vec::new(alloc))
-}
-
-// Sets what waits.
-#[inline(always)]
-fn set<T: Drop>(place: &mut Option<T>, value: T)
-    ensures { place.new ≡ Some value }
-{
-    *place = Some(value);
 }
 
 // Puts a value into an array. Answers the array where this was its last item.
@@ -114,19 +107,21 @@ fn fill_map(
     alloc: Global,
     pairs: &mut Vec<(Value, Value)>,
     behind: &mut Option<usize>,
-    key: &mut Option<Value>,
+    waits: &mut bool,
     value: Value,
 ) -> Result<Option<Value>, AllocError>
     ensures { IfOk result (λ r. filled_of r
-        (open_map (map pair_trees pairs.new.items) behind.new (option_map tree_of key.new)) ≡ fill
-        (open_map (map pair_trees pairs.old.items) behind.old (option_map tree_of key.old))
-        (tree_of value)) }
+        (map_frame (map pair_trees pairs.new.items) behind.new waits.new) ≡ fill
+        (map_frame (map pair_trees pairs.old.items) behind.old waits.old) (tree_of value)) }
 {
-    let Some(key) = mem::replace(key, None) else {
-        set(key, value);
+    if *waits && let Some(pair) = pairs.last_mut() {
+        pair.1 = value;
+    } else {
+        put(pairs, *behind, (value, Value::Null))?;
+        *waits = true;
         return Ok(None);
-    };
-    put(pairs, *behind, (key, value))?;
+    }
+    *waits = false;
     match *behind {
         Some(0) => Ok(Some(Value::Map(take_parts(alloc, pairs)))),
         Some(n) => {
@@ -145,7 +140,11 @@ fn fill(alloc: Global, frame: &mut Frame, value: Value) -> Result<Option<Value>,
 {
     match frame {
         Frame::Array { items, behind } => fill_array(alloc, items, behind, value),
-        Frame::Map { pairs, behind, key } => fill_map(alloc, pairs, behind, key, value),
+        Frame::Map {
+            pairs,
+            behind,
+            waits,
+        } => fill_map(alloc, pairs, behind, waits, value),
         Frame::Tag(tag) => Ok(Some(Value::Tag(*tag, Box::new(alloc, value)?))),
     }
 }
@@ -180,8 +179,25 @@ fn end(frame: Frame) -> Option<Value>
         Frame::Map {
             pairs,
             behind: None,
-            key: None,
-        } => Some(Value::Map(pairs)),
+            waits,
+        } => {
+            if waits && !pairs.is_empty() {
+                return None;
+            }
+            Some(Value::Map(pairs))
+        }
+        _ => None,
+    }
+}
+
+// The key of the last pair, behind the key of the pair before it.
+#[inline(always)]
+fn last_keys(pairs: &[(Value, Value)]) -> Option<(&Value, &Value)>
+    ensures { option_map (λ keys. (tree_of keys.0.now, tree_of keys.1.now)) result ≡
+        waiting_keys (map_frame (map pair_trees pairs.now) None true ∷ []) }
+{
+    match pairs {
+        [.., (before, _), (key, _)] => Some((before, key)),
         _ => None,
     }
 }
@@ -243,13 +259,10 @@ impl Stack {
             Some(
                 Frame::Map {
                     pairs,
-                    key: Some(key),
+                    waits: true,
                     ..
                 },
-            ) => match pairs.last() {
-                Some((before, _)) => Some((before, key)),
-                None => None,
-            },
+            ) => last_keys(pairs),
             _ => None,
         }
     }

@@ -1,10 +1,10 @@
 -- The innermost frame stands last.
-use Rattle.std.proofs.Common.{◌≡◌, ℕ, zero, suc, ◌+◌, ◌-◌, ◌<◌, List, [], ◌∷◌, ◌++◌, length, map, slice_get}
-use Rattle.std.proofs.Common.{slice_index_or, slice_set, Option, Some, refl, sym, ap, ◌∙◌, arith, length-append}
-use Rattle.std.proofs.lemmas.List.{reverse-append}
+use Rattle.std.proofs.Common.{◌≡◌, ℕ, suc, ◌+◌, ◌-◌, ◌<◌, List, [], ◌∷◌, ◌++◌, length, map}
+use Rattle.std.proofs.Common.{slice_index_or, slice_set, reverse, Bool, true, Option, None, Some, refl, sym, ap, ◌∙◌, arith, length-append}
+use Rattle.std.proofs.lemmas.List.{map-append, reverse-append, reverse-reverse}
 use Rattle.ciborium_value.specs.inner.Frames as frames
-use Rattle.ciborium_value.specs.inner.Frames.{Filled, Placed, fill, placed, more, still, waiting_keys, whole, with_last}
-use Rattle.ciborium_value.specs.inner.Stack.{frame_of, tree_frames}
+use Rattle.ciborium_value.specs.inner.Frames.{Filled, Placed, fill, fill_map, placed, more, still, waiting_keys, whole, with_last}
+use Rattle.ciborium_value.specs.inner.Stack.{frame_of, map_frame, tree_frames, waiting_frame}
 use Rattle.ciborium_value.specs.Tree.{Tree}
 use Rattle.ciborium_value.specs.View.{pair_trees, tree_of}
 use Rattle.ciborium_value.specs.declared.stack.Frame.{Frame}
@@ -15,16 +15,16 @@ pub frames_last : (frames : List Frame) (frame : Frame) →
 frames_last frames frame = ap (map frame_of) (reverse-append frames (frame ∷ []))
 
 -- a list that is not empty has a last element
-snoc : (xs : List Frame) → 0 < length xs → (ys : List Frame) × (f : Frame) × (xs ≡ ys ++ f ∷ [])
+snoc : {A : Type 0} (xs : List A) → 0 < length xs → (ys : List A) × (f : A) × (xs ≡ ys ++ f ∷ [])
 snoc [] h = absurd (omega (arith, h))
 snoc (x ∷ []) h = ([], x, refl)
-snoc (x ∷ y ∷ xs) h = let s = snoc (y ∷ xs) (omega arith) in (x ∷ s.0, s.1, ap (λ (l : List Frame). x ∷ l) s.2)
+snoc {A} (x ∷ y ∷ xs) h = let s = snoc (y ∷ xs) (omega arith) in (x ∷ s.0, s.1, ap (λ (l : List A). x ∷ l) s.2)
 
-set-last : (ys : List Frame) (f g : Frame) → slice_set (ys ++ f ∷ []) (length ys) g ≡ ys ++ g ∷ []
+set-last : {A : Type 0} (ys : List A) (f g : A) → slice_set (ys ++ f ∷ []) (length ys) g ≡ ys ++ g ∷ []
 set-last [] f g = refl
-set-last (y ∷ ys) f g = ap (λ (l : List Frame). y ∷ l) (set-last ys f g)
+set-last {A} (y ∷ ys) f g = ap (λ (l : List A). y ∷ l) (set-last ys f g)
 
-at-last : (ys : List Frame) (f d : Frame) → slice_index_or (ys ++ f ∷ []) (length ys) d ≡ f
+at-last : {A : Type 0} (ys : List A) (f d : A) → slice_index_or (ys ++ f ∷ []) (length ys) d ≡ f
 at-last [] f d = refl
 at-last (y ∷ ys) f d = at-last ys f d
 
@@ -50,44 +50,79 @@ still-placed xs n f g v size some at filled =
         more (frame_of g ∷ os) ≡ placed (o ∷ os) v
     stays os o e = ap (λ (w : Filled). elim w [ whole t ↦ placed os t | still p ↦ more (p ∷ os) ]) e
 
--- the last of a list
-get-last : {A : Type 0} (ys : List A) (f : A) → slice_get (ys ++ f ∷ []) (length ys) ≡ Some f
-get-last [] f = refl
-get-last (y ∷ ys) f = get-last ys f
-
-some-is : {A : Type 0} (x y : A) → Some x ≡ Some y → x ≡ y
-some-is x y e = cc
-
-last-key : (ps : List (Value × Value)) (n : ℕ) (p : Value × Value) (k : Tree) → length ps ≡ suc n →
-    slice_get ps n ≡ Some p → with_last (map pair_trees ps) k ≡ Some (tree_of p.0, k)
-last-key [] n p k size e = absurd (omega (arith, size))
-last-key (q ∷ []) zero p k size e = ap (λ (r : Value × Value). Some (tree_of r.0, k)) (some-is q p e)
-last-key (q ∷ []) (suc n) p k size e = absurd (omega (arith, size))
-last-key (q ∷ (r ∷ ps)) zero p k size e = absurd (omega (arith, size))
-last-key (q ∷ (r ∷ ps)) (suc n) p k size e = last-key (r ∷ ps) n p k (omega (arith, size)) e
-
--- the key that waits in the innermost frame
-pub waiting-last : (xs : List Frame) (f : Frame) (ps : List (Value × Value)) (behind : Option ℕ) (k : Tree)
-    (p : Value × Value) → slice_get xs (length xs - 1) ≡ Some f →
-    frame_of f ≡ frames.map (map pair_trees ps) behind (Some k) → slice_get ps (length ps - 1) ≡ Some p →
-    waiting_keys (tree_frames xs) ≡ Some (tree_of p.0, k)
-waiting-last [] f ps behind k p e o last = absurd cc
-waiting-last (x ∷ xs) f ps behind k p e o last =
-    let s = snoc (x ∷ xs) (omega arith) in
-    let ys : List Frame = s.0 in
+-- the value of the key that waits in the last pair
+pub waiting-filled : (ps : List (Value × Value)) (n : ℕ) (p : Value × Value) (v : Value) (behind : Option ℕ)
+    (b : Option ℕ) (waits : Bool) → n ≡ length ps → 0 < n → p ≡ slice_index_or ps (n - 1) p → waits ≡ true →
+    behind ≡ b → fill_map (map pair_trees (slice_set ps (n - 1) (p.0, v))) b
+    ≡ fill (map_frame (map pair_trees ps) behind waits) (tree_of v)
+waiting-filled ps n p v behind b waits size some at waiting there =
+    let s = snoc ps (omega (arith, size, some)) in
+    let ys : List (Value × Value) = s.0 in
     let len : length (ys ++ s.1 ∷ []) ≡ length ys + 1 = length-append ys (s.1 ∷ []) in
-    let same : length (x ∷ xs) ≡ length (ys ++ s.1 ∷ []) = ap length s.2 in
-    let index : length (x ∷ xs) - 1 ≡ length ys = omega (arith, same, len) in
-    let here : s.1 ≡ f = some-is s.1 f (sym (get-last ys s.1) ∙
-    sym (ap (λ (l : List Frame). slice_get l (length ys)) s.2) ∙ ap (slice_get (x ∷ xs)) (sym index) ∙ e) in
-    ap (λ (l : List Frame). waiting_keys (tree_frames l)) s.2 ∙ ap waiting_keys (frames_last ys s.1) ∙
-    ap (λ (g : Frame). waiting_keys (frame_of g ∷ tree_frames ys)) here ∙
-    ap (λ (u : frames.TreeFrame). waiting_keys (u ∷ tree_frames ys)) o ∙
-    last-key ps (length ps - 1) p k (some-length ps) last
-  where
-    none-there : (r : List (Value × Value)) → slice_get r (length r - 1) ≡ Some p → 0 < length r
-    none-there [] h = absurd cc
-    none-there (q ∷ r) h = omega arith
+    let same : length ps ≡ length (ys ++ s.1 ∷ []) = ap length s.2 in
+    let index : n - 1 ≡ length ys = omega (arith, size, same, len) in
+    let here : p ≡ s.1 = at ∙ ap (λ i. slice_index_or ps i p) index ∙
+    ap (λ (l : List (Value × Value)). slice_index_or l (length ys) p) s.2 ∙ at-last ys s.1 p in
+    let set : slice_set ps (n - 1) (p.0, v) ≡ ys ++ (p.0, v) ∷ [] = ap (λ i. slice_set ps i (p.0, v)) index ∙
+    ap (λ (l : List (Value × Value)). slice_set l (length ys) (p.0, v)) s.2 ∙ set-last ys s.1 (p.0, v) in
+    let trees : map pair_trees (slice_set ps (n - 1) (p.0, v)) ≡ map pair_trees ys ++ (tree_of p.0, tree_of v) ∷ [] =
+    ap (map pair_trees) set ∙ map-append pair_trees ys ((p.0, v) ∷ []) in
+    let before : reverse (map pair_trees ps) ≡ pair_trees p ∷ reverse (map pair_trees ys) =
+    ap (λ (l : List (Value × Value)). reverse (map pair_trees l)) s.2 ∙
+    ap reverse (map-append pair_trees ys (s.1 ∷ [])) ∙ reverse-append (map pair_trees ys) (pair_trees s.1 ∷ []) ∙
+    ap (λ (q : Value × Value). pair_trees q ∷ reverse (map pair_trees ys)) (sym here) in
+    ap (fill_map (map pair_trees (slice_set ps (n - 1) (p.0, v)))) (sym there) ∙
+    ap (λ l. fill_map l behind) trees ∙
+    ap (λ l. fill_map (l ++ (tree_of p.0, tree_of v) ∷ []) behind) (sym (reverse-reverse (map pair_trees ys))) ∙
+    ap (λ l. fill (waiting_frame l behind) (tree_of v)) (sym before) ∙
+    ap (λ w. fill (map_frame (map pair_trees ps) behind w) (tree_of v)) (sym waiting)
 
-    some-length : (r : List (Value × Value)) → length ps ≡ suc (length ps - 1)
-    some-length r = let some = none-there ps last in omega (arith, some)
+-- a list of two at least has a last element and one before it
+snoc-two : {A : Type 0} (xs : List A) → 1 < length xs →
+    (zs : List A) × (z : A) × (y : A) × (xs ≡ zs ++ z ∷ y ∷ [])
+snoc-two [] h = absurd (omega (arith, h))
+snoc-two (x ∷ []) h = absurd (omega (arith, h))
+snoc-two (x ∷ y ∷ []) h = ([], x, y, refl)
+snoc-two {A} (w ∷ x ∷ y ∷ xs) h =
+    let s = snoc-two (x ∷ y ∷ xs) (omega arith) in (w ∷ s.0, s.1, s.2, ap (λ (l : List A). w ∷ l) s.3)
+
+at-second : {A : Type 0} (zs : List A) (z y d : A) → slice_index_or (zs ++ z ∷ y ∷ []) (length zs) d ≡ z
+at-second [] z y d = refl
+at-second (x ∷ zs) z y d = at-second zs z y d
+
+at-first : {A : Type 0} (zs : List A) (z y d : A) → slice_index_or (zs ++ z ∷ y ∷ []) (suc (length zs)) d ≡ y
+at-first [] z y d = refl
+at-first (x ∷ zs) z y d = at-first zs z y d
+
+with-last-of : (ps : List (Tree × Tree)) (p : Tree × Tree) (k : Tree) → with_last (ps ++ p ∷ []) k ≡ Some (p.0, k)
+with-last-of [] p k = refl
+with-last-of (q ∷ []) p k = refl
+with-last-of (q ∷ r ∷ ps) p k = with-last-of (r ∷ ps) p k
+
+-- the keys of the last two pairs
+pub last-two : (ps : List (Value × Value)) (d e : Value × Value) → 1 < length ps →
+    Some (tree_of (slice_index_or ps (length ps - 2) d).0, tree_of (slice_index_or ps (length ps - 1) e).0)
+    ≡ waiting_keys (map_frame (map pair_trees ps) None true ∷ [])
+last-two ps d e some =
+    let s = snoc-two ps some in
+    let zs : List (Value × Value) = s.0 in
+    let len : length (zs ++ s.1 ∷ s.2 ∷ []) ≡ length zs + 2 = length-append zs (s.1 ∷ s.2 ∷ []) in
+    let same : length ps ≡ length (zs ++ s.1 ∷ s.2 ∷ []) = ap length s.3 in
+    let second : length ps - 2 ≡ length zs = omega (arith, same, len) in
+    let first : length ps - 1 ≡ suc (length zs) = omega (arith, same, len) in
+    let before : slice_index_or ps (length ps - 2) d ≡ s.1 = ap (λ i. slice_index_or ps i d) second ∙
+    ap (λ (l : List (Value × Value)). slice_index_or l (length zs) d) s.3 ∙ at-second zs s.1 s.2 d in
+    let last : slice_index_or ps (length ps - 1) e ≡ s.2 = ap (λ i. slice_index_or ps i e) first ∙
+    ap (λ (l : List (Value × Value)). slice_index_or l (suc (length zs)) e) s.3 ∙ at-first zs s.1 s.2 e in
+    let reversed : reverse (map pair_trees ps) ≡ pair_trees s.2 ∷ pair_trees s.1 ∷ reverse (map pair_trees zs) =
+    ap (λ (l : List (Value × Value)). reverse (map pair_trees l)) s.3 ∙
+    ap reverse (map-append pair_trees zs (s.1 ∷ s.2 ∷ [])) ∙
+    reverse-append (map pair_trees zs) (pair_trees s.1 ∷ pair_trees s.2 ∷ []) in
+    let again : reverse (pair_trees s.1 ∷ reverse (map pair_trees zs)) ≡ map pair_trees zs ++ pair_trees s.1 ∷ [] =
+    reverse-append (pair_trees s.1 ∷ []) (reverse (map pair_trees zs)) ∙
+    ap (λ l. l ++ pair_trees s.1 ∷ []) (reverse-reverse (map pair_trees zs)) in
+    ap (λ (q : Value × Value). Some (tree_of q.0, tree_of (slice_index_or ps (length ps - 1) e).0)) before ∙
+    ap (λ (q : Value × Value). Some (tree_of s.1.0, tree_of q.0)) last ∙
+    sym (with-last-of (map pair_trees zs) (pair_trees s.1) (tree_of s.2.0)) ∙
+    ap (λ l. with_last l (tree_of s.2.0)) (sym again) ∙
+    ap (λ l. waiting_keys (waiting_frame l None ∷ [])) (sym reversed)

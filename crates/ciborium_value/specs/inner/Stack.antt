@@ -1,7 +1,8 @@
 -- What a stack of frames shows.
-use Rattle.std.specs.Prelude.{List, [], map, reverse, Option, Some, None, option_map}
+use Rattle.std.specs.Prelude.{ℕ, Bool, false, true, List, [], ◌∷◌, map, reverse, Option, Some, None}
 use Rattle.ciborium_value.specs.inner.Frames as frames
 use Rattle.ciborium_value.specs.inner.Frames.{TreeFrame, Filled, Placed}
+use Rattle.ciborium_value.specs.Tree.{Tree}
 use Rattle.ciborium_value.specs.View.{tree_of, pair_trees}
 use Rattle.ciborium_value.specs.declared.tree.Value.{Value}
 use Rattle.ciborium_value.specs.declared.stack.Frame.{Frame}
@@ -10,11 +11,20 @@ use Rattle.ciborium_value.specs.declared.stack.Opening.{Opening}
 use Rattle.ciborium_value.specs.declared.stack.Opening.TheVariants as opening
 use Rattle.ciborium_value.specs.declared.stack.Stack.{Stack}
 
+-- a map whose last pair holds the key that waits, from these pairs, the last first
+abbrev pub waiting_frame : List (Tree × Tree) → Option ℕ → TreeFrame
+waiting_frame [] behind = frames.map [] behind None
+waiting_frame (p ∷ ps) behind = frames.map (reverse ps) behind (Some p.0)
+
+-- a map with these pairs, where a key may wait
+abbrev pub map_frame : List (Tree × Tree) → Option ℕ → Bool → TreeFrame
+map_frame ps behind false = frames.map ps behind None
+map_frame ps behind true = waiting_frame (reverse ps) behind
+
 -- what a frame holds
 abbrev pub frame_of : Frame → TreeFrame
 frame_of (frame.Array items behind) = frames.array (map tree_of items.items) behind
-frame_of (frame.Map pairs behind key) = frames.map (map pair_trees pairs.items) behind
-    (option_map tree_of key)
+frame_of (frame.Map pairs behind waits) = map_frame (map pair_trees pairs.items) behind waits
 frame_of (frame.Tag n) = frames.tag n
 
 -- the frames in a list whose last is the innermost
