@@ -17,6 +17,7 @@ mod byte_source;
 mod deterministic;
 mod error;
 mod front;
+mod held;
 mod loading;
 mod parts;
 mod sequence;

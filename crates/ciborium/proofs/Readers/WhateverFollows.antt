@@ -1,5 +1,5 @@
 -- What is said of a decoder whatever follows the bytes that it takes.
-use Rattle.std.proofs.Common.{◌≡◌, ℕ, ◌+◌, ◌<◌, List, [], ◌++◌, Option, Some, None, Result, Ok, Err, OnOk, IfSome}
+use Rattle.std.proofs.Common.{◌≡◌, ℕ, ◌+◌, ◌<◌, ◌≤◌, inr, List, [], ◌++◌, Option, Some, None, Result, Ok, Err, OnOk, IfSome}
 use Rattle.std.proofs.Common.{IfNone, MatchOption, refl, sym, ap, ◌∙◌, subst, arith, append_assoc, append-nil}
 use Rattle.std.proofs.Common.{length-append, length}
 use Rattle.std.specs.Io.KnownBytes.{Consumes}
@@ -10,10 +10,12 @@ use Rattle.ciborium_ll.specs.declared.header.Error.{Error as LlError}
 use Rattle.ciborium_ll.specs.declared.decoder.Decoder.{Decoder}
 use Rattle.ciborium_ll.specs.Decoding.{HasBegun, IsAhead, IsAheadBy, ReadsNothing, Pulls}
 use Rattle.ciborium_ll.specs.Decoding.{PullsTo, Takes, TakesBeforeAny, with_left, left_of}
-use Rattle.ciborium_ll.specs.Bytes.{AreBytes}
+use Rattle.ciborium_ll.specs.Bytes.{AreBytes, greatest_offset}
 use Rattle.ciborium_ll.specs.ReaderSteps as reading
 use Rattle.ciborium_ll.specs.ReaderSteps.{IsHeadTaken}
-use Rattle.ciborium_ll.specs.StringRefusal.{StringKind, ContentRefuses}
+use Rattle.ciborium_ll.specs.StringRefusal.{StringKind, ContentRefuses, IsAllowed}
+use Rattle.ciborium_ll.specs.Decoded.{IsVisited}
+use Rattle.ciborium_ll.specs.declared.header.Error.TheVariants.{Io, Syntax, TooLong, Memory}
 use Rattle.ciborium_ll.specs.Strings.{IsStringTaken}
 use Rattle.ciborium_ll.proofs.Decoders.{unread-left, begun-left, unread-count}
 use Rattle.ciborium_ll.proofs.Unread.{pulls-head, reads-string, rest-of}
@@ -168,6 +170,30 @@ string-refused E remaining a b kind len x A (y, taken, count, h, bytes) = (
       (y, refl, count, h, bytes) s.1)),
   bytes,
 )
+
+-- a string whose payload could not be looked at where it stands
+pub held-refused : (E : Type 0) {S W V : Type 0} (remaining : S → Option (List ℕ)) (a b : Decoder S W)
+    (kind : StringKind) (n : ℕ) (Makes : List ℕ → V → Type 0) (x : LlError E) →
+    Takes remaining a b (λ y. IsVisited n Makes y a.counter.count (Some (Err x))) →
+    TakesBeforeAny remaining a b (λ d e. StringSo {E = E} kind (Some n) a.last d e (Err (from_ll x)))
+held-refused E remaining a b kind n Makes x (y, taken, count, h, bytes) =
+    string-refused E remaining a b kind (Some n) x (λ _ _. Unit {0}) (y, taken, count, ([], tt, by x h), bytes)
+  where
+    by : (x : LlError E) → IsVisited n Makes y a.counter.count (Some (Err x)) →
+        IsStringTaken {E = E} kind (Some n) a.last y a.counter.count (Err x) []
+    by (Io e) (none, some, fits) = inr (fits, (subst (λ (z : List ℕ). length z < n) (sym none) some, refl))
+    by (Syntax at) h = absurd h
+    by TooLong h = absurd h
+    by Memory h = absurd h
+
+-- a text whose payload is none
+pub held-no-text : (E : Type 0) {S W : Type 0} (remaining : S → Option (List ℕ)) (a b : Decoder S W)
+    (kind : StringKind) (n : ℕ) →
+    Takes remaining a b (λ y. (length y ≡ n) × (a.counter.count + n ≤ greatest_offset) × ¬ IsAllowed kind y) →
+    TakesBeforeAny remaining a b (λ d e. StringSo {E = E} kind (Some n) a.last d e (Err (from_ll (Syntax a.last))))
+held-no-text E remaining a b kind n (y, taken, count, (size, fits, unlike), bytes) =
+    string-refused E remaining a b kind (Some n) (Syntax a.last) (λ _ _. Unit {0})
+    (y, taken, count, ([], tt, inr (fits, (refl, size, unlike, refl))), bytes)
 
 -- ---- what was taken of a reader
 

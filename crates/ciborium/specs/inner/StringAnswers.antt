@@ -1,15 +1,18 @@
 -- What reading the payload of a string answers.
 use Rattle.std.specs.Prelude.{◌≡◌, ℕ, ◌+◌, ◌≤◌, List, ◌++◌, length, Option, Result, Ok, Err, Bool}
-use Rattle.std.specs.Prelude.{true, false}
+use Rattle.std.specs.Prelude.{true, false, None, Some}
 use Rattle.ciborium_ll.specs.declared.decoder.Decoder.{Decoder}
 use Rattle.ciborium_ll.specs.Bytes.{greatest_offset}
 use Rattle.ciborium_ll.specs.Decoding.{left_of}
 use Rattle.ciborium_ll.specs.StringRefusal.{StringKind, of_bytes, of_text, ContentRefuses}
+use Rattle.ciborium_ll.specs.StringRefusal.{IsAllowed}
 use Rattle.ciborium_ll.specs.Strings.{IsStringTaken}
 use Rattle.ciborium_value.specs.declared.tree.Value.{Value}
 use Rattle.ciborium_value.specs.View.{tree_of}
 use Rattle.ciborium_value.specs.inner.ReadItems.{string_tree}
 use Rattle.ciborium.specs.declared.de.error.Error.{Error}
+use Rattle.ciborium.specs.declared.de.held.Copied.{Copied}
+use Rattle.ciborium.specs.declared.de.held.Copied.TheVariants.{Whole, NoText, NoMemory}
 use Rattle.ciborium.specs.ValueAnswers.{IsRefusedBy}
 use Rattle.ciborium.specs.inner.ValuesInBytes.{IsAt}
 
@@ -26,3 +29,18 @@ IsStringRead {S} {E} kind remaining d len at xs p (Ok v) =
     (xs ≡ b ++ r) × IsAt remaining d r (p + length b) × (p + length b ≤ greatest_offset)
 IsStringRead kind remaining d len at xs p (Err e) =
     IsRefusedBy (left_of remaining d) e (ContentRefuses kind len at xs p)
+
+-- what is made of a payload where it stands
+abbrev pub IsCopied : StringKind → List ℕ → Copied → Type 0
+IsCopied kind b (Whole v) = IsAllowed kind b × (tree_of v ≡ string_tree kind b)
+IsCopied kind b NoText = ¬ IsAllowed kind b
+IsCopied kind b NoMemory = Unit {0}
+
+-- the same of a string of n bytes that is read where it is held: at None nothing is taken
+abbrev pub IsHeldRead : {S W E : Type 0} → StringKind → (S → Option (List ℕ)) → Decoder S W →
+    ℕ → ℕ → List ℕ → ℕ → Result (Option Value) (Error E) → Type 0
+IsHeldRead kind remaining d n at xs p (Ok None) = IsAt remaining d xs p
+IsHeldRead {E} kind remaining d n at xs p (Ok (Some v)) =
+    IsStringRead {E = E} kind remaining d (Some n) at xs p (Ok v)
+IsHeldRead kind remaining d n at xs p (Err e) =
+    IsStringRead kind remaining d (Some n) at xs p (Err e)

@@ -11,6 +11,7 @@ ghost use Rattle.ciborium.specs.inner.StringAnswers.{IsStringRead, string_kind};
 
 use crate::de::error::{Error, Refusal};
 use crate::de::front::{Part, pull};
+use crate::de::held::copy_held;
 use crate::de::spelling::Rules;
 use crate::de::tags::read_tag;
 use ciborium_ll::{Access, Decoder, Header, simple};
@@ -65,6 +66,34 @@ pub(super) fn read_simple<E>(number: u8, offset: usize) -> Result<Value, Error<E
 
 // The payload of the string whose head was pulled last: of a text, or of a byte string.
 fn read_string<R, A: Access<R>>(
+    alloc: Global,
+    decoder: &mut Decoder<'_, R, A>,
+    scratch: &mut [u8],
+    is_text: bool,
+    len: Option<usize>,
+    failure: &mut Option<io::Error>,
+) -> Result<Value, Refusal>
+    requires { pushed_of decoder.old ≡ None }
+    ensures same_reader { HasSameReader decoder.old decoder.new }
+    ensures pushed { pushed_of decoder.new ≡ None }
+    ensures fewer { OnOk result (heads_left decoder.new ≤ heads_left decoder.old) }
+    ensures ended { IfErr result
+        (λ e. HasEndedAfter A.can_fail A.remaining decoder.new e) }
+    ensures content { TakesBeforeAny A.remaining decoder.old decoder.new
+        (λ d e. (xs : List ℕ) (p : ℕ) → IsAt Some d xs p →
+        IsStringRead (string_kind is_text) Some e len (last_of decoder.old) xs p result) }
+{
+    let Some(size) = len else {
+        return append_string(alloc, decoder, scratch, is_text, len, failure);
+    };
+    match copy_held(alloc, decoder, is_text, size, failure)? {
+        Some(value) => Ok(value),
+        None => append_string(alloc, decoder, scratch, is_text, len, failure),
+    }
+}
+
+// The same, piece by piece.
+fn append_string<R, A: Access<R>>(
     alloc: Global,
     decoder: &mut Decoder<'_, R, A>,
     scratch: &mut [u8],

@@ -1,38 +1,30 @@
-use Rattle.std.proofs.Common.{rules, ◌≡◌, ◌++◌, string_bytes}
-use Rattle.std.proofs.lemmas.Result.{err_from_is_err_and}
-use Rattle.ciborium_ll.specs.StringRefusal.{of_bytes, of_text}
-use Rattle.ciborium_value.specs.declared.tree.Value as value
-use Rattle.ciborium_value.proofs.Trees.Views.{tree_of-Bytes, tree_of-Text}
-use Rattle.ciborium.proofs.Readers.WhateverFollows.{string-refused, string-taken}
+use Rattle.std.proofs.Common.{List, ℕ, ◌∙◌, ap, subst, Some, Ok}
+use Rattle.ciborium_ll.specs.Decoding.{TakesBeforeAny}
+use Rattle.ciborium.specs.inner.StringAnswers.{IsHeldRead, string_kind}
+use Rattle.ciborium.specs.inner.ValuesInBytes.{IsAt}
+use Rattle.ciborium.proofs.Readers.WhateverFollows.{StringSo, so-then}
 use Rattle.ciborium.proofs.de.parts.read_string.Goals as goal
 
-pub returns-then-is_text-clause-content : goal.returns-then-is_text-clause-content
-returns-then-is_text-clause-content g c =
-    let out = c.text_into_keeping.new.out in
-    rw c.if-is_text.true (string-taken (Unit {0}) g.A.Access.remaining c.args.decoder.now c.text_into_keeping.new.self
-    of_text c.args.len (string_bytes c.new-text.result) (string_bytes out) (value.Text out) c.new-text.ensures.bytes
-    (tree_of-Text out) c.in_ok-text_into_keeping.ensures.taken)
+pub returns-in-Some-2-clause-content : goal.returns-in-Some-2-clause-content
+returns-in-Some-2-clause-content g c =
+    rw c.in-Some.is (subst (λ r. TakesBeforeAny g.A.Access.remaining c.args.decoder.now c.copy_held.new.decoder
+    (λ d e. (xs : List ℕ) (p : ℕ) → IsAt Some d xs p → IsHeldRead (string_kind c.args.is_text) Some e c.in-Some.size
+    c.args.decoder.now.last xs p r)) (c.in_ok-value.was ∙ ap Ok c.in-Some-2.is) c.copy_held.ensures.content)
 
-pub returns-in_err-text_into_keeping-clause-content : goal.returns-in_err-text_into_keeping-clause-content
-returns-in_err-text_into_keeping-clause-content g c =
-    let exit = err_from_is_err_and c.from_residual.result c.from_residual.ensures.1 in
-    rw (exit.1, exit.2) (rw c.if-is_text.true (string-refused (Unit {0}) g.A.Access.remaining c.args.decoder.now
-    c.text_into_keeping.new.self of_text c.args.len c.in_err-text_into_keeping.field-0.0
-    (λ added y. string_bytes c.text_into_keeping.new.out ≡ string_bytes c.new-text.result ++ added)
-    c.in_err-text_into_keeping.ensures.taken))
-
-pub returns-in_err-bytes_into_keeping-clause-content : goal.returns-in_err-bytes_into_keeping-clause-content
-returns-in_err-bytes_into_keeping-clause-content g c =
-    let exit = err_from_is_err_and c.from_residual-in_err-bytes_into_keeping.result
-    c.from_residual-in_err-bytes_into_keeping.ensures.1 in
-    rw (exit.1, exit.2) (rw c.if-is_text.false (string-refused (Unit {0}) g.A.Access.remaining c.args.decoder.now
-    c.bytes_into_keeping.new.self of_bytes c.args.len c.in_err-bytes_into_keeping.field-0.0
-    (λ added y. c.bytes_into_keeping.new.out.items ≡ c.new-bytes.result.items ++ added)
-    c.in_err-bytes_into_keeping.ensures.taken))
-
-pub returns-clause-content : goal.returns-clause-content
-returns-clause-content g c =
-    let out = c.bytes_into_keeping.new.out in
-    rw c.if-is_text.false (string-taken (Unit {0}) g.A.Access.remaining c.args.decoder.now c.bytes_into_keeping.new.self
-    of_bytes c.args.len c.new-bytes.result.items out.items (value.Bytes out) (search rules) (tree_of-Bytes out)
-    c.in_ok-bytes_into_keeping.ensures.taken)
+pub returns-in-None-clause-content : goal.returns-in-None-clause-content
+returns-in-None-clause-content g c =
+    let old = c.args.decoder.now in
+    let new = c.append_string-in-None.new.decoder in
+    let kind = string_kind c.args.is_text in
+    let size = Some c.in-Some.size in
+    rw c.in-Some.is (so-then g.A.Access.remaining old c.copy_held.new.decoder new
+    (λ d e. (xs : List ℕ) (p : ℕ) → IsAt Some d xs p → IsAt Some e xs p)
+    (λ d e. StringSo kind size old.last d e c.append_string-in-None.result)
+    (λ d e. StringSo kind size old.last d e c.append_string-in-None.result)
+    (λ u v w stays reads xs p at. reads xs p (stays xs p at))
+    (subst (λ r. TakesBeforeAny g.A.Access.remaining old c.copy_held.new.decoder
+    (λ d e. (xs : List ℕ) (p : ℕ) → IsAt Some d xs p → IsHeldRead kind Some e c.in-Some.size old.last xs p r))
+    (c.in_ok-value.was ∙ ap Ok c.in-None.is) c.copy_held.ensures.content)
+    (subst (λ at. TakesBeforeAny g.A.Access.remaining c.copy_held.new.decoder new
+    (λ d e. StringSo kind size at d e c.append_string-in-None.result))
+    c.copy_held.ensures.last c.append_string-in-None.ensures.content))
