@@ -21,5 +21,7 @@ pub use de::{
     from_reader_with_buffer, from_reader_with_recursion_limit, from_slice,
     from_slice_deterministic, from_slice_with_recursion_limit, read_buf_sequence, read_sequence,
 };
-pub use ser::{into_writer, into_writer_deterministic, to_vec, write_sequence};
+pub use ser::{
+    into_writer, into_writer_deterministic, to_vec, write_deterministic_value, write_sequence,
+};
 pub use value::Value;

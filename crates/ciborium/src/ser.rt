@@ -7,7 +7,7 @@ ghost use Rattle.ciborium.specs.Writes.{cause_of};
 
 use byte_sink::{ByteSink, Refusal};
 pub use ciborium_value::{Array, Field, Item, Kind, MaybeField, NoField, NoItem, Serialize, Sink};
-pub use deterministic::into_writer_deterministic;
+pub use deterministic::{into_writer_deterministic, write_deterministic_value};
 pub use error::Error;
 pub use sequence::write_sequence;
 use std::alloc::Global;

@@ -7,7 +7,7 @@ use ciborium::value::KeyOrder;
 use ciborium::value::canonical::{cmp_bytewise, cmp_value};
 use ciborium::{
     Value, from_buf_reader_deterministic, from_reader_deterministic, from_slice,
-    into_writer_deterministic,
+    write_deterministic_value,
 };
 use std::time::{Duration, Instant};
 
@@ -29,7 +29,7 @@ fn measure_forms(rt: &HostRuntime, run: &Run) -> Result<(), Fault> {
     for _ in 0..run.rounds {
         let mut out = Vec::new(rt.alloc());
         let start = Instant::now(rt)?;
-        into_writer_deterministic(rt.alloc(), &value, KeyOrder::LengthFirst, &mut out)?;
+        write_deterministic_value(rt.alloc(), &value, KeyOrder::LengthFirst, &mut out)?;
         best = best.min(start.elapsed(rt)?);
     }
     run.tell(rt, "form", best)

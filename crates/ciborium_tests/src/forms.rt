@@ -4,7 +4,7 @@ use crate::pieces::{decode_pieces, parse_number};
 use crate::refusals::describe_write;
 use crate::writes::read_whole;
 use ciborium::de::from_reader_deterministic_with_order;
-use ciborium::ser::{Error, into_writer, into_writer_deterministic};
+use ciborium::ser::{Error, into_writer, into_writer_deterministic, write_deterministic_value};
 use ciborium::value::{KeyOrder, Kind, Value};
 use std::alloc::{AllocError, Global};
 use std::io;
@@ -34,6 +34,9 @@ pub fn answer_form(
 fn show_form(alloc: Global, mut value: Value, order: KeyOrder) -> Result<String, AllocError> {
     let mut written = Vec::new(alloc);
     let answer = into_writer_deterministic(alloc, &value, order, &mut written);
+    if !is_written_without_copy(alloc, &value, order, &written)? {
+        return String::from_str(alloc, "differs");
+    }
     let before = encode(alloc, &value)?;
     let was_own = value.is_deterministic(order);
     match (value.make_deterministic(order), answer) {
@@ -53,6 +56,20 @@ fn show_form(alloc: Global, mut value: Value, order: KeyOrder) -> Result<String,
             }
         }
         _ => String::from_str(alloc, "differs"),
+    }
+}
+
+// Whether the call that copies no value which is its own form writes just these bytes.
+fn is_written_without_copy(
+    alloc: Global,
+    value: &Value,
+    order: KeyOrder,
+    bytes: &[u8],
+) -> Result<bool, AllocError> {
+    let mut written = Vec::new(alloc);
+    match write_deterministic_value(alloc, value, order, &mut written) {
+        Err(Error::Memory) => Err(AllocError),
+        _ => Ok(written.as_slice() == bytes),
     }
 }
 

@@ -14,7 +14,7 @@ use Rattle.ciborium_ll.specs.Spells.{IsDefiniteString, IsContainer, Spells, Spel
 use Rattle.ciborium_ll.proofs.ShortestHead.{none_is_shorter, no_other_is_as_short}
 use Rattle.ciborium_ll.proofs.UniqueSpelling.{one_item}
 use Rattle.ciborium_value.specs.Encoding.{item_of, items_of, pairs_of, encoding, items_bytes, pairs_bytes, written_tree}
-use Rattle.ciborium_value.specs.Encoding.{written_trees, written_pairs}
+use Rattle.ciborium_value.specs.lemmas.ItemsOfTrees.{tree_is_written_as_itself}
 use Rattle.ciborium_value.specs.Tree.{Tree, integer, bytes, text, boolean, null, tag, array, map, Trees, no_trees, tree}
 use Rattle.ciborium_value.specs.Tree.{TreePairs, no_tree_pairs, tree_pair}
 use Rattle.ciborium.specs.laws.EncodingLaws.{OneTree, EncodingSpells, OthersAreLonger, HeadsRise}
@@ -26,36 +26,11 @@ encoding_spells = encoding-spells
 
 -- ---- one tree
 
-mutual
-  written_tree-item_of : (v : Tree) → written_tree (item_of v) ≡ v
-  written_tree-item_of (integer (pos n)) = refl
-  written_tree-item_of (integer (negsuc n)) = refl
-  written_tree-item_of (bytes b) = refl
-  written_tree-item_of (text b) = refl
-  written_tree-item_of (boolean false) = refl
-  written_tree-item_of (boolean true) = refl
-  written_tree-item_of null = refl
-  written_tree-item_of (tag t v) = ap (tag t) (written_tree-item_of v)
-  written_tree-item_of (array vs) = ap array (written_trees-items_of vs)
-  written_tree-item_of (map ps) = ap map (written_pairs-pairs_of ps)
-
-  written_trees-items_of : (vs : Trees) → written_trees (items_of vs) ≡ vs
-  written_trees-items_of no_trees = refl
-  written_trees-items_of (tree v vs) = ap (λ w. tree w (written_trees (items_of vs))) (written_tree-item_of v) ∙
-      ap (tree v) (written_trees-items_of vs)
-
-  written_pairs-pairs_of : (ps : TreePairs) → written_pairs (pairs_of ps) ≡ ps
-  written_pairs-pairs_of no_tree_pairs = refl
-  written_pairs-pairs_of (tree_pair k v ps) =
-      ap (λ w. tree_pair w (written_tree (item_of v)) (written_pairs (pairs_of ps))) (written_tree-item_of k)
-      ∙ ap (λ w. tree_pair k w (written_pairs (pairs_of ps))) (written_tree-item_of v)
-      ∙ ap (tree_pair k v) (written_pairs-pairs_of ps)
-
 pub one_tree : OneTree
 one_tree v w h k e =
     let same : item_of v ≡ item_of w = one_item (encoding v) (item_of v) (item_of w) (encoding-spells v h)
     (subst (λ b. Spells b (item_of w)) (sym e) (encoding-spells w k)) in
-    sym (written_tree-item_of v) ∙ ap written_tree same ∙ written_tree-item_of w
+    sym (tree_is_written_as_itself v) ∙ ap written_tree same ∙ tree_is_written_as_itself w
 
 -- ---- the shortest spelling
 

@@ -1,6 +1,7 @@
 //! The deterministic forms of values to bytes (RFC 8949, section 4.2).
 
-ghost use Rattle.std.specs.Prelude.{◌≡◌, IfErr, IfOk, OnOk};
+ghost use Rattle.std.specs.Prelude.{◌≡◌, IfErr, IfOk, IsTrue, OnOk};
+ghost use Rattle.ciborium_value.specs.Sinks.{named_value};
 ghost use Rattle.ciborium_value.specs.Taken.{gives};
 ghost use Rattle.ciborium_value.specs.View.{tree_of};
 ghost use Rattle.ciborium.specs.DeterministicWrites.{IsFormOwed, IsFormWritten, WritesForm};
@@ -71,4 +72,38 @@ fn form_of<T: Serialize>(
         Ok(()) => Ok(tree),
         Err(kind) => Err(Error::Value(kind)),
     }
+}
+
+/// Writes the deterministic form of a `Value` as `into_writer_deterministic` does, and without a
+/// copy of its tree where it is its own form (`Value::is_deterministic`): no memory is taken then.
+///
+/// # Errors
+///
+/// Those of `into_writer_deterministic`.
+pub fn write_deterministic_value<W: Write>(
+    alloc: Global,
+    value: &Value,
+    order: KeyOrder,
+    writer: &mut W,
+) -> Result<(), Error<io::Error>>
+    ensures bytes { WritesForm (W.contents writer.old) (W.contents writer.new) result
+        (named_form order (named_value value.now)) }
+    // Refused, or where an allocation failed, the writer is as it was.
+    ensures untouched { IfErr result (λ e. ¬ IsWriteIo e → writer.new ≡ writer.old) }
+    ensures refused { IfErr result (λ e.
+        IsFormOwed (cause_of e) (named_form order (named_value value.now))) }
+    ensures written { OnOk result (IsFormWritten (named_form order (named_value value.now))) }
+{
+    if is_own_form(value, order) {
+        return into_writer(value, writer);
+    }
+    into_writer_deterministic(alloc, value, order, writer)
+}
+
+// Whether a value is its own form.
+fn is_own_form(value: &Value, order: KeyOrder) -> bool
+    ensures { IsTrue result →
+        named_form order (named_value value.now) ≡ gives (tree_of value.now) }
+{
+    value.is_deterministic(order)
 }
