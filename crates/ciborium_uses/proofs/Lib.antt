@@ -1,6 +1,7 @@
 mod CriticalLabels
 mod Exits
 mod LabelMaps
+mod ReadAgain
 mod Tagged
 mod WholeItems
 mod WrittenMessages

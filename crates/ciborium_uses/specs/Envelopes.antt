@@ -1,7 +1,7 @@
 -- Signed messages of COSE (RFC 9052) that hold a CBOR Web Token (RFC 8392): which bytes they are,
 -- and what their
 -- signatures sign.
-use Rattle.std.specs.Prelude.{◌≡◌, ℕ, ℤ, pos, List, [], ◌∷◌, codes, length, map}
+use Rattle.std.specs.Prelude.{◌≡◌, ◌≤◌, ℕ, ℤ, pos, List, [], ◌∷◌, codes, length, map}
 use Rattle.std.specs.Prelude.{Bool, IsTrue, true, false, not, nat_le, ◌&&◌}
 use Rattle.std.specs.Prelude.{Option, Some, None, option_map, String, string_bytes}
 use Rattle.std.specs.declared.alloc.Global.{Global}
@@ -11,14 +11,18 @@ use Rattle.std.specs.Map.{lookup}
 use Rattle.ciborium.specs.Item as item
 use Rattle.ciborium.specs.Item.{Item}
 use Rattle.ciborium.specs.Spells.{Spells}
-use Rattle.ciborium.specs.Encoding.{item_of}
+use Rattle.ciborium.specs.Derived.{value_cmp}
+use Rattle.ciborium.specs.Encoding.{encoding, item_of}
+use Rattle.ciborium.specs.Folded.{folded}
+use Rattle.ciborium.specs.Nesting.{nesting}
 use Rattle.ciborium.specs.Order.{tree_cmp}
 use Rattle.ciborium.specs.TagReadings.{if_tag, is_tag, taken_with_tag}
 use Rattle.ciborium.specs.Taken.{Taken, gives, outcome, taken_value}
 use Rattle.ciborium.specs.TakenParts.{has_key, taken_map, taken_then}
 use Rattle.ciborium.specs.Tree as trees
 use Rattle.ciborium.specs.Tree.{Tree, TreePairs, Trees, tree_pairs_count}
-use Rattle.ciborium.specs.View.{pair_trees, tree_pairs_from}
+use Rattle.ciborium.specs.View.{pair_trees, tree_of, tree_pairs_from}
+use Rattle.ciborium_value.specs.lemmas.ReadsBackMaps.{IsMapHeld}
 use Rattle.ciborium_value.specs.declared.byte_buf.ByteBuf.{ByteBuf}
 use Rattle.ciborium_value.specs.declared.tree.Value.{Value}
 use Rattle.ciborium_uses.specs.declared.envelopes.Envelope.{Envelope}
@@ -211,6 +215,51 @@ pub record IsWrapped (bs : List ℕ) (w : Wrapping) (e : Envelope) : Type 0 wher
   pub item : IsAllOf (taken_with_tag (taken_with_tag taken_value)) bs
       ((tags_of w).0, ((tags_of w).1, tree))
   pub message : IsMessage tree e
+
+-- ---- what is written and read again
+
+-- a protected header as it is written: no bytes where it is empty, else those of its map (RFC 9052,
+-- section 3)
+abbrev pub header_bytes : List (Tree × Tree) → List ℕ
+header_bytes [] = []
+header_bytes (e ∷ es) = encoding (trees.map (tree_pairs_from (e ∷ es)))
+
+-- a value that is written as it is read: no tag in it folds over a byte string
+abbrev pub IsAsRead : Value → Type 0
+IsAsRead v = folded (tree_of v) ≡ Some (tree_of v)
+
+-- labels in their order, each written as it is read
+pub record AreKept (m : BTreeMap Value Value) : Type 0 where
+  pub held : IsMapHeld value_cmp IsAsRead IsAsRead m
+  pub labels : IsTrue (are_labels (tree_pairs_from (entry_trees m)))
+
+-- the message that is written of an envelope
+abbrev pub message_of : Envelope → Tree
+message_of e = message_tree e.protected.0.items (labels_tree e.unprotected) e.payload.0.items
+    e.signature.0.items
+
+-- an envelope that is read as it is written: its headers and claims are those of its bytes, and go
+-- together, and two levels of the 256 are left for tags
+pub record IsWhole (e : Envelope) : Type 0 where
+  pub unprotected : AreKept e.unprotected
+  pub header : IsHeader e.protected.0.items (entry_trees e.header)
+  pub headers : AreHeaders (entry_trees e.header) (entry_trees e.unprotected)
+  pub claims : AreClaimBytes e.payload.0.items e.claims
+  pub nests : nesting (item_of (message_of e)) ≤ 254
+
+-- the same bytes in each part, and equal labels in the headers and the claims
+pub record AreAlike (e f : Envelope) : Type 0 where
+  pub protected : e.protected.0.items ≡ f.protected.0.items
+  pub unprotected : entry_trees e.unprotected ≡ entry_trees f.unprotected
+  pub payload : e.payload.0.items ≡ f.payload.0.items
+  pub signature : e.signature.0.items ≡ f.signature.0.items
+  pub header : entry_trees e.header ≡ entry_trees f.header
+  pub claims : entry_trees e.claims.every ≡ entry_trees f.claims.every
+
+-- no bytes are two envelopes, nor one under two kinds of tags
+abbrev pub OneEnvelope : Type 0
+OneEnvelope = (bs : List ℕ) (w v : Wrapping) (e f : Envelope) → IsWrapped bs w e → IsWrapped bs v f →
+    (w ≡ v) × AreAlike e f
 
 -- ---- what a signature signs
 

@@ -7,6 +7,7 @@ ghost use Rattle.std.specs.Option.{option_copied, option_map};
 ghost use Rattle.ciborium.specs.Encoding.{written_bytes};
 ghost use Rattle.ciborium.specs.View.{tree_of};
 ghost use Rattle.ciborium_uses.specs.Envelopes.{IsEnvelope, IsMessage, IsOutside, IsWrapped};
+ghost use Rattle.ciborium_uses.specs.Envelopes.{OneEnvelope};
 ghost use Rattle.ciborium_uses.specs.Envelopes.{entry_trees, signed_header, signed_item, value_at};
 ghost use Rattle.ciborium_uses.specs.declared.envelopes.Envelope.{Envelope};
 ghost use Rattle.ciborium_uses.specs.declared.envelopes.wrapping.Wrapping.{Wrapping};
@@ -34,7 +35,7 @@ use labels::{labels_of, read_header, value_of};
 use std::alloc::Global;
 use std::io;
 pub use wrapping::{OtherMessage, Wrapping};
-pub use writing::write_envelope;
+pub use writing::{header_bytes, through_memory, write_envelope};
 
 /// A signed message whose payload is a set of claims.
 #[derive(Debug, Drop)]
@@ -128,6 +129,11 @@ pub fn algorithm<'a>(envelope: &'a Envelope) -> Option<&'a Value>
     value_of(&envelope.header, 1)
 }
 
+/// No bytes are two envelopes: the tags around one are told by them, and so are its parts.
+pub fn one_envelope()
+    ensures { OneEnvelope }
+{}
+
 /// The bytes that the signature of an envelope signs, where the application adds these.
 pub fn signed_bytes(
     alloc: Global,
@@ -138,11 +144,34 @@ pub fn signed_bytes(
         (signed_header envelope.now.protected.0.items (entry_trees envelope.now.header))
         external.now.0.items envelope.now.payload.0.items)) }
 {
+    let Envelope {
+        protected,
+        header,
+        payload,
+        ..
+    } = envelope;
+    to_be_signed(alloc, protected, header, external, payload)
+}
+
+/// The bytes that a signature has to sign, before there is an envelope: those of the protected
+/// header, which are left out where it holds no label, of what the application adds, and of the
+/// payload (RFC 9052, section 4.4). `header_bytes` makes those of the header.
+///
+/// # Errors
+///
+/// Those of `to_vec`.
+pub fn to_be_signed(
+    alloc: Global,
+    protected: &ByteBuf,
+    header: &Labels,
+    external: &ByteBuf,
+    payload: &ByteBuf,
+) -> Result<Vec<u8>, ser::Error<io::Error>>
+    ensures { IfOk result (λ bytes. bytes.items ≡ written_bytes (signed_item
+        (signed_header protected.now.0.items (entry_trees header.now))
+        external.now.0.items payload.now.0.items)) }
+{
     let none = ByteBuf(Vec::new(alloc));
-    let header = if envelope.header.is_empty() {
-        &none
-    } else {
-        &envelope.protected
-    };
-    to_vec(alloc, &("Signature1", header, external, &envelope.payload))
+    let sent = if header.is_empty() { &none } else { protected };
+    to_vec(alloc, &("Signature1", sent, external, payload))
 }

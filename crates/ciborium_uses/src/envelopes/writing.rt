@@ -1,16 +1,37 @@
 //! Signed messages that are written.
 
-ghost use Rattle.std.specs.Prelude.{◌≡◌, IfOk};
+ghost use Rattle.std.specs.Prelude.{◌≡◌, IfErr, IfOk};
 ghost use Rattle.ciborium.specs.Encoding.{item_of, written_bytes};
-ghost use Rattle.ciborium_uses.specs.Envelopes.{labels_tree, message_tree, wrapped_tree};
+ghost use Rattle.ciborium.specs.Spells.{Spells};
+ghost use Rattle.ciborium.specs.declared.ser.error.Error.TheVariants.{Memory};
+ghost use Rattle.ciborium_uses.specs.Envelopes.{AreAlike, IsOutside, IsWhole, entry_trees};
+ghost use Rattle.ciborium_uses.specs.Envelopes.{header_bytes, labels_tree, message_tree};
+ghost use Rattle.ciborium_uses.specs.Envelopes.{wrapped_tree};
 
+use super::error::EnvelopeError;
 use super::labels::Labels;
 use super::wrapping::{self, Wrapping};
+use super::{Envelope, read_wrapped};
 use ciborium::tag::Captured;
 use ciborium::value::ByteBuf;
 use ciborium::{ser, to_vec};
 use std::alloc::Global;
 use std::io;
+
+/// The bytes of a protected header: none where it is empty, else those of its map, the labels in
+/// their order (RFC 9052, section 3).
+///
+/// # Errors
+///
+/// Those of `to_vec`.
+pub fn header_bytes(alloc: Global, header: &Labels) -> Result<ByteBuf, ser::Error<io::Error>>
+    ensures { IfOk result (λ bytes. bytes.0.items ≡ header_bytes (entry_trees header.now)) }
+{
+    if header.is_empty() {
+        return Ok(ByteBuf(Vec::new(alloc)));
+    }
+    Ok(ByteBuf(to_vec(alloc, header)?))
+}
 
 /// Writes the message of these parts under its tags: each in its shortest spelling, and the labels
 /// of the unprotected header in their order. The bytes of the parts are written as they are given;
@@ -18,7 +39,7 @@ use std::io;
 ///
 /// # Errors
 ///
-/// Those of `to_vec`.
+/// `Memory` alone.
 pub fn write_envelope(
     alloc: Global,
     wrapping: Wrapping,
@@ -27,11 +48,44 @@ pub fn write_envelope(
     payload: &ByteBuf,
     signature: &ByteBuf,
 ) -> Result<Vec<u8>, ser::Error<io::Error>>
-    ensures { IfOk result (λ bytes. bytes.items ≡ written_bytes (item_of (wrapped_tree wrapping
-        (message_tree protected.now.0.items (labels_tree unprotected.now) payload.now.0.items
-        signature.now.0.items)))) }
+    ensures bytes { IfOk result (λ bytes. bytes.items ≡ written_bytes (item_of
+        (wrapped_tree wrapping (message_tree protected.now.0.items (labels_tree unprotected.now)
+        payload.now.0.items signature.now.0.items)))) }
+    ensures item { IfOk result (λ bytes. Spells bytes.items (item_of
+        (wrapped_tree wrapping (message_tree protected.now.0.items (labels_tree unprotected.now)
+        payload.now.0.items signature.now.0.items)))) }
+    ensures refused { IfErr result (λ e. e ≡ Memory) }
 {
     let (outer, inner) = wrapping::tags_of(wrapping);
     let message = (protected, unprotected, payload, signature);
     to_vec(alloc, &Captured(outer, Captured(inner, message)))
+}
+
+/// Writes an envelope into memory, and reads it from there: it is the one that was written, under
+/// the same tags, and reading refuses it for no more than memory.
+///
+/// # Errors
+///
+/// Those of `read_wrapped`, of which an envelope that is whole leaves `Memory` alone.
+pub fn through_memory(
+    alloc: Global,
+    wrapping: Wrapping,
+    envelope: &Envelope,
+) -> Result<(Wrapping, Envelope), EnvelopeError>
+    ensures again { IsWhole envelope.now → IfOk result
+        (λ again. (again.0 ≡ wrapping) × AreAlike again.1 envelope.now) }
+    ensures refused { IsWhole envelope.now → IfErr result IsOutside }
+{
+    let written = write_envelope(
+        alloc,
+        wrapping,
+        &envelope.protected,
+        &envelope.unprotected,
+        &envelope.payload,
+        &envelope.signature,
+    );
+    match written {
+        Ok(bytes) => read_wrapped(alloc, &bytes),
+        Err(_) => Err(EnvelopeError::Memory),
+    }
 }

@@ -1,0 +1,5 @@
+use Rattle.ciborium_uses.proofs.ReadAgain.{one-envelope}
+use Rattle.ciborium_uses.proofs.envelopes.one_envelope.Goals as goal
+
+pub returns : goal.returns
+returns c = one-envelope
