@@ -1,36 +1,42 @@
 -- An envelope that is whole is read as it was written; and no bytes are two.
-use Rattle.std.proofs.Common.{◌≡◌, ◌≤◌, refl, sym, ap, subst, ◌∙◌, arith, false, map, length, ℕ, List, [], ◌∷◌}
-use Rattle.std.proofs.Common.{Option, Some, None, Ok}
+use Rattle.std.proofs.Common.{◌≡◌, ◌≤◌, inl, refl, sym, ap, subst, ◌∙◌, arith, false, ℕ, List, [], ◌∷◌}
+use Rattle.std.proofs.Common.{Option, Some, None, Ok, option_map}
 use Rattle.std.proofs.lemmas.List.{length-map}
 use Rattle.std.proofs.lemmas.List.Elements.{All-head, All-tail}
 use Rattle.std.specs.BTreeMap.{BTreeMap}
 use Rattle.std.specs.List.{All}
-use Rattle.ciborium_ll.proofs.UniqueSpelling.{one_item}
+use Rattle.ciborium_ll.proofs.UniqueSpelling.{none_begins_another, one_item}
 use Rattle.ciborium.proofs.ReadBack.Loaded.{store-named}
 use Rattle.ciborium.proofs.ReadBack.RoundTrips.{one-content}
 use Rattle.ciborium.specs.Derived.{value_cmp}
 use Rattle.ciborium.specs.Encoding.{item_of}
 use Rattle.ciborium.specs.Folded.{folded, tree_pairs_folded}
+use Rattle.ciborium.specs.Item as item
 use Rattle.ciborium.specs.Item.{Item}
+use Rattle.ciborium.specs.Nesting.{nesting}
 use Rattle.ciborium.specs.Order.{tree_cmp}
 use Rattle.ciborium.specs.Spells.{Spells}
 use Rattle.ciborium.specs.TagReadings.{taken_with_tag}
 use Rattle.ciborium.specs.Tags.{captured_of}
 use Rattle.ciborium.specs.Taken.{Taken, outcome, outer_tag, taken_value}
+use Rattle.ciborium.specs.Tree as trees
 use Rattle.ciborium.specs.Tree.{Tree}
 use Rattle.ciborium.specs.View.{pair_trees, tree_of, tree_pairs_of}
+use Rattle.ciborium.specs.Writes.{IsWrittenAs}
 use Rattle.ciborium.specs.lemmas.ReadsBackTags.{IsToldApart, captured-back}
 use Rattle.ciborium_value.proofs.Orders.Derived.{value_cmp_total}
 use Rattle.ciborium_value.proofs.Trees.Views.{tree_pairs_count-tree_pairs_of}
+use Rattle.ciborium_value.specs.Places.{dictionary}
 use Rattle.ciborium_value.specs.ReadsBack.{by_bytes}
+use Rattle.ciborium_value.specs.Sinks.{container_of, in_turn, named_value}
 use Rattle.ciborium_value.specs.declared.tree.Value.{Value}
 use Rattle.ciborium_value.specs.lemmas.DerivedOrder.{value_cmp-is}
 use Rattle.ciborium_value.specs.lemmas.ReadsBackMaps.{map-back}
 use Rattle.ciborium_value.specs.lemmas.ReadsBackValues.{value-back}
-use Rattle.ciborium_uses.proofs.WrittenMessages.{under-named}
+use Rattle.ciborium_uses.proofs.WrittenMessages.{spelled, under-named}
 use Rattle.ciborium_uses.specs.Envelopes.{AreAlike, AreClaimBytes, AreKept, AreLabelBytes, AreLabels, IsAllOf, IsAsRead}
 use Rattle.ciborium_uses.specs.Envelopes.{IsHeader, IsMessage, IsWhole, IsWrapped, OneEnvelope, entry_trees, labels_tree}
-use Rattle.ciborium_uses.specs.Envelopes.{message_of, message_tree, tags_of, under, wrapped_tree}
+use Rattle.ciborium_uses.specs.Envelopes.{message_of, message_tree, tags_of, wrapped_tree}
 use Rattle.ciborium_uses.specs.declared.envelopes.Envelope.{Envelope}
 use Rattle.ciborium_uses.specs.declared.envelopes.wrapping.Wrapping.{Wrapping}
 use Rattle.ciborium_uses.specs.declared.envelopes.wrapping.Wrapping.TheVariants.{Bare, Signed, Token}
@@ -52,10 +58,36 @@ kept m h = (
   length-map m.entries pair_trees ∙ sym (tree_pairs_count-tree_pairs_of m.entries),
 )
 
+map-folds : (m : BTreeMap Value Value) → AreKept m → folded (labels_tree m) ≡ Some (labels_tree m)
+map-folds m h = ap (option_map trees.map) (labels-fold m.entries h.held.1)
+
+apart : (x : ℕ) → x ∷ [] ≡ [] → ⊥
+apart x e = cc
+
+no-item : (i : Item) → Spells [] i → ⊥
+no-item i h = apart 224 (none_begins_another [] (224 ∷ []) i (item.simple 0) h (inl (omega arith, refl)))
+
+header-of : (b : List ℕ) (es : List (Tree × Tree)) → AreLabelBytes b es → IsHeader b es
+header-of [] es h = absurd (no-item h.item.0 h.item.1)
+header-of (b ∷ bs) es h = h
+
+-- a header is read as it is written
+pub header-again : (b : List ℕ) (m : BTreeMap Value Value) →
+    IsWrittenAs b (container_of dictionary (in_turn named_value named_value m.entries)) → AreKept m →
+    nesting (item_of (labels_tree m)) ≤ 256 → IsHeader b (entry_trees m)
+header-again b m written h nests =
+    let i = item_of (labels_tree m) in
+    let s : Spells b i = spelled b i (subst (IsWrittenAs b) (store-named m.entries) written) in
+    header-of b (entry_trees m) record {
+      tree = labels_tree m;
+      item = (i, s, (value-back (labels_tree m) (map-folds m h)).back by_bytes i refl (Some 256) nests);
+      labels = kept m h;
+    }
+
 -- ---- written messages
 
 message-folds : (e : Envelope) → AreKept e.unprotected → folded (message_of e) ≡ Some (message_of e)
-message-folds e h = rw (labels-fold e.unprotected.entries h.held.1) refl
+message-folds e h = rw (map-folds e.unprotected h) refl
 
 told : (w : Wrapping) (i : Item) → outer_tag i ≡ (None, i) →
     IsToldApart (tags_of w).0 (captured_of (tags_of w).1 (Ok i)) × IsToldApart (tags_of w).1 (Ok i)

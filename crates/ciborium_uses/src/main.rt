@@ -18,7 +18,10 @@ fn main(rt: HostRuntime) -> io::Result<()> {
             continue;
         }
         let (module, rest) = line.as_str().split_once(' ').unwrap_or((line.as_str(), ""));
-        if matches!(module, "envelope" | "wrapped" | "again") {
+        if matches!(
+            module,
+            "envelope" | "wrapped" | "again" | "kept" | "to-be-signed"
+        ) {
             println!(rt; "{line}")?;
             envelopes::answer(alloc, module, rest, &mut rt.stdout().lock())?;
             continue;

@@ -1,11 +1,13 @@
 //! Signed messages that are written.
 
-ghost use Rattle.std.specs.Prelude.{◌≡◌, IfErr, IfOk};
+ghost use Rattle.std.specs.Prelude.{◌≡◌, ◌≤◌, IfErr, IfOk};
 ghost use Rattle.ciborium.specs.Encoding.{item_of, written_bytes};
+ghost use Rattle.ciborium.specs.Nesting.{nesting};
 ghost use Rattle.ciborium.specs.Spells.{Spells};
 ghost use Rattle.ciborium.specs.declared.ser.error.Error.TheVariants.{Memory};
-ghost use Rattle.ciborium_uses.specs.Envelopes.{AreAlike, IsOutside, IsWhole, entry_trees};
-ghost use Rattle.ciborium_uses.specs.Envelopes.{header_bytes, labels_tree, message_tree};
+ghost use Rattle.ciborium_uses.specs.Envelopes.{AreAlike, AreKept, IsHeader, IsOutside, IsWhole};
+ghost use Rattle.ciborium_uses.specs.Envelopes.{entry_trees, header_bytes, labels_tree};
+ghost use Rattle.ciborium_uses.specs.Envelopes.{message_tree};
 ghost use Rattle.ciborium_uses.specs.Envelopes.{wrapped_tree};
 
 use super::error::EnvelopeError;
@@ -19,13 +21,16 @@ use std::alloc::Global;
 use std::io;
 
 /// The bytes of a protected header: none where it is empty, else those of its map, the labels in
-/// their order (RFC 9052, section 3).
+/// their order (RFC 9052, section 3). They are read as that header.
 ///
 /// # Errors
 ///
 /// Those of `to_vec`.
 pub fn header_bytes(alloc: Global, header: &Labels) -> Result<ByteBuf, ser::Error<io::Error>>
-    ensures { IfOk result (λ bytes. bytes.0.items ≡ header_bytes (entry_trees header.now)) }
+    ensures bytes { IfOk result (λ bytes. bytes.0.items ≡ header_bytes (entry_trees header.now)) }
+    ensures again { IfOk result (λ bytes. AreKept header.now →
+        nesting (item_of (labels_tree header.now)) ≤ 256 →
+        IsHeader bytes.0.items (entry_trees header.now)) }
 {
     if header.is_empty() {
         return Ok(ByteBuf(Vec::new(alloc)));
