@@ -35,8 +35,8 @@ use Rattle.ciborium_value.specs.lemmas.ReadsBackMaps.{map-back}
 use Rattle.ciborium_value.specs.lemmas.ReadsBackValues.{value-back}
 use Rattle.ciborium_uses.proofs.WrittenMessages.{spelled, under-named}
 use Rattle.ciborium_uses.specs.Envelopes.{AreAlike, AreClaimBytes, AreKept, AreLabelBytes, AreLabels, IsAllOf, IsAsRead}
-use Rattle.ciborium_uses.specs.Envelopes.{IsHeader, IsMessage, IsWhole, IsWrapped, OneEnvelope, entry_trees, labels_tree}
-use Rattle.ciborium_uses.specs.Envelopes.{message_of, message_tree, tags_of, wrapped_tree}
+use Rattle.ciborium_uses.specs.Envelopes.{IsHeader, IsMessage, IsWhole, IsWrapped, OneEnvelope, entry_trees}
+use Rattle.ciborium_uses.specs.Envelopes.{labels_tree, message_of, message_tree, tags_of, wrapped_tree}
 use Rattle.ciborium_uses.specs.declared.envelopes.Envelope.{Envelope}
 use Rattle.ciborium_uses.specs.declared.envelopes.wrapping.Wrapping.{Wrapping}
 use Rattle.ciborium_uses.specs.declared.envelopes.wrapping.Wrapping.TheVariants.{Bare, Signed, Token}

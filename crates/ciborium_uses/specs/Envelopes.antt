@@ -258,8 +258,8 @@ pub record AreAlike (e f : Envelope) : Type 0 where
 
 -- no bytes are two envelopes, nor one under two kinds of tags
 abbrev pub OneEnvelope : Type 0
-OneEnvelope = (bs : List ℕ) (w v : Wrapping) (e f : Envelope) → IsWrapped bs w e → IsWrapped bs v f →
-    (w ≡ v) × AreAlike e f
+OneEnvelope = (bs : List ℕ) (w v : Wrapping) (e f : Envelope) → IsWrapped bs w e →
+    IsWrapped bs v f → (w ≡ v) × AreAlike e f
 
 -- ---- what a signature signs
 
