@@ -1,6 +1,7 @@
 -- The tree of a value: its parts, its levels and its notation.
 pub mod Views
 pub mod Elements
+pub mod LookedUp
 pub mod TagParts
 pub mod Stacked
 pub mod MadeOfValues

@@ -14,6 +14,7 @@ pub mod View
 pub mod Variants
 pub mod TreeVariants
 pub mod Rows
+pub mod Lookups
 pub mod LentParts
 pub mod OrderedValues
 pub mod WrittenItems

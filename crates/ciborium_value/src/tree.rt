@@ -2,6 +2,7 @@
 
 mod accessors;
 mod conversions;
+mod lookups;
 
 use ciborium_ll::Integer;
 
