@@ -53,6 +53,7 @@ pub use Rattle.ciborium_value.specs.View
 pub use Rattle.ciborium_value.specs.Variants
 pub use Rattle.ciborium_value.specs.TreeVariants
 pub use Rattle.ciborium_value.specs.Rows
+pub use Rattle.ciborium_value.specs.Lookups
 pub use Rattle.ciborium_value.specs.LentParts
 pub use Rattle.ciborium_value.specs.OrderedValues
 pub use Rattle.ciborium_value.specs.WrittenItems

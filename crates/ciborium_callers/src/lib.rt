@@ -9,6 +9,7 @@ pub mod described_types;
 pub mod framing;
 pub mod head_callers;
 pub mod key_types;
+pub mod lookups;
 pub mod messages;
 pub mod notation_callers;
 pub mod own_callers;

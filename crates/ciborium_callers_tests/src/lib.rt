@@ -23,6 +23,8 @@ mod head_tests;
 #[cfg(test)]
 mod key_tests;
 #[cfg(test)]
+mod lookup_tests;
+#[cfg(test)]
 mod macro_tests;
 #[cfg(test)]
 mod message_tests;

@@ -98,3 +98,17 @@ impl Label for i64 {
 
     ghost takes_none = { λ never. never };
 }
+
+impl SoughtLabel for Integer {
+    ghost label = { λ z. numbered z };
+
+    fn is_name(&self, _name: &str) -> bool {
+        false
+    }
+
+    #[tactic(auto, using(crate::proofs::LabelNumbers::int_eq_parts))]
+    fn is_number(&self, negative: bool, n: u128) -> bool {
+        let (is_negative, argument) = self.head();
+        negative == is_negative && n == u128::from(argument)
+    }
+}
