@@ -1,7 +1,7 @@
 -- What words ask for is one thing.
 use Rattle.std.proofs.Common.{◌≡◌, ◌≢◌, ℕ, ◌<◌, ◌≤◌, ◌-◌, ◌==◌, Bool, true, false, List, [], ◌∷◌, get_or, map, sum}
 use Rattle.std.proofs.Common.{length, take, drop, if◌then◌else◌, Option, Some, None, MatchOption, refl}
-use Rattle.std.proofs.Common.{sym, subst, ◌∙◌, ap, ap₂, arith}
+use Rattle.std.proofs.Common.{IsSome, ◌⊎◌, inl, inr, codes, sym, subst, ◌∙◌, ap, ap₂, arith}
 use Rattle.std.proofs.lemmas.List.{take_all}
 use Rattle.std.specs.Bool.{MatchBool}
 use Rattle.std.specs.Char.{digit_value}
@@ -13,7 +13,7 @@ use Rattle.cbor.specs.declared.reading.Layout.TheVariants.{OneLine, Indented}
 use Rattle.cbor.specs.declared.reading.Reading.TheVariants as readings
 use Rattle.cbor.specs.declared.reading.Showing.TheVariants as showings
 use Rattle.cbor.specs.declared.reading.Spelling.TheVariants.{Any, Deterministic}
-use Rattle.cbor.specs.Words.{AskFor, NameLimit, NameLimitBehind, command_limit, command_words}
+use Rattle.cbor.specs.Words.{AreWordsFor, AreWrong, AskFor, NameLimit, NameLimitBehind, command_limit, command_words}
 
 -- ---- words ask for one command
 
@@ -64,7 +64,7 @@ or-default (Some n) = n
 limit_of : Command → ℕ
 limit_of command = or-default (command_limit command)
 
-named : (words : List (List ℕ)) (command : Command) → AskFor words command →
+named : (words : List (List ℕ)) (command : Command) → AreWordsFor words command →
     NameLimitBehind (command_words command) words (limit_of command)
 unfolding limit_of or-default
 named words (Answer (readings.Item Any n)) asked = asked
@@ -139,6 +139,7 @@ command-of total n =
     else if total == 1872 then Show (showings.Notation Indented) n
     else if total == 1173 then Dump
     else if total == 515 then Tell Help
+    else if total == 149 then Tell Help
     else Tell Version
 
 told-apart : (command : Command) → command-of (letters (command_words command)) (limit_of command) ≡ command
@@ -161,14 +162,52 @@ told-apart Dump = refl
 told-apart (Tell Help) = refl
 told-apart (Tell Version) = refl
 
+-- words begin with these, which tell the command
+abbrev IsToldBy : List (List ℕ) → Command → Type 0
+IsToldBy words command = (flags : List (List ℕ)) × AreNames flags ×
+    NameLimitBehind flags words (limit_of command) ×
+    (command-of (letters flags) (limit_of command) ≡ command)
+
+told-help : IsToldBy (codes "-h" ∷ []) (Tell Help)
+unfolding letters command-of limit_of or-default
+told-help = (codes "-h" ∷ [], (λ h. omega (arith, h), tt), (refl, refl), refl)
+
+told-by : (words : List (List ℕ)) (command : Command) → AskFor words command → IsToldBy words command
+told-by words command (inl asked) =
+    (command_words command, are-names command, named words command asked, told-apart command)
+told-by words command (inr (short, help)) = rw (short, help) told-help
+
 -- what words ask for is one command
 pub asks-for-one : (words : List (List ℕ)) (c d : Command) → AskFor words c → AskFor words d → c ≡ d
 asks-for-one words c d p q =
-    let same = one-prefix (command_words c) (command_words d) words (limit_of c) (limit_of d) (are-names c)
-    (are-names d) (named words c p) (named words d q) in
-    sym (told-apart c) ∙ (ap₂ (λ (ws : List (List ℕ)) (n : ℕ). command-of (letters ws) n) same.0 same.1 ∙ told-apart d)
+    let (f, f-names, f-limit, f-tells) = told-by words c p in
+    let (g, g-names, g-limit, g-tells) = told-by words d q in
+    let same = one-prefix f g words (limit_of c) (limit_of d) f-names g-names f-limit g-limit in
+    sym f-tells ∙ (ap₂ (λ (ws : List (List ℕ)) (n : ℕ). command-of (letters ws) n) same.0 same.1 ∙ g-tells)
 
 -- ---- words ask for nothing
+
+-- where they ask for no command without a limit, and for none with one, they are wrong
+asks-for-none : (words : List (List ℕ)) →
+    ((command : Command) → command_limit command ≡ None → ¬ AskFor words command) →
+    ((command : Command) → IsSome (command_limit command) → ¬ AskFor words command) → AreWrong words
+asks-for-none words alone limited command asked =
+    elim (none-or-some (command_limit command)) [
+      | inl none ↦ alone command none asked
+      | inr some ↦ limited command some asked
+    ]
+  where
+    none-or-some : (n : Option ℕ) → (n ≡ None) ⊎ IsSome n
+    none-or-some None = inl refl
+    none-or-some (Some n) = inr refl
+
+pub judged : (words : List (List ℕ)) (r : Option Command) →
+    ((command : Command) → command_limit command ≡ None → ¬ AskFor words command) →
+    MatchOption r ((command : Command) → IsSome (command_limit command) → ¬ AskFor words command)
+    (λ command. AskFor words command) →
+    MatchOption r (AreWrong words) (λ command. AskFor words command)
+judged words None alone limited = asks-for-none words alone limited
+judged words (Some command) alone asked = asked
 
 -- words name no limit behind these
 abbrev pub NameNone : List (List ℕ) → List (List ℕ) → Type 0

@@ -27,7 +27,7 @@ topic_text Help =
     codes "the same in hex: cbor read --binary < file.cbor\n" ++
     codes "  cbor dump --binary                    " ++
     codes "the heads of a file's item: cbor dump --binary < file.cbor\n" ++
-    codes "  cbor --help, cbor --version           this page, and the version\n" ++
+    codes "  cbor --help, -h, cbor --version       this page, and the version\n" ++
     codes "\n" ++
     codes "--det takes deterministic encodings alone, whose keys are " ++
     codes "length-first or, with --core, bytewise.\n" ++

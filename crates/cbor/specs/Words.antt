@@ -1,5 +1,5 @@
 -- Which words the program is run with, and what they ask for.
-use Rattle.std.specs.Prelude.{◌≡◌, ℕ, ◌^◌, ◌<◌, List, [], ◌∷◌, Option, Some, None, MatchOption}
+use Rattle.std.specs.Prelude.{◌≡◌, ◌⊎◌, ℕ, ◌^◌, ◌<◌, List, [], ◌∷◌, Option, Some, None, MatchOption}
 use Rattle.std.specs.Prelude.{codes}
 use Rattle.std.specs.Str.Parse.{IsNumeral, digits_value}
 use Rattle.ciborium_value.specs.declared.key_order.KeyOrder.{KeyOrder}
@@ -74,11 +74,19 @@ command_limit (Show showing n) = Some n
 command_limit Dump = None
 command_limit (Tell topic) = None
 
--- the words ask for this: they are the words for it, and a limit behind them where it takes one
-abbrev pub AskFor : List (List ℕ) → Command → Type 0
-AskFor words command =
+-- the words are those for a command, and a limit behind them where it takes one
+abbrev pub AreWordsFor : List (List ℕ) → Command → Type 0
+AreWordsFor words command =
     MatchOption (command_limit command) (words ≡ command_words command)
     (λ n. NameLimitBehind (command_words command) words n)
+
+-- the only word is `-h`, which asks for what `--help` does
+abbrev pub AreShortFor : List (List ℕ) → Command → Type 0
+AreShortFor words command = (words ≡ codes "-h" ∷ []) × (command ≡ Tell Help)
+
+-- the words ask for this
+abbrev pub AskFor : List (List ℕ) → Command → Type 0
+AskFor words command = AreWordsFor words command ⊎ AreShortFor words command
 
 -- the words ask for nothing that the program does
 abbrev pub AreWrong : List (List ℕ) → Type 0

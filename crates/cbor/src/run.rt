@@ -58,8 +58,8 @@ cbor --help tells of the other commands
 /// until the end or the first item that is refused: for this one they write `item`, its number,
 /// counted from 1, a colon and the reason, with the offset counted inside that item.
 /// `dump --binary` takes all of the input as the bytes of one item, reads it whole, and then writes
-/// its dump, with a line feed behind the reason where it is none. `--help` lists the commands, and
-/// `--version` prints the version.
+/// its dump, with a line feed behind the reason where it is none. `--help` or `-h`, as the only
+/// word, lists the commands, and `--version` prints the version.
 ///
 /// The status is 0 where every line or item is as it is asked for, and 1 where one is not. It is 2
 /// for any other words, and for none: the usage is then written to `errors`, and input and output

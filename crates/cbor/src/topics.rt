@@ -18,7 +18,7 @@ cbor: CBOR (RFC 8949) from the standard input, as lines of hex or, with --binary
   cbor diag --binary [--indent] [limit] each item of a file: cbor diag --binary < file.cbor
   cbor read --binary [limit]            the same in hex: cbor read --binary < file.cbor
   cbor dump --binary                    the heads of a file's item: cbor dump --binary < file.cbor
-  cbor --help, cbor --version           this page, and the version
+  cbor --help, -h, cbor --version       this page, and the version
 
 --det takes deterministic encodings alone, whose keys are length-first or, with --core, bytewise.
 A bignum of more than 16 bytes is taken and written as it stands, even with zeros at its front.

@@ -46,7 +46,7 @@ fn judge_alone(words: &[String]) -> Option<Command>
     if are_words(words, &["dump", "--binary"]) {
         return Some(Command::Dump);
     }
-    if are_words(words, &["--help"]) {
+    if are_words(words, &["--help"]) || are_words(words, &["-h"]) {
         return Some(Command::Tell(Topic::Help));
     }
     if are_words(words, &["--version"]) {

@@ -499,8 +499,10 @@ fn writes_what_bytes_are(rt: HostRuntime) -> Result<(), Fail> {
 
 #[test]
 fn tells_its_commands(rt: HostRuntime) -> Result<(), Fail> {
-    let told = run_on_text(rt.alloc(), &["--help"], "00\n")?;
-    expect_end(&rt, &told, 0, HELP.as_bytes(), "", "help");
+    for word in ["--help", "-h"] {
+        let told = run_on_text(rt.alloc(), &[word], "00\n")?;
+        expect_end(&rt, &told, 0, HELP.as_bytes(), "", word);
+    }
     for words in [
         "  cbor read [--det [--core]] [limit] ",
         "  cbor canon [--core] [limit] ",
@@ -511,7 +513,7 @@ fn tells_its_commands(rt: HostRuntime) -> Result<(), Fail> {
         "  cbor diag --binary [--indent] [limit] ",
         "  cbor read --binary [limit] ",
         "  cbor dump --binary ",
-        "  cbor --help, cbor --version ",
+        "  cbor --help, -h, cbor --version ",
     ] {
         assert!(rt; HELP.contains(words), "{words}");
     }
@@ -684,6 +686,12 @@ const WRONG_WORDS: &[&[&str]] = &[
     &["--binary"],
     &["--help", "x"],
     &["--help", "1"],
+    &["-h", "1"],
+    &["-h", "-h"],
+    &["--help", "-h"],
+    &["read", "-h"],
+    &["-H"],
+    &["-h "],
     &["--version", "--help"],
     &["help"],
     &[""],

@@ -31,3 +31,6 @@ returns-in-Some-clause-told g c topic w asked e zero =
     let same = asks-for-one (map string_bytes c.args.words.now) c.in-Some.command (Tell topic) c.in-Some.ensures asked
     in
     rw (c.conclude.ensures.all.0 zero) at c.perform-done.ensures.told topic w same e
+
+pub returns-in-None-clause-right : goal.returns-in-None-clause-right
+returns-in-None-clause-right g c command asked = absurd (c.in-None.ensures command asked)
