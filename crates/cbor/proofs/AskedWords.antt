@@ -11,6 +11,7 @@ use Rattle.cbor.specs.declared.command.Command.TheVariants.{Answer, Sort, Show, 
 use Rattle.cbor.specs.declared.command.Topic.TheVariants.{Help, Version}
 use Rattle.cbor.specs.declared.reading.Layout.TheVariants.{OneLine, Indented}
 use Rattle.cbor.specs.declared.reading.Reading.TheVariants as readings
+use Rattle.cbor.specs.declared.reading.Showing.{Showing}
 use Rattle.cbor.specs.declared.reading.Showing.TheVariants as showings
 use Rattle.cbor.specs.declared.reading.Spelling.TheVariants.{Any, Deterministic}
 use Rattle.cbor.specs.Words.{AreWordsFor, AreWrong, AskFor, NameLimit, NameLimitBehind, command_limit, command_words}
@@ -87,6 +88,8 @@ named words (Sort Bytewise) asked = subst (λ (ws : List (List ℕ)). NameLimitB
 named words (Show showings.Encoding n) asked = asked
 named words (Show (showings.Notation OneLine) n) asked = asked
 named words (Show (showings.Notation Indented) n) asked = asked
+named words (Show (showings.Form LengthFirst) n) asked = asked
+named words (Show (showings.Form Bytewise) n) asked = asked
 named words Dump asked = subst (λ (ws : List (List ℕ)). NameLimitBehind (command_words Dump) ws 256) (sym asked)
     (no-others (command_words Dump))
 named words (Tell Help) asked = subst (λ (ws : List (List ℕ)). NameLimitBehind (command_words (Tell Help)) ws 256)
@@ -110,6 +113,11 @@ are-names (Sort Bytewise) = (λ h. omega (arith, h), (λ h. omega (arith, h), tt
 are-names (Show showings.Encoding n) = (λ h. omega (arith, h), (λ h. omega (arith, h), tt))
 are-names (Show (showings.Notation OneLine) n) = (λ h. omega (arith, h), (λ h. omega (arith, h), tt))
 are-names (Show (showings.Notation Indented) n) = (
+  λ h. omega (arith, h),
+  (λ h. omega (arith, h), (λ h. omega (arith, h), tt)),
+)
+are-names (Show (showings.Form LengthFirst) n) = (λ h. omega (arith, h), (λ h. omega (arith, h), tt))
+are-names (Show (showings.Form Bytewise) n) = (
   λ h. omega (arith, h),
   (λ h. omega (arith, h), (λ h. omega (arith, h), tt)),
 )
@@ -137,6 +145,8 @@ command-of total n =
     else if total == 1147 then Show showings.Encoding n
     else if total == 1140 then Show (showings.Notation OneLine) n
     else if total == 1872 then Show (showings.Notation Indented) n
+    else if total == 1262 then Show (showings.Form LengthFirst) n
+    else if total == 1777 then Show (showings.Form Bytewise) n
     else if total == 1173 then Dump
     else if total == 515 then Tell Help
     else if total == 149 then Tell Help
@@ -158,6 +168,8 @@ told-apart (Sort Bytewise) = refl
 told-apart (Show showings.Encoding n) = refl
 told-apart (Show (showings.Notation OneLine) n) = refl
 told-apart (Show (showings.Notation Indented) n) = refl
+told-apart (Show (showings.Form LengthFirst) n) = refl
+told-apart (Show (showings.Form Bytewise) n) = refl
 told-apart Dump = refl
 told-apart (Tell Help) = refl
 told-apart (Tell Version) = refl
@@ -212,6 +224,20 @@ judged words (Some command) alone asked = asked
 -- words name no limit behind these
 abbrev pub NameNone : List (List ℕ) → List (List ℕ) → Type 0
 NameNone flags words = (n : ℕ) → ¬ NameLimitBehind flags words n
+
+-- where they name none behind the words of each showing, they ask to show nothing
+pub shows-none : (words : List (List ℕ)) → NameNone (command_words (Show showings.Encoding 0)) words →
+    NameNone (command_words (Show (showings.Notation OneLine) 0)) words →
+    NameNone (command_words (Show (showings.Notation Indented) 0)) words →
+    NameNone (command_words (Show (showings.Form LengthFirst) 0)) words →
+    NameNone (command_words (Show (showings.Form Bytewise) 0)) words →
+    (showing : Showing) (limit : ℕ) → AskFor words (Show showing limit) → ⊥
+shows-none words a b c d e showings.Encoding n (inl asked) = a n asked
+shows-none words a b c d e (showings.Notation OneLine) n (inl asked) = b n asked
+shows-none words a b c d e (showings.Notation Indented) n (inl asked) = c n asked
+shows-none words a b c d e (showings.Form LengthFirst) n (inl asked) = d n asked
+shows-none words a b c d e (showings.Form Bytewise) n (inl asked) = e n asked
+shows-none words a b c d e showing n (inr (short, help)) = cc
 
 -- ---- words are compared one by one
 

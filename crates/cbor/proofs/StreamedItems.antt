@@ -1,19 +1,25 @@
 -- Items of a stream are read and shown one by one.
 use Rattle.std.proofs.Common.{◌≡◌, ℕ, ◌<◌, ◌+◌, Bool, true, false, List, [], ◌∷◌, ◌++◌, length, flat_map, length-append}
-use Rattle.std.proofs.Common.{arith, Option, Some, None, Result, Ok, Err, IfOk, OnOk, IsTrue, refl, ap, subst, ◌∙◌}
-use Rattle.std.proofs.lemmas.List.{flat_map_more}
+use Rattle.std.proofs.Common.{arith, Option, Some, None, Result, Ok, Err, IfOk, OnOk, IsTrue, map, inl, inr, refl, ap}
+use Rattle.std.proofs.Common.{ap₂, append-nil, sym, subst, ◌∙◌}
+use Rattle.std.proofs.lemmas.List.{flat_map_more, map-append}
 use Rattle.std.specs.Bool.{MatchBool}
 use Rattle.std.specs.Io.KnownBytes.{Consumes}
+use Rattle.ciborium_value.specs.Taken.{Outcome, gives, refuses}
 use Rattle.ciborium_value.specs.Tree.{Tree}
 use Rattle.ciborium_value.specs.View.{tree_of}
+use Rattle.ciborium_value.specs.declared.kind.Kind.{Kind}
 use Rattle.ciborium_value.specs.declared.tree.Value.{Value}
 use Rattle.cbor.specs.declared.answer.Refusal.{Refusal}
 use Rattle.cbor.specs.declared.reading.Showing.{Showing}
 use Rattle.cbor.specs.declared.reading.Spelling.TheVariants.{Any}
 use Rattle.cbor.specs.Answer.{IsFrontRefused, refused_text, wants_memory}
+use Rattle.cbor.specs.Forms.{formless_text}
+use Rattle.cbor.specs.Line.{refusal_text}
 use Rattle.cbor.specs.Lines.{text_line}
 use Rattle.cbor.specs.Sequence.{AreItemsBefore, refused_item_text}
-use Rattle.cbor.specs.Streams.{AreShownBehind, IsReadNext, IsStreamShown, refused, shown_line, whole}
+use Rattle.cbor.specs.Shown.{shown_tree}
+use Rattle.cbor.specs.Streams.{AreShownBehind, AreShownOf, IsReadNext, IsStreamShown, refused, shown_line, whole}
 use Rattle.cbor.proofs.ItemsInRow.{one-more-before}
 use Rattle.cbor.proofs.JudgedAnswers.{front-refusal}
 
@@ -53,8 +59,23 @@ refused-shown w n e text after (Err x) same h = tt
 -- of b this is left: the items before it are shown behind w, and the next has this number
 abbrev pub AreShownSoFar : Showing → List ℕ → ℕ → List ℕ → Option (List ℕ) → Option (List ℕ) → ℕ → Type 0
 AreShownSoFar showing b limit w left held number =
-    (trees : List Tree) × (rest : List ℕ) × (left ≡ Some rest) × AreItemsBefore b limit trees rest ×
-    AreShownBehind showing w trees held × (number ≡ length trees + 1)
+    (trees : List Tree) × (shown : List Tree) × (rest : List ℕ) × (left ≡ Some rest) ×
+    AreItemsBefore b limit trees rest × AreShownOf showing trees shown × AreShownBehind showing w shown held ×
+    (number ≡ length trees + 1)
+
+-- one more is shown of one more item
+shown-of-more : (showing : Showing) (trees shown : List Tree) (v u : Tree) → AreShownOf showing trees shown →
+    shown_tree showing v ≡ gives u → AreShownOf showing (trees ++ (v ∷ [])) (shown ++ (u ∷ []))
+shown-of-more showing trees shown v u of form =
+    map-append (shown_tree showing) trees (v ∷ []) ∙
+    (ap₂ (λ (xs : List (Outcome Tree)) (x : Outcome Tree). xs ++ (x ∷ [])) of form ∙
+    sym (map-append (λ (t : Tree). gives t) shown (u ∷ [])))
+
+-- at first nothing is shown
+pub none-shown : (showing : Showing) (b : List ℕ) (limit : ℕ) (w : List ℕ) (left held : Option (List ℕ)) →
+    left ≡ Some b → held ≡ Some w → AreShownSoFar showing b limit w left held 1
+none-shown showing b limit w left held e f =
+    ([], [], b, e, refl, refl, f ∙ ap Some (sym (append-nil w)), refl)
 
 abbrev pub IsKept : Option (List ℕ) → Option (List ℕ) → Type 0
 IsKept left kept = (xs : List ℕ) → left ≡ Some xs → kept ≡ Some xs
@@ -67,28 +88,33 @@ module _ (showing : Showing) (b : List ℕ) (limit : ℕ) (w : List ℕ) (left h
   -- what is shown stays so where what waits is sent
   pub shown-still : (now : Option (List ℕ)) → AreShownSoFar showing b limit w left held number → IsKept held now →
       AreShownSoFar showing b limit w left now number
-  shown-still now (trees, rest, e, a, same, count) keeps = (trees, rest, e, a, keeps (behind trees) same, count)
+  shown-still now (trees, shown, rest, e, a, of, same, count) keeps =
+      (trees, shown, rest, e, a, of, keeps (behind shown) same, count)
 
   -- the input ends
   pub all-shown : AreShownSoFar showing b limit w left held number → ((xs : List ℕ) → left ≡ Some xs → xs ≡ []) →
       IsStreamShown showing b limit w true held
-  all-shown (trees, rest, e, a, same, count) ends =
-      whole trees held (subst (λ (r : List ℕ). AreItemsBefore b limit trees r) (ends rest e) a) same
+  all-shown (trees, shown, rest, e, a, of, same, count) ends =
+      whole trees shown held (subst (λ (r : List ℕ). AreItemsBefore b limit trees r) (ends rest e) a) of same
 
   module _ (now : Option (List ℕ)) where
     -- one more item is read and shown
-    pub one-more-shown : (next : Option (List ℕ)) (v : Value) → AreShownSoFar showing b limit w left held number →
+    pub one-more-shown : (next : Option (List ℕ)) (v : Value) (u : Tree) →
+        AreShownSoFar showing b limit w left held number →
         ((xs : List ℕ) → left ≡ Some xs → IsReadNext xs limit next (Ok v)) →
-        ((ys : List ℕ) → held ≡ Some ys → now ≡ Some (ys ++ shown_line showing (tree_of v))) →
+        shown_tree showing (tree_of v) ≡ gives u →
+        ((ys : List ℕ) → held ≡ Some ys → now ≡ Some (ys ++ shown_line showing u)) →
         AreShownSoFar showing b limit w next now (number + 1)
-    one-more-shown next v (trees, rest, e, a, same, count) read shown =
+    one-more-shown next v u (trees, shown, rest, e, a, of, same, count) read form written =
         let item = read rest e in
         let more : length (trees ++ (tree_of v ∷ [])) ≡ length trees + 1 = length-append trees (tree_of v ∷ []) in (
           trees ++ (tree_of v ∷ []),
+          shown ++ (u ∷ []),
           item.0,
           item.2,
           one-more-before limit trees b rest item.0 (tree_of v) a item.1,
-          shown (behind trees) same ∙ ap Some (flat_map_more (shown_line showing) w trees (tree_of v)),
+          shown-of-more showing trees shown (tree_of v) u of form,
+          written (behind shown) same ∙ ap Some (flat_map_more (shown_line showing) w shown u),
           omega (arith, more, count),
         )
 
@@ -96,19 +122,33 @@ module _ (showing : Showing) (b : List ℕ) (limit : ℕ) (w : List ℕ) (left h
     pub first-refused : (e : Refusal) → AreShownSoFar showing b limit w left held number →
         ((xs : List ℕ) → left ≡ Some xs → (0 < length xs) × IsFrontRefused Any xs limit e) →
         ((ys : List ℕ) → held ≡ Some ys → IsRefusalBehind ys number e now) → IsStreamShown showing b limit w false now
-    first-refused e (trees, rest, is, a, same, count) read shown =
+    first-refused e (trees, shown, rest, is, a, of, same, count) read written =
         let (some, why) = read rest is in
-        let line = shown (behind trees) same in
+        let line = written (behind shown) same in
         let f = front-refusal rest limit e line.0 why in
-        let text = λ (n : ℕ) (t : List ℕ). Some (behind trees ++ text_line (refused_item_text n t)) in
-        refused trees rest f.0 now a some f.1
+        let text = λ (n : ℕ) (t : List ℕ). Some (behind shown ++ text_line (refused_item_text n t)) in
+        refused trees shown rest (refusal_text f.0) now a of some (inl (f.0, f.1, refl))
         (line.1 ∙ ap (λ (n : ℕ). text n (refused_text e)) count ∙ ap (text (length trees + 1)) f.2)
+
+    -- the next item has no form, and the line says so
+    pub first-formless : (next : Option (List ℕ)) (v : Value) (k : Kind) →
+        AreShownSoFar showing b limit w left held number →
+        ((xs : List ℕ) → left ≡ Some xs → (0 < length xs) × IsReadNext xs limit next (Ok v)) →
+        shown_tree showing (tree_of v) ≡ refuses k →
+        ((ys : List ℕ) → held ≡ Some ys →
+        now ≡ Some (ys ++ text_line (refused_item_text number (formless_text k)))) →
+        IsStreamShown showing b limit w false now
+    first-formless next v k (trees, shown, rest, is, a, of, same, count) read form written =
+        let (some, item) = read rest is in
+        let text = λ (n : ℕ). Some (behind shown ++ text_line (refused_item_text n (formless_text k))) in
+        refused trees shown rest (formless_text k) now a of some
+        (inr (tree_of v, item.0, k, item.1, form, refl)) (written (behind shown) same ∙ ap text count)
 
 -- what is shown stays so where what waits is sent at the end
 pub shown-sent : (showing : Showing) (b : List ℕ) (limit : ℕ) (w : List ℕ) (held now : Option (List ℕ)) →
     IsKept held now → (all : Bool) → IsStreamShown showing b limit w all held →
     IsStreamShown showing b limit w all now
-shown-sent showing b limit w held now keeps all (whole trees was a same) =
-    whole trees now a (keeps (w ++ flat_map (shown_line showing) trees) same)
-shown-sent showing b limit w held now keeps all (refused trees rest e was a some f line) =
-    refused trees rest e now a some f (keeps _ line)
+shown-sent showing b limit w held now keeps all (whole trees shown was a of same) =
+    whole trees shown now a of (keeps (w ++ flat_map (shown_line showing) shown) same)
+shown-sent showing b limit w held now keeps all (refused trees shown rest reason was a of some f line) =
+    refused trees shown rest reason now a of some f (keeps _ line)

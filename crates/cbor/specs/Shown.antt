@@ -1,13 +1,15 @@
 -- How items are shown. Texts are lists of bytes.
 use Rattle.std.specs.Prelude.{◌≡◌, ◌⊎◌, ℕ, List}
 use Rattle.hex.specs.Hex.{encode_lower}
+use Rattle.ciborium_value.specs.DeterministicForms.{deterministic_form}
 use Rattle.ciborium_value.specs.Encoding.{encoding}
 use Rattle.ciborium_value.specs.Notation.{indented_notation, notation}
+use Rattle.ciborium_value.specs.Taken.{Outcome, gives}
 use Rattle.ciborium_value.specs.Tree.{Tree}
 use Rattle.cbor.specs.declared.reading.Layout.{Layout}
 use Rattle.cbor.specs.declared.reading.Layout.TheVariants.{OneLine, Indented}
 use Rattle.cbor.specs.declared.reading.Showing.{Showing}
-use Rattle.cbor.specs.declared.reading.Showing.TheVariants.{Encoding, Notation}
+use Rattle.cbor.specs.declared.reading.Showing.TheVariants.{Encoding, Form, Notation}
 use Rattle.cbor.specs.declared.reading.Spelling.TheVariants.{Any}
 use Rattle.cbor.specs.Answer.{IsMeant, TellsRefusal}
 
@@ -16,10 +18,18 @@ abbrev pub notation_text : Layout → Tree → List ℕ
 notation_text OneLine v = notation v
 notation_text Indented v = indented_notation v
 
+-- the tree that is shown of an item which means v: its deterministic form, where that is wanted and
+-- there is one (RFC 8949, section 4.2), and else v
+abbrev pub shown_tree : Showing → Tree → Outcome Tree
+shown_tree Encoding v = gives v
+shown_tree (Notation layout) v = gives v
+shown_tree (Form order) v = deterministic_form order v
+
 -- a tree as it is shown: its encoding in lower-case hex (RFC 8949, section 4.1), or its notation
 abbrev pub shown_text : Showing → Tree → List ℕ
 shown_text Encoding v = encode_lower (encoding v)
 shown_text (Notation layout) v = notation_text layout v
+shown_text (Form order) v = encode_lower (encoding v)
 
 -- a line is an item in any spelling, within so many levels, and the text is its notation
 abbrev pub IsNotationText : Layout → List ℕ → ℕ → List ℕ → Type 0

@@ -1,45 +1,60 @@
 -- What is written for an input as bytes, not in hex: a sequence of items (RFC 8742), or one item,
 -- which is dumped.
-use Rattle.std.specs.Prelude.{◌≡◌, ℕ, ◌+◌, ◌<◌, Bool, true, false, List, [], ◌++◌, length, Option}
-use Rattle.std.specs.Prelude.{Some, Result, MatchResult}
+use Rattle.std.specs.Prelude.{◌≡◌, ◌⊎◌, ℕ, ◌+◌, ◌<◌, Bool, true, false, List, [], ◌++◌, length, map}
+use Rattle.std.specs.Prelude.{Option, Some, Result, MatchResult}
 use Rattle.std.specs.List.{flat_map}
 use Rattle.ciborium_ll.specs.Refusal.{Refusal}
+use Rattle.ciborium_value.specs.Taken.{gives, refuses}
 use Rattle.ciborium_value.specs.Tree.{Tree}
 use Rattle.ciborium_value.specs.View.{tree_of}
+use Rattle.ciborium_value.specs.declared.kind.Kind.{Kind}
 use Rattle.ciborium_value.specs.declared.tree.Value.{Value}
 use Rattle.cbor.specs.declared.answer.Refusal.{Refusal as Reason}
 use Rattle.cbor.specs.declared.reading.Showing.{Showing}
 use Rattle.cbor.specs.declared.reading.Spelling.TheVariants.{Any}
 use Rattle.cbor.specs.Answer.{IsFrontRefused}
 use Rattle.cbor.specs.Dumped.{IsDumpOf}
+use Rattle.cbor.specs.Forms.{formless_text}
 use Rattle.cbor.specs.Line.{refusal_text}
 use Rattle.cbor.specs.Lines.{text_line}
 use Rattle.cbor.specs.Sequence.{AreItemsBefore, refused_item_text}
-use Rattle.cbor.specs.Shown.{shown_text}
+use Rattle.cbor.specs.Shown.{shown_text, shown_tree}
 use Rattle.cbor.specs.Spellings.{HasItemBefore, RefusesItem}
 
 -- a tree as it is shown, and a line feed
 abbrev pub shown_line : Showing → Tree → List ℕ
 shown_line showing v = text_line (shown_text showing v)
 
--- items are shown behind w, and nothing else is written
+-- of items that mean these trees the others are shown, one of each and in order
+abbrev pub AreShownOf : Showing → List Tree → List Tree → Type 0
+AreShownOf showing trees shown = map (shown_tree showing) trees ≡ map gives shown
+
+-- trees are shown behind w, and nothing else is written
 abbrev pub AreShownBehind : Showing → List ℕ → List Tree → Option (List ℕ) → Type 0
 AreShownBehind showing w trees after = after ≡ Some (w ++ flat_map (shown_line showing) trees)
 
+-- b begins with no item within so many levels, and this is the reason, with an offset that is
+-- counted from the first byte; or with one that has no form
+abbrev pub TellsNoItem : Showing → List ℕ → ℕ → List ℕ → Type 0
+TellsNoItem showing b limit reason =
+    ((e : Refusal) × RefusesItem Any b limit e × (reason ≡ refusal_text e)) ⊎
+    ((v : Tree) × (left : List ℕ) × (k : Kind) × HasItemBefore Any b limit v left ×
+    (shown_tree showing v ≡ refuses k) × (reason ≡ formless_text k))
+
 -- the items of b are shown behind w, each within so many levels: of all of b, which is a sequence,
--- or of those before the first that is
--- refused, and then comes the line that says its number, counted from 1, and why, with an offset
--- that is counted from its own first byte
+-- or of those before the first that is refused or has no form, and then comes the line that says
+-- its number, counted from 1, and why
 pub data IsStreamShown (showing : Showing) (b : List ℕ) (limit : ℕ) (w : List ℕ) : Bool →
     Option (List ℕ) → Type 0 where
-  whole : (trees : List Tree) (after : Option (List ℕ)) → AreItemsBefore b limit trees [] →
-      AreShownBehind showing w trees after →
+  whole : (trees shown : List Tree) (after : Option (List ℕ)) →
+      AreItemsBefore b limit trees [] → AreShownOf showing trees shown →
+      AreShownBehind showing w shown after →
       IsStreamShown showing b limit w true after
-  refused : (trees : List Tree) (rest : List ℕ) (e : Refusal) (after : Option (List ℕ)) →
-      AreItemsBefore b limit trees rest → 0 < length rest →
-      RefusesItem Any rest limit e →
-      after ≡ Some ((w ++ flat_map (shown_line showing) trees) ++ text_line
-      (refused_item_text (length trees + 1) (refusal_text e))) →
+  refused : (trees shown : List Tree) (rest reason : List ℕ) (after : Option (List ℕ)) →
+      AreItemsBefore b limit trees rest → AreShownOf showing trees shown → 0 < length rest →
+      TellsNoItem showing rest limit reason →
+      after ≡ Some ((w ++ flat_map (shown_line showing) shown) ++ text_line
+      (refused_item_text (length trees + 1) reason)) →
       IsStreamShown showing b limit w false after
 
 -- of the bytes b the item at the front was read, within so many levels, and is the value, or is

@@ -25,6 +25,8 @@ topic_text Help =
     codes "each item of a file: cbor diag --binary < file.cbor\n" ++
     codes "  cbor read --binary [limit]            " ++
     codes "the same in hex: cbor read --binary < file.cbor\n" ++
+    codes "  cbor canon --binary [--core] [limit]  " ++
+    codes "in deterministic hex: cbor canon --binary < file.cbor\n" ++
     codes "  cbor dump --binary                    " ++
     codes "the heads of a file's item: cbor dump --binary < file.cbor\n" ++
     codes "  cbor --help, -h, cbor --version       this page, and the version\n" ++

@@ -58,6 +58,8 @@ command_words (Sort order) = codes "sort" ∷ order_flags order
 command_words (Show showings.Encoding n) = codes "read" ∷ (codes "--binary" ∷ [])
 command_words (Show (showings.Notation layout) n) =
     codes "diag" ∷ (codes "--binary" ∷ layout_flags layout)
+command_words (Show (showings.Form order) n) =
+    codes "canon" ∷ (codes "--binary" ∷ order_flags order)
 command_words Dump = codes "dump" ∷ (codes "--binary" ∷ [])
 command_words (Tell Help) = codes "--help" ∷ []
 command_words (Tell Version) = codes "--version" ∷ []

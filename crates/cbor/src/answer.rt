@@ -1,10 +1,13 @@
 //! Why a line is no item, and its text.
 
-ghost use Rattle.std.specs.Prelude.{◌≡◌, Some};
+ghost use Rattle.std.specs.Prelude.{◌≡◌, ◌⊎◌, Some};
+ghost use Rattle.ciborium_value.specs.declared.kind.Kind.TheVariants.{DuplicateKey, TooLarge};
 ghost use Rattle.cbor.specs.Answer.{kind_of_reason, refused_text, wants_memory};
+ghost use Rattle.cbor.specs.Forms.{formless_text};
 ghost use Rattle.cbor.specs.Line.{kind_text};
 ghost use Rattle.cbor.specs.declared.answer.Refusal.TheVariants.{Memory};
 
+use ciborium_value::Kind;
 use std::alloc::AllocError;
 use std::fmt;
 
@@ -98,5 +101,17 @@ impl fmt::Display for Reason {
             Reason::NotFolded => f.write_str("notfolded"),
             Reason::KeyOrder => f.write_str("keyorder"),
         }
+    }
+}
+
+/// Why a value has no deterministic form, in a word.
+pub fn name_want(kind: Kind) -> &'static [u8]
+    requires { (kind ≡ DuplicateKey) ⊎ (kind ≡ TooLarge) }
+    ensures { result.now ≡ formless_text kind }
+{
+    match kind {
+        Kind::DuplicateKey => b"duplicate",
+        Kind::TooLarge => b"toolarge",
+        _ => unreachable!(),
     }
 }

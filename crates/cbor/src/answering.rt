@@ -1,14 +1,12 @@
 //! Lines that are answered, one by one.
 
-ghost use Rattle.std.specs.Prelude.{◌≡◌, ◌⊎◌, ◌++◌, ℕ, IfNone, IfOk, IfSome, List, OnOk, Some};
+ghost use Rattle.std.specs.Prelude.{◌≡◌, ◌++◌, ℕ, IfNone, IfOk, IfSome, List, OnOk, Some};
 ghost use Rattle.std.specs.Prelude.{false, string_bytes};
 ghost use Rattle.std.specs.Io.Buffered.{reader_remaining};
 ghost use Rattle.std.specs.Io.KnownBytes.{append_known};
 ghost use Rattle.ciborium_value.specs.View.{tree_of};
 ghost use Rattle.ciborium_value.specs.declared.key_order.KeyOrder.TheVariants.{LengthFirst};
-ghost use Rattle.ciborium_value.specs.declared.kind.Kind.TheVariants.{DuplicateKey, TooLarge};
 ghost use Rattle.cbor.specs.Answer.{IsMeant, TellsRefusal, refused_text, wants_memory};
-ghost use Rattle.cbor.specs.Forms.{formless_text};
 ghost use Rattle.cbor.specs.Line.{IsLineAnswer, tree_text};
 ghost use Rattle.cbor.specs.Lines.{AnswersLine, AreAnswered, MayBeAnswer, text_line};
 ghost use Rattle.cbor.specs.Sequence.{IsSequenceAnswer};
@@ -16,7 +14,7 @@ ghost use Rattle.cbor.specs.declared.reading.Reading.TheVariants.{Dump, Form, It
 ghost use Rattle.cbor.specs.declared.reading.Reading.TheVariants.{Sequence};
 ghost use Rattle.cbor.specs.declared.reading.Spelling.TheVariants.{Any, Deterministic};
 
-use crate::answer::Refusal;
+use crate::answer::{Refusal, name_want};
 use crate::digits::decode_line;
 use crate::dumping::write_dump;
 use crate::fault::Fault;
@@ -26,7 +24,7 @@ use crate::reading::{Layout, Reading, Spelling};
 use crate::rooms::Rooms;
 use crate::sequences::answer_items;
 use crate::showing::push_notation;
-use ciborium_value::{KeyOrder, Kind, Value};
+use ciborium_value::{KeyOrder, Value};
 use std::alloc::{AllocError, Global};
 use std::io::{BufReader, Read, Write};
 
@@ -171,18 +169,6 @@ fn answer_diag(
     rooms.text.clear();
     push_notation(&value, layout, &mut rooms.text)?;
     Ok(true)
-}
-
-// Why a value has no deterministic form, in a word.
-fn name_want(kind: Kind) -> &'static [u8]
-    requires { (kind ≡ DuplicateKey) ⊎ (kind ≡ TooLarge) }
-    ensures { result.now ≡ formless_text kind }
-{
-    match kind {
-        Kind::DuplicateKey => b"duplicate",
-        Kind::TooLarge => b"toolarge",
-        _ => unreachable!(),
-    }
 }
 
 // Makes `rooms.text` the answer to a line that is read as one item, and says whether it is one.

@@ -25,6 +25,9 @@ pub enum Showing {
     Encoding,
     /// By its diagnostic notation (RFC 8949, section 8).
     Notation(Layout),
+    /// By its deterministic encoding, in lower-case hex, with the keys of its maps in this order
+    /// (RFC 8949, section 4.2).
+    Form(KeyOrder),
 }
 
 /// How diagnostic notation is laid out (RFC 8949, section 8).

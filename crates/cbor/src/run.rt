@@ -50,13 +50,16 @@ cbor --help tells of the other commands
 /// of what is no item stands why. `sort` reads all lines within 256 levels, and then writes the
 /// encodings of their items in lower-case hex, a line each, in the canonical order. At the first
 /// line that is no item it only writes `line`, the number of that line, counted from 1, a colon and
-/// the answer to it. `--core`, right after `--det`, `canon` or `sort`, takes the order of the core
-/// deterministic encoding in place of the canonical one (section 4.2.1: bytewise).
+/// the answer to it. `--core`, right after `--det`, `canon`, `canon --binary` or `sort`, takes the
+/// order of the core deterministic encoding in place of the canonical one (section 4.2.1:
+/// bytewise).
 ///
-/// `diag --binary` and `read --binary`, and a limit after them, take the input as the items of a
-/// sequence in bytes. They show each as soon as it is read, by its notation or its encoding in hex,
-/// until the end or the first item that is refused: for this one they write `item`, its number,
-/// counted from 1, a colon and the reason, with the offset counted inside that item.
+/// `diag --binary`, `read --binary` and `canon --binary`, and a limit after them, take the input as
+/// the items of a sequence in bytes. They show each as soon as it is read, by its notation, its
+/// encoding in hex or its deterministic encoding in hex, until the end or the first item that is
+/// refused, or that has no deterministic encoding where that is shown: for this one they write
+/// `item`, its number, counted from 1, a colon and the reason, with the offset counted inside that
+/// item.
 /// `dump --binary` takes all of the input as the bytes of one item, reads it whole, and then writes
 /// its dump, with a line feed behind the reason where it is none. `--help` or `-h`, as the only
 /// word, lists the commands, and `--version` prints the version.

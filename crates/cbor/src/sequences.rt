@@ -1,16 +1,18 @@
 //! Lines that are sequences: items one after the other, with nothing between them (RFC 8742).
 
-ghost use Rattle.std.specs.Prelude.{◌≡◌, ◌++◌, IfOk, OnOk, false};
+ghost use Rattle.std.specs.Prelude.{◌≡◌, ◌⊎◌, ◌++◌, IfOk, OnOk, false};
 ghost use Rattle.std.specs.Bool.{MatchBool};
 ghost use Rattle.ciborium_value.specs.View.{tree_of};
+ghost use Rattle.ciborium_value.specs.declared.kind.Kind.TheVariants.{DuplicateKey, TooLarge};
 ghost use Rattle.cbor.specs.Answer.{refused_text, wants_memory};
+ghost use Rattle.cbor.specs.Forms.{formless_text};
 ghost use Rattle.cbor.specs.Sequence.{AreNoSequence, AreSequence, item_text, refused_item_text};
 
-use crate::answer::Refusal;
+use crate::answer::{Refusal, name_want};
 use crate::items::{push_encoding, read_front};
 use crate::reading::Spelling;
 use ciborium::de::RECURSION_LIMIT;
-use ciborium_value::Value;
+use ciborium_value::{Kind, Value};
 use std::alloc::{AllocError, Global};
 use std::io::Write;
 
@@ -78,4 +80,21 @@ pub fn write_refused_item(
         return Err(AllocError);
     }
     Ok(())
+}
+
+/// Makes `text` the answer to a sequence whose item of this number, counted from 1, has no
+/// deterministic form.
+///
+/// # Errors
+///
+/// `AllocError` where an allocation fails.
+pub fn write_formless_item(number: u64, kind: Kind, text: &mut Vec<u8>) -> Result<(), AllocError>
+    requires { (kind ≡ DuplicateKey) ⊎ (kind ≡ TooLarge) }
+    ensures { OnOk result (text.new.items ≡ refused_item_text number (formless_text kind)) }
+{
+    text.clear();
+    if write!(text, "item {number}: ").is_err() {
+        return Err(AllocError);
+    }
+    text.extend_from_slice(name_want(kind))
 }

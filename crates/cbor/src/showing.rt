@@ -1,14 +1,35 @@
 //! How values are shown.
 
-ghost use Rattle.std.specs.Prelude.{◌≡◌, ◌++◌, OnOk};
+ghost use Rattle.std.specs.Prelude.{◌≡◌, ◌⊎◌, ◌++◌, IfErr, IfOk, OnOk};
+ghost use Rattle.ciborium_value.specs.Taken.{gives, refuses};
 ghost use Rattle.ciborium_value.specs.View.{tree_of};
-ghost use Rattle.cbor.specs.Shown.{notation_text, shown_text};
+ghost use Rattle.ciborium_value.specs.declared.kind.Kind.TheVariants.{DuplicateKey, TooLarge};
+ghost use Rattle.cbor.specs.Shown.{notation_text, shown_text, shown_tree};
 
 use crate::items::push_encoding;
 use crate::reading::{Layout, Showing};
-use ciborium_value::Value;
+use ciborium_value::{Kind, Value};
 use std::alloc::AllocError;
 use std::io::Write;
+
+/// Makes a value the one by which it is shown: its deterministic form, where that is wanted, and
+/// else itself.
+///
+/// # Errors
+///
+/// `DuplicateKey` or `TooLarge`, where it has no such form.
+pub fn make_shown(value: &mut Value, showing: Showing) -> Result<(), Kind>
+    ensures form { IfOk result (λ _.
+        shown_tree showing (tree_of value.old) ≡ gives (tree_of value.new)) }
+    ensures formless { IfErr result (λ kind.
+        shown_tree showing (tree_of value.old) ≡ refuses kind) }
+    ensures kinds { IfErr result (λ kind. (kind ≡ DuplicateKey) ⊎ (kind ≡ TooLarge)) }
+{
+    match showing {
+        Showing::Encoding | Showing::Notation(_) => Ok(()),
+        Showing::Form(order) => value.make_deterministic(order),
+    }
+}
 
 /// Appends a value to a text in the way in which it is shown. `room` is a buffer for its encoding,
 /// to be used again.
@@ -26,7 +47,7 @@ pub fn push_shown(
         (text.new.items ≡ text.old.items ++ shown_text showing (tree_of value.now)) }
 {
     match showing {
-        Showing::Encoding => push_encoding(value, room, text),
+        Showing::Encoding | Showing::Form(_) => push_encoding(value, room, text),
         Showing::Notation(layout) => push_notation(value, layout, text),
     }
 }

@@ -6,7 +6,9 @@ ghost use Rattle.std.specs.Bool.{MatchBool};
 ghost use Rattle.std.specs.Io.Buffered.{reader_buffer, reader_remaining};
 ghost use Rattle.std.specs.Io.KnownBytes.{Keeps, append_known};
 ghost use Rattle.ciborium_value.specs.View.{tree_of};
+ghost use Rattle.ciborium_value.specs.declared.kind.Kind.TheVariants.{DuplicateKey, TooLarge};
 ghost use Rattle.cbor.specs.Answer.{refused_text, wants_memory};
+ghost use Rattle.cbor.specs.Forms.{formless_text};
 ghost use Rattle.cbor.specs.Lines.{text_line};
 ghost use Rattle.cbor.specs.Sequence.{refused_item_text};
 ghost use Rattle.cbor.specs.Streams.{HoldsItem, IsReadNext, IsStreamShown, shown_line};
@@ -17,10 +19,10 @@ use crate::items::{name_refusal, read_front};
 use crate::lines::{put_text, send_waiting};
 use crate::reading::{Showing, Spelling};
 use crate::retrying::Retrying;
-use crate::sequences::write_refused_item;
-use crate::showing::push_shown;
+use crate::sequences::{write_formless_item, write_refused_item};
+use crate::showing::{make_shown, push_shown};
 use ciborium::de::{Error, from_buf_reader_with_recursion_limit};
-use ciborium_value::Value;
+use ciborium_value::{Kind, Value};
 use std::alloc::Global;
 use std::io::{self, BufRead, BufReader, ErrorKind, Read, Write};
 
@@ -28,7 +30,8 @@ use std::io::{self, BufRead, BufReader, ErrorKind, Read, Write};
 /// whether all of the input is a sequence of items in any spelling, each within this many levels.
 /// For the first item that is refused the line gives its number, counted from 1, and the reason,
 /// with the offset counted inside that item; the reason is `io` where the end of the input cuts the
-/// item short. No item after it is read. Lines wait until the input's device is asked for more, or
+/// item short. So it does where the deterministic form of items is shown, for the first that has
+/// none. No item after it is read. Lines wait until the input's device is asked for more, or
 /// until there are many, and are then written together and flushed. No item is held longer than
 /// until its line is made.
 ///
@@ -73,7 +76,13 @@ fn show_stream<R: Read, W: Write>(
     'items: for number in 1..u64::MAX {
         match next_item(alloc, reader, limit, waiting, output)? {
             None => return Ok(true),
-            Some(Ok(value)) => show_item(&value, showing, &mut room, &mut line, waiting, output)?,
+            Some(Ok(mut value)) => {
+                if let Err(kind) = make_shown(&mut value, showing) {
+                    show_formless(number, kind, &mut line, waiting, output)?;
+                    return Ok(false);
+                }
+                show_item(&value, showing, &mut room, &mut line, waiting, output)?;
+            }
             Some(Err(refusal)) => {
                 show_refused(number, refusal, &mut line, waiting, output)?;
                 return Ok(false);
@@ -208,6 +217,24 @@ fn show_refused<W: Write>(
         ≡ Some (w ++ text_line (refused_item_text number (refused_text refusal))))) }
 {
     write_refused_item(number, refusal, line)?;
+    put_line(line, waiting, output)
+}
+
+// Puts the line of an item that has no deterministic form behind the texts that wait. `line` is a
+// buffer for it, to be used again.
+fn show_formless<W: Write>(
+    number: u64,
+    kind: Kind,
+    line: &mut Vec<u8>,
+    waiting: &mut Vec<u8>,
+    output: &mut W,
+) -> Result<(), Fault>
+    requires { (kind ≡ DuplicateKey) ⊎ (kind ≡ TooLarge) }
+    ensures { (w : List ℕ) → append_known (W.contents output.old) waiting.old.items ≡ Some w →
+        OnOk result (append_known (W.contents output.new) waiting.new.items
+        ≡ Some (w ++ text_line (refused_item_text number (formless_text kind)))) }
+{
+    write_formless_item(number, kind, line)?;
     put_line(line, waiting, output)
 }
 

@@ -17,6 +17,7 @@ cbor: CBOR (RFC 8949) from the standard input, as lines of hex or, with --binary
   cbor sort [--core]                    all lines' items in order: 6161 and 00 give 00 and 6161
   cbor diag --binary [--indent] [limit] each item of a file: cbor diag --binary < file.cbor
   cbor read --binary [limit]            the same in hex: cbor read --binary < file.cbor
+  cbor canon --binary [--core] [limit]  in deterministic hex: cbor canon --binary < file.cbor
   cbor dump --binary                    the heads of a file's item: cbor dump --binary < file.cbor
   cbor --help, -h, cbor --version       this page, and the version
 

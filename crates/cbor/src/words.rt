@@ -7,6 +7,8 @@ ghost use Rattle.std.specs.Str.Parse.{digits_value};
 ghost use Rattle.cbor.specs.Words.{AreWrong, AskFor, IsLimit, NameLimit, NameLimitBehind};
 ghost use Rattle.cbor.specs.Words.{command_limit};
 ghost use Rattle.cbor.specs.declared.command.Command.{Command};
+ghost use Rattle.cbor.specs.declared.command.Command.TheVariants.{Show};
+ghost use Rattle.cbor.specs.declared.reading.Showing.{Showing};
 
 use crate::command::{Command, Topic};
 use crate::reading::{Layout, Reading, Showing, Spelling};
@@ -62,6 +64,9 @@ fn judge_with_limit(words: &[String]) -> Option<Command>
         ¬ AskFor (map string_bytes words.now) command)
         (λ command. AskFor (map string_bytes words.now) command) }
 {
+    if let Some(command) = judge_showing(words) {
+        return Some(command);
+    }
     if let Some(limit) = limit_behind(words, &["read"]) {
         return Some(Command::Answer(Reading::Item(Spelling::Any, limit)));
     }
@@ -72,9 +77,6 @@ fn judge_with_limit(words: &[String]) -> Option<Command>
     if let Some(limit) = limit_behind(words, &["read", "--det", "--core"]) {
         let spelling = Spelling::Deterministic(Bytewise);
         return Some(Command::Answer(Reading::Item(spelling, limit)));
-    }
-    if let Some(limit) = limit_behind(words, &["read", "--binary"]) {
-        return Some(Command::Show(Showing::Encoding, limit));
     }
     if let Some(limit) = limit_behind(words, &["canon"]) {
         return Some(Command::Answer(Reading::Form(LengthFirst, limit)));
@@ -88,11 +90,29 @@ fn judge_with_limit(words: &[String]) -> Option<Command>
     if let Some(limit) = limit_behind(words, &["diag", "--indent"]) {
         return Some(Command::Answer(Reading::Notation(Layout::Indented, limit)));
     }
+    None
+}
+
+// What the words ask for that shows the items of bytes.
+fn judge_showing(words: &[String]) -> Option<Command>
+    ensures { MatchOption result ((showing : Showing) (limit : ℕ) →
+        ¬ AskFor (map string_bytes words.now) (Show showing limit))
+        (λ command. AskFor (map string_bytes words.now) command) }
+{
+    if let Some(limit) = limit_behind(words, &["read", "--binary"]) {
+        return Some(Command::Show(Showing::Encoding, limit));
+    }
     if let Some(limit) = limit_behind(words, &["diag", "--binary"]) {
         return Some(Command::Show(Showing::Notation(Layout::OneLine), limit));
     }
     if let Some(limit) = limit_behind(words, &["diag", "--binary", "--indent"]) {
         return Some(Command::Show(Showing::Notation(Layout::Indented), limit));
+    }
+    if let Some(limit) = limit_behind(words, &["canon", "--binary"]) {
+        return Some(Command::Show(Showing::Form(LengthFirst), limit));
+    }
+    if let Some(limit) = limit_behind(words, &["canon", "--binary", "--core"]) {
+        return Some(Command::Show(Showing::Form(Bytewise), limit));
     }
     None
 }

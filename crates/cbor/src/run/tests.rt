@@ -432,6 +432,43 @@ const BYTE_RUNS: &[(&[&str], &[u8], &str, u8)] = &[
         1,
     ),
     (
+        &["canon", "--binary"],
+        b"\xbf\x02\x00\x01\x00\xff\xa2\x19\x03\xe8\x00\x61a\x01\x18\x00\xc2\x41\x05",
+        "a201000200\na26161011903e800\n00\n05\n",
+        0,
+    ),
+    (
+        &["canon", "--binary", "--core"],
+        b"\xbf\x02\x00\x01\x00\xff\xa2\x61a\x01\x19\x03\xe8\x00",
+        "a201000200\na21903e800616101\n",
+        0,
+    ),
+    // An item without a form ends the stream, as one that is refused does.
+    (
+        &["canon", "--binary"],
+        b"\x01\xa2\xc2\x41\x01\x00\x01\x01\x02",
+        "01\nitem 2: duplicate\n",
+        1,
+    ),
+    (
+        &["canon", "--binary", "--core", "1"],
+        b"\xc3\x5f\x50\x80\0\0\0\0\0\0\0\0\0\0\0\0\0\0\0\xff\x01",
+        "item 1: toolarge\n",
+        1,
+    ),
+    (
+        &["canon", "--binary", "1"],
+        b"\xa1\x01\x80\x00",
+        "item 1: nesting\n",
+        1,
+    ),
+    (
+        &["canon", "--binary"],
+        b"\x02\x82\x01",
+        "02\nitem 2: io\n",
+        1,
+    ),
+    (
         &["dump", "--binary"],
         b"\xa1\x61a\xf9\x3e\x00",
         "0: a1  map of 1\n1:   6161  text of 1 \"a\"\n3:   f93e00  float of 2 bytes\n",
@@ -512,6 +549,7 @@ fn tells_its_commands(rt: HostRuntime) -> Result<(), Fail> {
         "  cbor sort [--core] ",
         "  cbor diag --binary [--indent] [limit] ",
         "  cbor read --binary [limit] ",
+        "  cbor canon --binary [--core] [limit] ",
         "  cbor dump --binary ",
         "  cbor --help, -h, cbor --version ",
     ] {
@@ -680,7 +718,10 @@ const WRONG_WORDS: &[&[&str]] = &[
     &["read", "--binary", "--indent"],
     &["read", "--det", "--binary"],
     &["read", "--indent"],
-    &["canon", "--binary"],
+    &["canon", "--core", "--binary"],
+    &["canon", "--binary", "--indent"],
+    &["canon", "--binary", "x"],
+    &["canon", "--binary", "5", "--core"],
     &["seq", "--binary"],
     &["sort", "--binary"],
     &["--binary"],

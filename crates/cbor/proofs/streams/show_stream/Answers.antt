@@ -1,6 +1,11 @@
 use Rattle.std.proofs.Common.{◌≡◌, ap, ◌∙◌, Err, Ok, Some}
-use Rattle.cbor.proofs.StreamedItems.{all-shown, first-refused, one-more-shown, shown-still}
+use Rattle.ciborium_value.specs.View.{tree_of}
+use Rattle.cbor.proofs.StreamedItems.{all-shown, first-formless, first-refused, none-shown, one-more-shown}
+use Rattle.cbor.proofs.StreamedItems.{shown-still}
 use Rattle.cbor.proofs.streams.show_stream.Goals as goal
+
+pub items-init : goal.items-init
+items-init g c b w e f = none-shown c.args.showing b c.args.limit w _ _ e f
 
 pub returns-in-None : goal.returns-in-None
 returns-in-None g c b w e f =
@@ -18,12 +23,23 @@ returns-in-Some-Err g c b w e f =
     c.in_ok-next_item.ensures.held)
     (λ xs h. rw next at (c.in_ok-next_item.ensures.next xs h)) c.in_ok-show_refused-in-Some-Err.ensures
 
+pub returns-in-Err : goal.returns-in-Err
+returns-in-Err g c b w e f =
+    let next : c.in_ok-next_item.field-0 ≡ Some (Ok c.in-Some-Ok.value) = c.in-Some-Ok.is ∙
+    ap Some c.in-Some-Ok.field-0-is in
+    first-formless c.args.showing b c.args.limit w _ _ c.items.number _ _ c.in-Some-Ok.value c.in-Err.kind
+    (shown-still c.args.showing b c.args.limit w _ _ c.items.number _ (c.items.invariant b w e f)
+    c.in_ok-next_item.ensures.held)
+    (λ xs h. rw next at (c.in_ok-next_item.ensures.next xs h)) c.in-Err.ensures.formless
+    c.in_ok-show_formless-in-Some-Ok.ensures
+
 pub items-preserved : goal.items-preserved
 items-preserved g c b w e f =
     let next : c.in_ok-next_item.field-0 ≡ Some (Ok c.in-Some-Ok.value) = c.in-Some-Ok.is ∙
     ap Some c.in-Some-Ok.field-0-is in
     one-more-shown c.args.showing b c.args.limit w _ _ c.items.number _ _ c.in-Some-Ok.value
+    (tree_of c.make_shown.new.value)
     (shown-still c.args.showing b c.args.limit w _ _ c.items.number _ (c.items.invariant b w e f)
     c.in_ok-next_item.ensures.held)
     (λ xs h. let (some, read) = rw next at (c.in_ok-next_item.ensures.next xs h) in read)
-    c.in_ok-show_item-in-Some-Ok.ensures
+    c.in_default.ensures.form c.in_ok-show_item-in-Some-Ok.ensures

@@ -1,0 +1,4 @@
+use Rattle.cbor.proofs.streams.show_formless.Goals as goal
+
+pub returns : goal.returns
+returns g c w e = rw c.in_ok-write_formless_item.ensures at (c.put_line.ensures w e)
