@@ -79,26 +79,6 @@ impl Label for &str {
     ghost takes_none = { λ never. never };
 }
 
-impl SoughtLabel for i64 {
-    ghost label = { λ z. numbered z };
-
-    fn is_name(&self, _name: &str) -> bool {
-        false
-    }
-
-    #[tactic(auto, using(crate::proofs::LabelNumbers::int_eq_parts))]
-    fn is_number(&self, negative: bool, n: u128) -> bool {
-        let (is_negative, argument) = Integer::from(*self).head();
-        negative == is_negative && n == u128::from(argument)
-    }
-}
-
-impl Label for i64 {
-    ghost is_written = { λ z. refl };
-
-    ghost takes_none = { λ never. never };
-}
-
 impl SoughtLabel for Integer {
     ghost label = { λ z. numbered z };
 
@@ -111,4 +91,22 @@ impl SoughtLabel for Integer {
         let (is_negative, argument) = self.head();
         negative == is_negative && n == u128::from(argument)
     }
+}
+
+impl SoughtLabel for i64 {
+    ghost label = { λ z. numbered z };
+
+    fn is_name(&self, _name: &str) -> bool {
+        false
+    }
+
+    fn is_number(&self, negative: bool, n: u128) -> bool {
+        Integer::from(*self).is_number(negative, n)
+    }
+}
+
+impl Label for i64 {
+    ghost is_written = { λ z. refl };
+
+    ghost takes_none = { λ never. never };
 }
