@@ -1,9 +1,11 @@
 -- The innermost frame stands last.
 use Rattle.std.proofs.Common.{◌≡◌, ℕ, suc, ◌+◌, ◌-◌, ◌<◌, List, [], ◌∷◌, ◌++◌, length, map}
-use Rattle.std.proofs.Common.{slice_index_or, slice_set, reverse, Bool, true, Option, None, Some, refl, sym, ap, ◌∙◌, arith, length-append}
+use Rattle.std.proofs.Common.{slice_index_or, slice_set, reverse, Bool, true, Option, None, Some, refl, sym, ap, ◌∙◌}
+use Rattle.std.proofs.Common.{arith, length-append}
 use Rattle.std.proofs.lemmas.List.{map-append, reverse-append, reverse-reverse}
 use Rattle.ciborium_value.specs.inner.Frames as frames
-use Rattle.ciborium_value.specs.inner.Frames.{Filled, Placed, fill, fill_map, placed, more, still, waiting_keys, whole, with_last}
+use Rattle.ciborium_value.specs.inner.Frames.{Filled, Placed, fill, fill_map, placed, more, still, waiting_keys, whole}
+use Rattle.ciborium_value.specs.inner.Frames.{with_last}
 use Rattle.ciborium_value.specs.inner.Stack.{frame_of, map_frame, tree_frames, waiting_frame}
 use Rattle.ciborium_value.specs.Tree.{Tree}
 use Rattle.ciborium_value.specs.View.{pair_trees, tree_of}

@@ -12,7 +12,8 @@ pub returns-in-Some-eq0 : goal.returns-in-Some-eq0
 returns-in-Some-eq0 c =
     ap whole (ap (λ ps. tree_of (value.Map ps)) c.take_parts.ensures ∙ tree_of-Map (with_item c.args.pairs.now
     (vec_len c.args.pairs.now - 1) (c.in-Some.pair.now.0, c.args.value))) ∙
-    waiting-filled c.args.pairs.now.items (vec_len c.args.pairs.now) c.in-Some.pair.now c.args.value c.args.behind.now (Some zero) _
+    waiting-filled c.args.pairs.now.items (vec_len c.args.pairs.now) c.in-Some.pair.now c.args.value
+    c.args.behind.now (Some zero) _
     (search rules) (search rules) c.in-Some.ensures.value c.if-waits.true (search rules)
 
 pub returns-in-Some-behind : goal.returns-in-Some-behind
