@@ -1,6 +1,6 @@
 -- Items of a stream are read and shown one by one.
 use Rattle.std.proofs.Common.{◌≡◌, ℕ, ◌<◌, ◌+◌, Bool, true, false, List, [], ◌∷◌, ◌++◌, length, flat_map, length-append}
-use Rattle.std.proofs.Common.{arith, Option, Some, None, Result, Ok, Err, IfOk, OnOk, IsTrue, map, inl, inr, refl, ap}
+use Rattle.std.proofs.Common.{arith, Option, Some, None, Result, Ok, Err, IfOk, OnOk, IsTrue, inl, inr, refl, ap}
 use Rattle.std.proofs.Common.{ap₂, append-nil, sym, subst, ◌∙◌}
 use Rattle.std.proofs.lemmas.List.{flat_map_more, map-append}
 use Rattle.std.specs.Bool.{MatchBool}
