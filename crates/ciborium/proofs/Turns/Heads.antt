@@ -200,10 +200,10 @@ module _ {S W : Type 0} (spelling : Spelling) (remaining : S → Option (List �
 
   -- it is not
   pub faulty-head : (E : Type 0) (h : Header) (l offset : ℕ) (kind : Kind) →
-      head_fault spelling h e.head_len ≡ Some kind → offset ≡ offset_of d → IsPulled Some (with_left e v) h xs p →
+      head_fault spelling h e.head_len ≡ Some kind → offset ≡ e.last → IsPulled Some (with_left e v) h xs p →
       IsRefusedBy {E = E} (Some v) (Semantic (Some offset) kind) (RefusesPart spelling xs p l)
   faulty-head E h l offset kind wrong here pulled = bad-at Some (with_left e v) h xs p pulled spelling E l offset kind
-      (Some v) wrong (sized spelling stands) (here ∙ stands-offset spelling Some (with_left d u) p xs stands)
+      (Some v) wrong (sized spelling stands) (here ∙ pulled.5)
 
 -- what is answered where it is accepted
 module _ {S W : Type 0} (spelling : Spelling) (remaining : S → Option (List ℕ)) (d e : Decoder S W) (h : Header)
@@ -211,14 +211,13 @@ module _ {S W : Type 0} (spelling : Spelling) (remaining : S → Option (List �
     (pull : TakesBeforeAny remaining d e (λ d e. PullsSo {E = Unit {0}} Some d e (Ok h))) where
   -- by the head alone
   pub part-of-head : (P : List ℕ → List ℕ → ℕ → Type 0) →
-      ((z xs : List ℕ) (p : ℕ) → offset_of d ≡ p → IsHeadAccepted spelling Some (with_left e z) h xs p → P z xs p) →
+      ((z xs : List ℕ) (p : ℕ) → IsHeadAccepted spelling Some (with_left e z) h xs p → P z xs p) →
       Takes remaining d e (λ b. (z xs : List ℕ) (p : ℕ) → StandsAt spelling Some (with_left d (b ++ z)) xs p → P z xs p)
   part-of-head P f = (
     pull.0,
     pull.1,
     pull.2,
-    λ z xs p s. f z xs p (stands-offset spelling Some (with_left d (pull.0 ++ z)) p xs s)
-        (accepted-head spelling remaining d e (pull.0 ++ z) z xs p s size h right
+    λ z xs p s. f z xs p (accepted-head spelling remaining d e (pull.0 ++ z) z xs p s size h right
         (pull.3 z xs p (ahead-of spelling Some (with_left d (pull.0 ++ z)) xs p s))),
     pull.4,
   )
@@ -226,7 +225,7 @@ module _ {S W : Type 0} (spelling : Spelling) (remaining : S → Option (List �
   -- by what was read behind it
   pub part-behind-head : (f : Decoder S W) (P : List ℕ → List ℕ → ℕ → Type 0)
       (Q : Decoder (List ℕ) W → Decoder (List ℕ) W → Type 0) → TakesBeforeAny remaining e f Q →
-      ((m z xs : List ℕ) (p : ℕ) → offset_of d ≡ p → IsHeadAccepted spelling Some (with_left e m) h xs p →
+      ((m z xs : List ℕ) (p : ℕ) → IsHeadAccepted spelling Some (with_left e m) h xs p →
       Q (with_left e m) (with_left f z) → P z xs p) →
       Takes remaining d f (λ b. (z xs : List ℕ) (p : ℕ) → StandsAt spelling Some (with_left d (b ++ z)) xs p → P z xs p)
   part-behind-head f P Q read g =
@@ -235,8 +234,7 @@ module _ {S W : Type 0} (spelling : Spelling) (remaining : S → Option (List �
         t.1,
         t.2,
         λ z xs p s. let m = t.3 z in
-            g m.0 z xs p (stands-offset spelling Some (with_left d (t.0 ++ z)) p xs s)
-            (accepted-head spelling remaining d e (t.0 ++ z) m.0 xs p s size h right
+            g m.0 z xs p (accepted-head spelling remaining d e (t.0 ++ z) m.0 xs p s size h right
             (m.1 xs p (ahead-of spelling Some (with_left d (t.0 ++ z)) xs p s))) m.2,
         t.4,
       )

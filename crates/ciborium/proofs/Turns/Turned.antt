@@ -132,11 +132,12 @@ module _ {S W E : Type 0} (spelling : Spelling) (remaining : S → Option (List 
       turned spelling remaining e between after l xs p m ys q (tree_of v) a.0 (s.2 + 1) end z
       (at ∙ stands-offset spelling remaining e (s.2 + 1) a.0 a.3) around item a.3 placed
 
-  pub turn-break : (offset : ℕ) → y ≡ Ok Ended → closed os ≡ None → offset ≡ offset_of d →
+  pub turn-break : (offset : ℕ) → y ≡ Ok Ended → closed os ≡ None → offset ≡ offset_of e - 1 →
       Refuses spelling xs p (Some l) (semantic offset Break)
   turn-break offset is none at =
       let a = subst (λ z. IsPartRead {E = E} spelling remaining e s.0 s.1 s.2 z) is here in
-      let place : offset ≡ s.2 = at ∙ stands-offset spelling remaining d s.2 s.1 s.4 in
+      let end = stands-offset spelling remaining e (s.2 + 1) a.0 a.3 in
+      let place : offset ≡ s.2 = omega (arith, at, end) in
       subst (λ k. Refuses spelling xs p (Some l) (semantic k Break)) (sym place)
       (broken spelling l xs p os s.0 s.1 s.2 a.0 s.3 none a.1 a.2)
 

@@ -60,7 +60,6 @@ fn turn<S: Rules, R, A: Access<R>>(
         IsReading S.spelling Some d (frames_of stack.old) levels xs p →
         IsTurned S.spelling Some e (frames_of stack.new) levels xs p result) }
 {
-    let offset = decoder.offset();
     match next::<S, R, A>(alloc, decoder, scratch, levels - stack.depth(), failure)? {
         Part::Whole(value) => place::<S>(stack, value, decoder.offset()),
         Part::Opened(opening) => match stack.open(opening) {
@@ -69,7 +68,10 @@ fn turn<S: Rules, R, A: Access<R>>(
         },
         Part::Ended => match stack.close() {
             Some(value) => place::<S>(stack, value, decoder.offset()),
-            None => Err(Error::Semantic(Some(offset), Kind::Break)),
+            None => {
+                let offset = decoder.offset().saturating_sub(1);
+                Err(Error::Semantic(Some(offset), Kind::Break))
+            }
         },
     }
 }

@@ -140,10 +140,9 @@ pub(crate) fn next<S: Rules, R, A: Access<R>>(
         (λ d e. (xs : List ℕ) (p : ℕ) → StandsAt S.spelling Some d xs p →
         IsPartRead S.spelling Some e levels xs p result) }
 {
-    let offset = decoder.offset();
     let header = pull(decoder, failure)?;
     if let Some(kind) = S::find_head_fault(header, decoder.head_len()) {
-        return Err(Error::Semantic(Some(offset), kind));
+        return Err(Error::Semantic(Some(decoder.last_offset()), kind));
     }
     match header {
         Header::Positive(n) => Ok(Part::Whole(Value::Integer(Integer::from(n)))),
@@ -158,9 +157,12 @@ pub(crate) fn next<S: Rules, R, A: Access<R>>(
         }
         Header::Array(count) => begin_container(alloc, false, count, levels),
         Header::Map(count) => begin_container(alloc, true, count, levels),
-        Header::Tag(tag) => read_tag::<S, R, A>(alloc, decoder, tag, offset, levels, failure),
-        Header::Simple(n) => Ok(Part::Whole(read_simple(n, offset)?)),
-        Header::Float(_) => Err(Error::Semantic(Some(offset), Kind::Float)),
+        Header::Tag(tag) => {
+            let offset = decoder.last_offset();
+            read_tag::<S, R, A>(alloc, decoder, tag, offset, levels, failure)
+        }
+        Header::Simple(n) => Ok(Part::Whole(read_simple(n, decoder.last_offset())?)),
+        Header::Float(_) => Err(Error::Semantic(Some(decoder.last_offset()), Kind::Float)),
         Header::Break => Ok(Part::Ended),
     }
 }

@@ -1,4 +1,4 @@
-use Rattle.std.proofs.Common.{◌++◌, Some, Ok, Err, ap, refl}
+use Rattle.std.proofs.Common.{◌++◌, ◌-◌, ◌∙◌, Some, Ok, Err, ap, refl}
 use Rattle.std.proofs.lemmas.Result.{err_from_is_err_and}
 use Rattle.ciborium_ll.specs.Decoding.{with_left}
 use Rattle.ciborium_value.specs.inner.Stack.{frames_of}
@@ -88,7 +88,7 @@ returns-in-None-clause-turn g c =
       λ z xs p s. turn-break {E = Unit} g.S.Rules.spelling Some (with_left c.args.decoder.now (t.0 ++ z))
           (with_left c.next.new.decoder z) (frames_of c.args.stack.now) c.args.levels xs p c.depth.result
           c.depth.ensures (Ok c.in_ok-value.field-0)
-          (Ok Ended) (ap Ok c.in-Ended.is) (t.3 z) s c.offset-offset.result refl c.in-None.ensures.0
-          c.offset-offset.ensures,
+          (Ok Ended) (ap Ok c.in-Ended.is) (t.3 z) s c.saturating_sub-offset.result refl c.in-None.ensures.0
+          (c.saturating_sub-offset.ensures ∙ ap (λ n. n - 1) c.offset-in-None.ensures),
       t.4,
     )

@@ -38,10 +38,10 @@ returns-in-Some-clause-part g c =
       t.1,
       t.2,
       λ z xs p s. faulty-head g.S.Rules.spelling g.A.Access.remaining c.args.decoder.now c.pull.new.decoder (t.0 ++ z) z
-          xs p s c.in_ok-header.ensures.measured Unit c.in_ok-header.header c.args.levels c.offset-offset.result
+          xs p s c.in_ok-header.ensures.measured Unit c.in_ok-header.header c.args.levels c.last_offset.result
           c.in-Some.kind
           (sym (c.find_head_fault.ensures ∙ ap (head_fault g.S.Rules.spelling c.in_ok-header.header) c.head_len.ensures)
-          ∙ c.in-Some.is) c.offset-offset.ensures (t.3 z xs p
+          ∙ c.in-Some.is) c.last_offset.ensures (t.3 z xs p
           (ahead-of g.S.Rules.spelling Some (with_left c.args.decoder.now (t.0 ++ z)) xs p s)),
       t.4,
     )
@@ -52,7 +52,7 @@ returns-in-Positive-clause-part g c =
     c.in_ok-header.ensures.measured
     (sym (c.find_head_fault.ensures ∙ ap (head_fault g.S.Rules.spelling c.in_ok-header.header) c.head_len.ensures) ∙
     c.in_default.is) c.in_ok-header.ensures.head _
-    (λ z xs p at a. got-positive Some (with_left c.pull.new.decoder z) c.args.levels xs p c.in_ok-header.header
+    (λ z xs p a. got-positive Some (with_left c.pull.new.decoder z) c.args.levels xs p c.in_ok-header.header
     c.pull.ensures.pushed g.S.Rules.spelling c.in-Positive.n _
     (tree_of-Integer c.from.result ∙ ap trees.integer c.from.ensures) c.in-Positive.is a)
 
@@ -62,7 +62,7 @@ returns-in-Negative-clause-part g c =
     c.in_ok-header.ensures.measured
     (sym (c.find_head_fault.ensures ∙ ap (head_fault g.S.Rules.spelling c.in_ok-header.header) c.head_len.ensures) ∙
     c.in_default.is) c.in_ok-header.ensures.head _
-    (λ z xs p at a. got-negative Some (with_left c.pull.new.decoder z) c.args.levels xs p c.in_ok-header.header
+    (λ z xs p a. got-negative Some (with_left c.pull.new.decoder z) c.args.levels xs p c.in_ok-header.header
     c.pull.ensures.pushed g.S.Rules.spelling c.in-Negative.n _
     (tree_of-Integer c.from_head.result ∙ ap trees.integer c.from_head.ensures) c.in-Negative.is a)
 
@@ -74,7 +74,7 @@ returns-in_ok-value-in-Bytes-clause-part g c =
     c.in_default.is) c.in_ok-header.ensures.head c.read_string.new.decoder _
     (λ d e. StringSo {E = Unit} of_bytes c.in-Bytes.len c.pull.new.decoder.last d e (Ok c.in_ok-value-in-Bytes.value))
     c.in_ok-value-in-Bytes.ensures.content
-    (λ m z xs p at a read. got-string of_bytes Some (with_left c.pull.new.decoder m)
+    (λ m z xs p a read. got-string of_bytes Some (with_left c.pull.new.decoder m)
     (with_left c.read_string.new.decoder z) c.args.levels xs p c.in_ok-header.header g.S.Rules.spelling Unit
     c.in-Bytes.len c.in_ok-value-in-Bytes.value c.read_string.ensures.pushed c.in-Bytes.is read a)
 
@@ -88,7 +88,7 @@ returns-in_err-value-in-Bytes-clause-part g c =
     c.in_default.is) c.in_ok-header.ensures.head c.read_string.new.decoder _
     (λ d e. StringSo {E = Unit} of_bytes c.in-Bytes.len c.pull.new.decoder.last d e
     (Err c.in_err-value-in-Bytes.field-0.0)) c.in_err-value-in-Bytes.ensures.content
-    (λ m z xs p at a read. string-fault of_bytes Some (with_left c.pull.new.decoder m)
+    (λ m z xs p a read. string-fault of_bytes Some (with_left c.pull.new.decoder m)
     (with_left c.read_string.new.decoder z) c.args.levels xs p c.in_ok-header.header g.S.Rules.spelling Unit
     c.in-Bytes.len c.in_err-value-in-Bytes.field-0.0 c.in-Bytes.is read a))
 
@@ -100,7 +100,7 @@ returns-in_ok-value-in-Text-clause-part g c =
     c.in_default.is) c.in_ok-header.ensures.head c.read_string-in-Text.new.decoder _
     (λ d e. StringSo {E = Unit} of_text c.in-Text.len c.pull.new.decoder.last d e (Ok c.in_ok-value-in-Text.value))
     c.in_ok-value-in-Text.ensures.content
-    (λ m z xs p at a read. got-string of_text Some (with_left c.pull.new.decoder m)
+    (λ m z xs p a read. got-string of_text Some (with_left c.pull.new.decoder m)
     (with_left c.read_string-in-Text.new.decoder z) c.args.levels xs p c.in_ok-header.header g.S.Rules.spelling Unit
     c.in-Text.len c.in_ok-value-in-Text.value c.read_string-in-Text.ensures.pushed c.in-Text.is read a)
 
@@ -114,7 +114,7 @@ returns-in_err-value-in-Text-clause-part g c =
     c.in_default.is) c.in_ok-header.ensures.head c.read_string-in-Text.new.decoder _
     (λ d e. StringSo {E = Unit} of_text c.in-Text.len c.pull.new.decoder.last d e
     (Err c.in_err-value-in-Text.field-0.0)) c.in_err-value-in-Text.ensures.content
-    (λ m z xs p at a read. string-fault of_text Some (with_left c.pull.new.decoder m)
+    (λ m z xs p a read. string-fault of_text Some (with_left c.pull.new.decoder m)
     (with_left c.read_string-in-Text.new.decoder z) c.args.levels xs p c.in_ok-header.header g.S.Rules.spelling Unit
     c.in-Text.len c.in_err-value-in-Text.field-0.0 c.in-Text.is read a))
 
@@ -124,7 +124,7 @@ returns-in-Array-clause-part g c =
     c.in_ok-header.ensures.measured
     (sym (c.find_head_fault.ensures ∙ ap (head_fault g.S.Rules.spelling c.in_ok-header.header) c.head_len.ensures) ∙
     c.in_default.is) c.in_ok-header.ensures.head _
-    (λ z xs p at a. container-part Some (with_left c.pull.new.decoder z) c.args.levels xs p c.in_ok-header.header
+    (λ z xs p a. container-part Some (with_left c.pull.new.decoder z) c.args.levels xs p c.in_ok-header.header
     c.pull.ensures.pushed g.S.Rules.spelling Unit false c.in-Array.count c.begin_container.result c.in-Array.is a
     c.begin_container.ensures)
 
@@ -134,7 +134,7 @@ returns-in-Map-clause-part g c =
     c.in_ok-header.ensures.measured
     (sym (c.find_head_fault.ensures ∙ ap (head_fault g.S.Rules.spelling c.in_ok-header.header) c.head_len.ensures) ∙
     c.in_default.is) c.in_ok-header.ensures.head _
-    (λ z xs p at a. container-part Some (with_left c.pull.new.decoder z) c.args.levels xs p c.in_ok-header.header
+    (λ z xs p a. container-part Some (with_left c.pull.new.decoder z) c.args.levels xs p c.in_ok-header.header
     c.pull.ensures.pushed g.S.Rules.spelling Unit true c.in-Map.count c.begin_container-in-Map.result c.in-Map.is
     a c.begin_container-in-Map.ensures)
 
@@ -144,7 +144,7 @@ returns-in_ok-read_simple-in-Simple-clause-part g c =
     c.in_ok-header.ensures.measured
     (sym (c.find_head_fault.ensures ∙ ap (head_fault g.S.Rules.spelling c.in_ok-header.header) c.head_len.ensures) ∙
     c.in_default.is) c.in_ok-header.ensures.head _
-    (λ z xs p at a. got-simple Some (with_left c.pull.new.decoder z) c.args.levels xs p c.in_ok-header.header
+    (λ z xs p a. got-simple Some (with_left c.pull.new.decoder z) c.args.levels xs p c.in_ok-header.header
     c.pull.ensures.pushed g.S.Rules.spelling c.in-Simple.n (tree_of c.in_ok-read_simple-in-Simple.field-0)
     c.in_ok-read_simple-in-Simple.ensures c.in-Simple.is a)
 
@@ -156,10 +156,10 @@ returns-in_err-read_simple-in-Simple-clause-part g c =
     c.in_ok-header.header c.in_ok-header.ensures.measured
     (sym (c.find_head_fault.ensures ∙ ap (head_fault g.S.Rules.spelling c.in_ok-header.header) c.head_len.ensures) ∙
     c.in_default.is) c.in_ok-header.ensures.head _
-    (λ z xs p at a. subst (λ e. IsRefusedBy (Some z) e (RefusesPart g.S.Rules.spelling xs p c.args.levels))
+    (λ z xs p a. subst (λ e. IsRefusedBy (Some z) e (RefusesPart g.S.Rules.spelling xs p c.args.levels))
     (sym c.in_err-read_simple-in-Simple.ensures.1)
     (subst (λ q. RefusesPart g.S.Rules.spelling xs p c.args.levels (semantic q refusal.Simple))
-    (sym (c.offset-offset.ensures ∙ at)) (simple-refuses Some (with_left c.pull.new.decoder z) c.args.levels xs p
+    (sym (c.last_offset-in-Simple.ensures ∙ a.pulled.5)) (simple-refuses Some (with_left c.pull.new.decoder z) c.args.levels xs p
     c.in_ok-header.header g.S.Rules.spelling c.in-Simple.n c.in_err-read_simple-in-Simple.ensures.0 c.in-Simple.is
     a))))
 
@@ -169,8 +169,8 @@ returns-in-Float-clause-part g c =
     c.in_ok-header.ensures.measured
     (sym (c.find_head_fault.ensures ∙ ap (head_fault g.S.Rules.spelling c.in_ok-header.header) c.head_len.ensures) ∙
     c.in_default.is) c.in_ok-header.ensures.head _
-    (λ z xs p at a. subst (λ q. RefusesPart g.S.Rules.spelling xs p c.args.levels (semantic q refusal.Float))
-    (sym (c.offset-offset.ensures ∙ at)) (float-refuses Some (with_left c.pull.new.decoder z) c.args.levels xs p
+    (λ z xs p a. subst (λ q. RefusesPart g.S.Rules.spelling xs p c.args.levels (semantic q refusal.Float))
+    (sym (c.last_offset-in-Float.ensures ∙ a.pulled.5)) (float-refuses Some (with_left c.pull.new.decoder z) c.args.levels xs p
     c.in_ok-header.header g.S.Rules.spelling c.in-Float.field-0 c.in-Float.is a))
 
 pub returns-in-Break-clause-part : goal.returns-in-Break-clause-part
@@ -179,7 +179,7 @@ returns-in-Break-clause-part g c =
     c.in_ok-header.ensures.measured
     (sym (c.find_head_fault.ensures ∙ ap (head_fault g.S.Rules.spelling c.in_ok-header.header) c.head_len.ensures) ∙
     c.in_default.is) c.in_ok-header.ensures.head _
-    (λ z xs p at a. got-end Some (with_left c.pull.new.decoder z) c.args.levels xs p c.in_ok-header.header
+    (λ z xs p a. got-end Some (with_left c.pull.new.decoder z) c.args.levels xs p c.in_ok-header.header
     c.pull.ensures.pushed g.S.Rules.spelling c.in-Break.is a)
 
 pub returns-in-Tag-clause-part : goal.returns-in-Tag-clause-part
@@ -189,8 +189,8 @@ returns-in-Tag-clause-part g c =
     (sym (c.find_head_fault.ensures ∙ ap (head_fault g.S.Rules.spelling c.in_ok-header.header) c.head_len.ensures) ∙
     c.in_default.is) c.in_ok-header.ensures.head c.read_tag.new.decoder _
     (λ d e. (xs : List ℕ) (p : ℕ) → IsHeadAccepted g.S.Rules.spelling Some d (header.Tag c.in-Tag.tag) xs p →
-    c.offset-offset.result ≡ p → IsPartRead {E = Unit} g.S.Rules.spelling Some e c.args.levels xs p
+    c.last_offset-offset.result ≡ p → IsPartRead {E = Unit} g.S.Rules.spelling Some e c.args.levels xs p
     c.read_tag.result) c.read_tag.ensures.part
-    (λ m z xs p at a read. read xs p (subst (λ h. IsHeadAccepted g.S.Rules.spelling Some
+    (λ m z xs p a read. read xs p (subst (λ h. IsHeadAccepted g.S.Rules.spelling Some
     (with_left c.pull.new.decoder m) h xs p) c.in-Tag.is a)
-    (c.offset-offset.ensures ∙ at))
+    (c.last_offset-offset.ensures ∙ a.pulled.5))
