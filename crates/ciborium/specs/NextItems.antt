@@ -1,13 +1,15 @@
 -- Reading the items of a sequence one after the other (RFC 8742, section 2): the next item, or the
 -- end where none follows.
-use Rattle.std.specs.Prelude.{◌≡◌, ℕ, Bool, true, List, [], Option, Some, None, Result, Ok, Err}
-use Rattle.std.specs.Prelude.{IfErr, IfOk, IfSome, OnOk}
+use Rattle.std.specs.Prelude.{◌≡◌, ◌<◌, ℕ, ◌+◌, Bool, true, List, [], length, Option, Some, None}
+use Rattle.std.specs.Prelude.{Result, Ok, Err, IfErr, IfOk, IfSome, OnOk}
 use Rattle.std.specs.Io.KnownBytes.{Consumes, IsAtEnd}
 use Rattle.ciborium_ll.specs.declared.header.Header.{Header}
 use Rattle.ciborium_ll.specs.Accesses.{left_at_failure}
+use Rattle.ciborium_ll.specs.Bytes.{greatest_offset}
 use Rattle.ciborium_value.specs.Readings.{Reading}
 use Rattle.ciborium_value.specs.Sources.{IsGrantedFault, RefusesAhead, TakesAhead, TakesItem}
 use Rattle.ciborium_value.specs.Sources.{TakesOnly}
+use Rattle.ciborium_value.specs.Tree.{Tree}
 use Rattle.ciborium_value.specs.View.{read_as}
 use Rattle.ciborium.specs.declared.de.byte_source.ByteSource.{ByteSource}
 use Rattle.ciborium.specs.declared.de.error.Error.{Error}
@@ -19,6 +21,7 @@ use Rattle.ciborium.specs.inner.ByteSources.{fault_at}
 use Rattle.ciborium.specs.Errors.{fault_of}
 use Rattle.ciborium_value.specs.Spelling.{any}
 use Rattle.ciborium.specs.TypedAnswers.{RefusesTaken, TakesBeginning, TakesGiven}
+use Rattle.ciborium.specs.ValueAnswers.{TakesBytes}
 use Rattle.ciborium.specs.ValueClauses.{ReadsWhole}
 
 -- ---- the clauses of a call that reads the next item: what the reader held before it, what it is
@@ -48,25 +51,68 @@ TellsEnd before after (Ok None) = Consumes before after [] × IsAtEnd after
 TellsEnd before after (Ok (Some v)) = ¬ (before ≡ Some [])
 TellsEnd before after (Err e) = before ≡ Some [] → IsReadIo e
 
--- a call that reads the next item within so many levels, of a reader that can or cannot fail before
--- its end: the end; or otherwise what a call says that reads one value at offset 0
-pub record ReadsNextAsTypeFrom {T A E : Type 0} (can_fail : Bool) (l : ℕ) (reading : Reading T A)
-    (before after : Option (List ℕ)) (r : Result (Option T) (Error E)) : Type 0 where
-  pub end : TellsEnd before after r
+-- the same where an item would begin at offset p: at the greatest offset none does, and the answer
+-- is `TooLong`
+abbrev pub TellsEndAt : {A E : Type 0} → ℕ → Option (List ℕ) → Option (List ℕ) →
+    Result (Option A) (Error E) → Type 0
+TellsEndAt p before after r = (p < greatest_offset → TellsEnd before after r) ×
+    (p ≡ greatest_offset → r ≡ Err TooLong)
+
+-- a call that reads the next item, which would begin at offset p, within so many levels, of a
+-- reader that can or cannot fail before its end: what it says of the end; or otherwise what a call
+-- says that reads one value there, where P holds of the tree if reading is one call of `value`
+pub record ReadsNextFrom {T A E : Type 0} (can_fail : Bool) (p l : ℕ) (reading : Reading T A)
+    (before after : Option (List ℕ)) (End : Type 0) (P : Result Tree (Error E) → Type 0)
+    (r : Result (Option T) (Error E)) : Type 0 where
+  pub end : End
   pub ok : Otherwise r (λ q. TakesGiven (Some l) reading.taken before after
       (read_as reading.content q))
-  pub refused : Otherwise r (λ q. RefusesTaken 0 (Some l) reading.taken before
+  pub refused : Otherwise r (λ q. RefusesTaken p (Some l) reading.taken before
       (left_at_failure can_fail after) (read_as reading.content q))
   pub memory : IfErr r (λ e. IsGrantedFault (fault_of (left_at_failure can_fail after) e)
       reading.needs_memory)
   pub taken : TakesBeginning before after
-  pub value : Otherwise r (λ q. IfSome reading.whole (λ tree. ReadsWhole any before l after
+  pub value : Otherwise r (λ q. IfSome reading.whole (λ tree. P
       (read_as (λ v. tree (reading.content v)) q)))
+
+-- the bytes begin at offset 0
+abbrev pub ReadsNextAsTypeFrom : {T A E : Type 0} → Bool → ℕ → Reading T A → Option (List ℕ) →
+    Option (List ℕ) → Result (Option T) (Error E) → Type 0
+ReadsNextAsTypeFrom can_fail l reading before after r = ReadsNextFrom can_fail 0 l reading before
+    after (TellsEnd before after r) (ReadsWhole any before l after) r
 
 -- the same of any reader
 abbrev pub ReadsNextAsType : {T A E : Type 0} → ℕ → Reading T A → Option (List ℕ) →
     Option (List ℕ) → Result (Option T) (Error E) → Type 0
 ReadsNextAsType l reading before after r = ReadsNextAsTypeFrom true l reading before after r
+
+-- they begin at offset p
+abbrev pub ReadsNextAtFrom : {T A E : Type 0} → Bool → ℕ → ℕ → Reading T A → Option (List ℕ) →
+    Option (List ℕ) → Result (Option T) (Error E) → Type 0
+ReadsNextAtFrom can_fail p l reading before after r = ReadsNextFrom can_fail p l reading before
+    after (TellsEndAt p before after r) (TakesBytes any p before l after) r
+
+-- the same of any reader
+abbrev pub ReadsNextAt : {T A E : Type 0} → ℕ → ℕ → Reading T A → Option (List ℕ) →
+    Option (List ℕ) → Result (Option T) (Error E) → Type 0
+ReadsNextAt p l reading before after r = ReadsNextAtFrom true p l reading before after r
+
+-- P holds where the answer is an item, and Q where it is the end or an error
+abbrev pub MatchItem : {A E : Type 0} → Result (Option A) E → Type 0 → Type 0 → Type 0
+MatchItem (Ok None) P Q = Q
+MatchItem (Ok (Some v)) P Q = P
+MatchItem (Err e) P Q = Q
+
+-- from offset p to offset q some bytes were taken, a beginning of those that are known, and nothing
+-- else
+abbrev pub TakesTo : ℕ → ℕ → Option (List ℕ) → Option (List ℕ) → Type 0
+TakesTo p q before after = (s : List ℕ) × Consumes before after s × (q ≡ p + length s)
+
+-- the offset of what comes next was p, and is q: behind an item it has moved by the bytes that were
+-- taken, and otherwise it stays
+abbrev pub MovesOffset : {A E : Type 0} → ℕ → ℕ → Option (List ℕ) → Option (List ℕ) →
+    Result (Option A) E → Type 0
+MovesOffset p q before after r = MatchItem r (TakesTo p q before after) (q ≡ p)
 
 -- ---- how it is read
 
@@ -76,11 +122,11 @@ IfNotEnded (Ok None) P = ⊥
 IfNotEnded (Ok (Some v)) P = P (Ok v)
 IfNotEnded (Err e) P = P (Err e)
 
--- the source, where this head was pulled first and is pending
-abbrev pub behind_head : {S W : Type 0} → ByteSource S W → Header → ByteSource S W
-behind_head s h = record {
+-- the source, where this head was pulled first, at offset p, and is pending
+abbrev pub behind_head : {S W : Type 0} → ByteSource S W → ℕ → Header → ByteSource S W
+behind_head s p h = record {
   decoder = s.decoder;
-  pending = Some (h, 0);
+  pending = Some (h, p);
   levels = s.levels;
   scratch = s.scratch;
   failure = s.failure;

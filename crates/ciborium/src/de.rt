@@ -1,10 +1,12 @@
 //! Bytes to values.
 
 ghost use Rattle.std.specs.Prelude.{◌≡◌, IfErr, IfNone, IfSome, None, Ok, Some};
+ghost use Rattle.ciborium_ll.specs.Decoding.{offset_of};
 ghost use Rattle.ciborium_value.specs.Sources.{TakesOnly};
 ghost use Rattle.ciborium.specs.Errors.{HasEndedBy};
-ghost use Rattle.ciborium.specs.NextItems.{IfNotEnded, IsReadFrom, ReadsNextAsType};
-ghost use Rattle.ciborium.specs.NextItems.{ReadsNextAsTypeFrom, behind_head};
+ghost use Rattle.ciborium.specs.NextItems.{IfNotEnded, IsReadFrom, MatchItem, MovesOffset};
+ghost use Rattle.ciborium.specs.NextItems.{ReadsNextAsType, ReadsNextAsTypeFrom, ReadsNextAt};
+ghost use Rattle.ciborium.specs.NextItems.{ReadsNextAtFrom, behind_head};
 ghost use Rattle.ciborium_value.specs.Spelling.{any};
 ghost use Rattle.ciborium.specs.TypedAnswers.{ReadsAsType, ReadsAsTypeFrom};
 ghost use Rattle.ciborium.specs.ValueAnswers.{TakesBytes};
@@ -26,8 +28,8 @@ mod spelling;
 mod tags;
 
 pub use buffered::{
-    from_buf_reader, from_buf_reader_next, from_buf_reader_next_with_recursion_limit,
-    from_buf_reader_with_recursion_limit,
+    from_buf_reader, from_buf_reader_next, from_buf_reader_next_at,
+    from_buf_reader_next_with_recursion_limit, from_buf_reader_with_recursion_limit,
 };
 use byte_source::ByteSource;
 use ciborium_ll::{Access, Decoder, Header, Plain};
@@ -188,24 +190,58 @@ pub fn from_reader_at<T: Deserialize, R: Read>(
     read_at::<T, R, Plain>(alloc, reader, offset, &mut scratch, limit)
 }
 
-// Reads the item that a source's first head begins, or answers the end where there is no head.
+// Reads the item that a source's first head begins, at an offset, which is then that behind it; or
+// answers the end where there is no head.
 fn read_item<T: Deserialize, R, A: Access<R>>(
     alloc: Global,
     source: &mut ByteSource<'_, R, A>,
     first: Option<Header>,
+    offset: &mut usize,
 ) -> Result<Option<T>, Error<io::Error>>
     ensures only { TakesOnly (HasTakenSince A.remaining) source.old source.new }
     ensures end { IfNone first
         ((result ≡ Ok None) × (source.new.decoder ≡ source.old.decoder)) }
     ensures item { IfSome first (λ header. IfNotEnded result (λ r. IsReadFrom A.can_fail
-        A.remaining T.reading (behind_head source.old header) source.new r)) }
+        A.remaining T.reading (behind_head source.old offset.old header) source.new r)) }
+    ensures counted { MatchItem result (offset.new ≡ offset_of source.new.decoder)
+        (offset.new ≡ offset.old) }
 {
     let Some(header) = first else {
         return Ok(None);
     };
-    source.pending = Some((header, 0));
+    source.pending = Some((header, *offset));
     let value = read_from(alloc, source)?;
+    *offset = source.decoder.offset();
     Ok(Some(value))
+}
+
+// Reads the next item of a sequence from a source of its own, before which `*offset` bytes stand.
+fn read_next_at<T: Deserialize, R, A: Access<R>>(
+    alloc: Global,
+    reader: &mut R,
+    offset: &mut usize,
+    scratch: &mut [u8],
+    limit: usize,
+) -> Result<Option<T>, Error<io::Error>>
+    ensures next { ReadsNextAtFrom A.can_fail offset.old limit T.reading (A.remaining reader.old)
+        (A.remaining reader.new) result }
+    ensures moved { MovesOffset offset.old offset.new (A.remaining reader.old)
+        (A.remaining reader.new) result }
+{
+    let begin = *offset;
+    if begin == usize::MAX {
+        // No head fits there.
+        return Err(Error::TooLong);
+    }
+    let mut source = ByteSource {
+        decoder: Decoder::<R, A>::begin(reader, begin),
+        pending: None,
+        levels: limit,
+        scratch,
+        failure: None,
+    };
+    let first = source.decoder.pull_first()?;
+    read_item(alloc, &mut source, first, offset)
 }
 
 // Reads the next item of a sequence from a source of its own.
@@ -218,15 +254,8 @@ fn read_next<T: Deserialize, R, A: Access<R>>(
     ensures { ReadsNextAsTypeFrom A.can_fail limit T.reading (A.remaining reader.old)
         (A.remaining reader.new) result }
 {
-    let mut source = ByteSource {
-        decoder: Decoder::<R, A>::begin(reader, 0),
-        pending: None,
-        levels: limit,
-        scratch,
-        failure: None,
-    };
-    let first = source.decoder.pull_first()?;
-    read_item(alloc, &mut source, first)
+    let mut offset = 0;
+    read_next_at::<T, R, A>(alloc, reader, &mut offset, scratch, limit)
 }
 
 /// Reads the next item of a CBOR sequence (RFC 8742, section 2) as `from_reader` reads a value, or
@@ -264,4 +293,31 @@ pub fn from_reader_next_with_recursion_limit<T: Deserialize, R: Read>(
 {
     let mut scratch = [0u8; SCRATCH_SIZE];
     read_next::<T, R, Plain>(alloc, reader, &mut scratch, recursion_limit)
+}
+
+/// Reads the next item as `from_reader_next_with_recursion_limit` does, from a stream in which
+/// `*offset` bytes stand before it. Behind an item `*offset` is where the next one begins: it has
+/// grown by the bytes of the item, which are those that were taken. At the end, and at every error,
+/// it stays. So it always says where the last whole item ended, for instance in order to cut a file
+/// there. Offsets in errors count from the beginning of the stream.
+///
+/// # Errors
+///
+/// Those of `from_reader_next`, with `RecursionLimitExceeded` for this limit, and `TooLong` where
+/// the item would pass the greatest offset. Where `*offset` is `usize::MAX` nothing is read, and
+/// the answer is `TooLong` even if nothing is left. `Error::is_cut_short` tells whether the stream
+/// ends within the item.
+pub fn from_reader_next_at<T: Deserialize, R: Read>(
+    alloc: Global,
+    reader: &mut R,
+    offset: &mut usize,
+    limit: usize,
+) -> Result<Option<T>, Error<io::Error>>
+    ensures next { ReadsNextAt offset.old limit T.reading (R.remaining reader.old)
+        (R.remaining reader.new) result }
+    ensures moved { MovesOffset offset.old offset.new (R.remaining reader.old)
+        (R.remaining reader.new) result }
+{
+    let mut scratch = [0u8; SCRATCH_SIZE];
+    read_next_at::<T, R, Plain>(alloc, reader, offset, &mut scratch, limit)
 }

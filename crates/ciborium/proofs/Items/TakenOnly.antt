@@ -15,6 +15,7 @@ use Rattle.ciborium_value.specs.Sources.{TakesOnly}
 use Rattle.ciborium.specs.declared.de.byte_source.ByteSource.{ByteSource}
 use Rattle.ciborium.specs.inner.ByteSources.{HasTaken, IsUnread, IsUnreadBy, end_at, known_end, reader_of}
 use Rattle.ciborium.specs.inner.Unread.{IsRest, ending}
+use Rattle.ciborium.specs.NextItems.{TakesTo}
 use Rattle.ciborium.specs.TypedAnswers.{TakesBeginning}
 
 -- whatever holds of the bytes
@@ -75,15 +76,22 @@ takes-none remaining old new name count left first (named, taken) =
     )
 
 -- from a decoder that was begun on a lent reader to the reader
-pub taken-beginning : {S W : Type 0} (remaining : S → Option (List ℕ)) (old new : Decoder S W) (lent x : S) (p : ℕ) →
+pub taken-to : {S W : Type 0} (remaining : S → Option (List ℕ)) (old new : Decoder S W) (lent x : S) (p : ℕ) →
     HasBegun old lent p → (old.reader.ghost_name ≡ new.reader.ghost_name → x ≡ new.reader.now) →
-    HasTaken remaining old new → TakesBeginning (remaining lent) (remaining x)
+    HasTaken remaining old new → TakesTo p new.counter.count (remaining lent) (remaining x)
 unfolding HasTaken
-taken-beginning remaining old new lent x p begins back (name, (b, consumes, counted, none, bytes)) = (
+taken-to remaining old new lent x p begins back (name, (b, consumes, counted, none, bytes)) = (
   b,
   subst (λ o. Consumes (remaining lent) o b) (sym (ap remaining (back (sym name))))
       (subst (λ o. Consumes o (left_of remaining new) b) (begun-left remaining old lent p begins) consumes),
+  counted ∙ ap (λ n. n + length b) begins.count,
 )
+
+pub taken-beginning : {S W : Type 0} (remaining : S → Option (List ℕ)) (old new : Decoder S W) (lent x : S) (p : ℕ) →
+    HasBegun old lent p → (old.reader.ghost_name ≡ new.reader.ghost_name → x ≡ new.reader.now) →
+    HasTaken remaining old new → TakesBeginning (remaining lent) (remaining x)
+taken-beginning remaining old new lent x p begins back taken =
+    let (b, consumes, counted) = taken-to remaining old new lent x p begins back taken in (b, consumes)
 
 -- ---- where what is there ends
 

@@ -1,18 +1,22 @@
 -- From the head that was pulled first, and what is read behind it, to the reader of a sequence.
-use Rattle.std.proofs.Common.{◌≡◌, ℕ, ◌+◌, ◌<◌, Bool, List, [], ◌++◌, length, Option, Some, None, Result, Ok, Err}
-use Rattle.std.proofs.Common.{IfErr, IfNone, IfSome, refl, sym, ap, ◌∙◌, subst, append_assoc, arith, length-append}
+use Rattle.std.proofs.Common.{◌≡◌, ℕ, ◌+◌, ◌<◌, Bool, List, [], ◌∷◌, ◌++◌, length, Option, Some, None, Result, Ok}
+use Rattle.std.proofs.Common.{Err, IfErr, IfNone, IfSome, refl, sym, ap, ◌∙◌, subst, append_assoc, arith, lit<}
+use Rattle.std.proofs.Common.{length-append}
 use Rattle.std.specs.Io.KnownBytes.{Consumes, IsAtEnd}
-use Rattle.std.proofs.KnownBytes.{Consumes-trans}
+use Rattle.std.proofs.KnownBytes.{Consumes-nil, Consumes-trans}
 use Rattle.std.proofs.lemmas.List.Elements.{All-append}
 use Rattle.ciborium_ll.specs.declared.header.Header.{Header}
 use Rattle.ciborium_ll.specs.declared.header.Error.{Error as LlError}
 use Rattle.ciborium_ll.specs.declared.header.Error.TheVariants as ll
 use Rattle.ciborium_ll.specs.declared.decoder.Decoder.{Decoder}
 use Rattle.ciborium_ll.specs.Accesses.{HasEnded, left_at_failure}
-use Rattle.ciborium_ll.specs.Decoding.{HasBegun, IsAheadBy, Takes, with_left, left_of, HasSameReader}
+use Rattle.ciborium_ll.specs.Bytes.{greatest_offset}
+use Rattle.ciborium_ll.specs.Decoding.{HasBegun, HasSameReader, IsAheadBy, Takes, left_of, next_offset, offset_of}
+use Rattle.ciborium_ll.specs.Decoding.{with_left}
 use Rattle.ciborium_ll.specs.FirstHeads as first_heads
 use Rattle.ciborium_ll.specs.FirstHeads.{IsEndOrFault, IsFirstTaken}
 use Rattle.ciborium_ll.specs.ReaderSteps.{Advances, IsHeadTaken}
+use Rattle.ciborium_ll.specs.Refusal as refusal
 use Rattle.ciborium_ll.specs.Refusal.{HeadRefuses, IsUsable}
 use Rattle.ciborium_ll.proofs.Unread.{reads-head}
 use Rattle.ciborium_ll.proofs.Decoders.{begun-left}
@@ -22,15 +26,17 @@ use Rattle.ciborium_value.specs.Sources.{IsGrantedFault, IsOutsideFault, TakesOn
 use Rattle.ciborium_value.specs.View.{read_as}
 use Rattle.ciborium_value.specs.Taken.{Taken, outcome}
 use Rattle.ciborium_value.specs.Tree.{Tree}
+use Rattle.ciborium_value.proofs.GoodItems.Spelled.{spells-pos}
 use Rattle.ciborium_value.proofs.Sources.Sequences.{fault_outside}
 use Rattle.ciborium.specs.declared.de.byte_source.ByteSource.{ByteSource}
 use Rattle.ciborium.specs.declared.de.error.Error.{Error}
+use Rattle.ciborium.specs.declared.de.error.Error.TheVariants.{TooLong}
 use Rattle.ciborium.specs.ValueAnswers.{TakesBytes}
 use Rattle.ciborium.specs.ValueClauses.{ReadsWhole}
 use Rattle.ciborium.specs.inner.ByteSources.{HasTakenSince, IsUnread, ReadsValue, end_at}
 use Rattle.ciborium.specs.Errors.{fault_of, from_ll}
-use Rattle.ciborium.specs.NextItems.{IfNotEnded, IsReadIo, IsReadFrom, Otherwise, ReadsNextAsTypeFrom, TellsEnd}
-use Rattle.ciborium.specs.NextItems.{behind_head}
+use Rattle.ciborium.specs.NextItems.{IfNotEnded, IsReadIo, IsReadFrom, MatchItem, MovesOffset, Otherwise}
+use Rattle.ciborium.specs.NextItems.{ReadsNextAsTypeFrom, ReadsNextAtFrom, TakesTo, TellsEnd, behind_head}
 use Rattle.ciborium.specs.TypedAnswers.{IsFaultAhead, RefusesTaken, TakesGiven}
 use Rattle.ciborium_value.specs.Spelling.{any}
 use Rattle.ciborium.proofs.Items.FrontReads.{ended-ll, failed-fault, granted-head, head-outside}
@@ -38,7 +44,7 @@ use Rattle.ciborium.proofs.Readers.HandedReaders.{handed-denied, handed-given, h
 use Rattle.ciborium.proofs.Items.ItemHeads.{first-head, first-payload, header_of}
 use Rattle.ciborium.proofs.Readers.KnownReaders.{whole-of}
 use Rattle.ciborium.proofs.Turns.Pulled.{refused-from, refused-map}
-use Rattle.ciborium.proofs.Items.TakenOnly.{taken-beginning, taken-none, taken-then, takes-end, takes-only}
+use Rattle.ciborium.proofs.Items.TakenOnly.{taken-beginning, taken-none, taken-then, taken-to, takes-end, takes-only}
 use Rattle.ciborium.proofs.Readers.WhateverFollows.{taken-tree}
 
 -- what an answer says where none is the end
@@ -48,32 +54,29 @@ end-says r P is = subst (λ q. Otherwise q P) (sym is) tt
 -- ---- the head that was pulled first: d was begun on the reader that was lent, and has pulled it
 
 module _ {S W : Type 0} (E : Type 0) (can_fail : Bool) (remaining : S → Option (List ℕ)) (d : Decoder S W)
-    (s : ByteSource S W) (lent : S)
-    (begins : HasBegun d lent 0) (same : HasSameReader d s.decoder) (h : Header)
+    (s : ByteSource S W) (lent : S) (p : ℕ)
+    (begins : HasBegun d lent p) (same : HasSameReader d s.decoder) (h : Header)
     (taken : Takes remaining d s.decoder (λ b. IsHeadTaken {E = E} b d.counter.count (Ok h))) where
-  zero-count : d.counter.count ≡ 0
-  zero-count = begins.count
-
   -- it is pending
-  front : (b : List ℕ) → remaining lent ≡ Some b → IsUnread remaining (behind_head s h) b
+  front : (b : List ℕ) → remaining lent ≡ Some b → IsUnread remaining (behind_head s p h) b
   front b known =
       let (x, r, spelled, usable, split, count, left) =
       reads-head {E = E} (left_of remaining d) (left_of remaining s.decoder) b d.counter.count s.decoder.counter.count
-      (Ok h) (begun-left remaining d lent 0 begins ∙ known) taken in (
+      (Ok h) (begun-left remaining d lent p begins ∙ known) taken in (
         x,
         r,
         spelled,
         split,
         left,
         λ fixed. (
-          subst (IsUsable b) zero-count usable,
+          subst (IsUsable b) begins.count usable,
           count ∙
-              ap (λ n. n + length x) zero-count,
+              ap (λ n. n + length x) begins.count,
         ),
       )
 
   -- whatever follows it
-  front-any : (u : List ℕ) → IsAheadBy Some (with_left s.decoder u) (taken.0 ++ u) 0 (Some (h, 0))
+  front-any : (u : List ℕ) → IsAheadBy Some (with_left s.decoder u) (taken.0 ++ u) p (Some (h, p))
   front-any u =
       let (x, consumed, count, t, bytes) = taken in
       let (y, r, spelled, usable, split, sum, left) = reads-head {E = E} (Some (x ++ u)) (Some u) (x ++ u)
@@ -82,33 +85,33 @@ module _ {S W : Type 0} (E : Type 0) (can_fail : Bool) (remaining : S → Option
         y,
         r,
         spelled,
-        subst (IsUsable (x ++ u)) zero-count usable,
+        subst (IsUsable (x ++ u)) begins.count usable,
         split,
-        sum ∙ ap (λ n. n + length y) zero-count,
+        sum ∙ ap (λ n. n + length y) begins.count,
         left,
       )
 
   -- with the bytes that were taken behind it
   joined : (t : ByteSource S W) (x : S) (r : Result Tree (Error E)) →
       (s.decoder.reader.ghost_name ≡ t.decoder.reader.ghost_name → x ≡ t.decoder.reader.now) →
-      ReadsValue {E = E} can_fail remaining (behind_head s h) t r →
-      TakesBytes {E = E} any 0 (remaining lent) s.levels (remaining x) r
+      ReadsValue {E = E} can_fail remaining (behind_head s p h) t r →
+      TakesBytes {E = E} any p (remaining lent) s.levels (remaining x) r
   joined t x r back reads =
       let (b, consumed, count, head, bytes) = taken in
       let (kept, ended, (c, more, sum, f, low)) = reads in
-      let zero = zero-count in
+      let begun : d.counter.count ≡ p = begins.count in
       let less = t.decoder.counter.fits in
       let after : remaining x ≡ left_of remaining t.decoder = ap remaining (back (sym kept)) in (
         b ++ c,
         subst (λ o. Consumes (remaining lent) o (b ++ c)) (sym after)
             (Consumes-trans (remaining lent) (left_of remaining s.decoder) (left_of remaining t.decoder) b c
-            (subst (λ y. Consumes y (left_of remaining s.decoder) b) (begun-left remaining d lent 0 begins) consumed)
+            (subst (λ y. Consumes y (left_of remaining s.decoder) b) (begun-left remaining d lent p begins) consumed)
             more),
-        omega (arith, count, sum, zero, less, length-append b c),
-        taken-tree E any t.decoder s.levels 0 (b ++ c) r (on-ok r t.unpushed)
+        omega (arith, count, sum, begun, less, length-append b c),
+        taken-tree E any t.decoder s.levels p (b ++ c) r (on-ok r t.unpushed)
             (λ z. subst (λ u. Rattle.ciborium.specs.inner.Turns.IsTreeRead {S = List ℕ} {E = E} any Some
-            (with_left t.decoder z) s.levels u 0 r) (sym (append_assoc b c z))
-            (f z (b ++ (c ++ z)) 0 (front-any (c ++ z)))),
+            (with_left t.decoder z) s.levels u p r) (sym (append_assoc b c z))
+            (f z (b ++ (c ++ z)) p (front-any (c ++ z)))),
         All-append (λ n. n < 256) b c bytes low,
       )
 
@@ -116,11 +119,11 @@ module _ {S W : Type 0} (E : Type 0) (can_fail : Bool) (remaining : S → Option
 
 module _ {S W T A : Type 0} (E : Type 0) (can_fail : Bool) (remaining : S →
     Option (List ℕ)) (reading : Reading T A) (d : Decoder S W)
-    (s t : ByteSource S W) (lent x : S) (begins : HasBegun d lent 0) (kept : HasSameReader d s.decoder) where
+    (s t : ByteSource S W) (lent x : S) (p : ℕ) (begins : HasBegun d lent p) (kept : HasSameReader d s.decoder) where
   -- what is known of the answer behind the first head
   abbrev pub Behind : Option Header → Result (Option T) (Error E) → Type 0
   Behind first r = IfSome first (λ h. IfNotEnded r (λ q. IsReadFrom {E = E} can_fail remaining reading
-      (behind_head s h) t q))
+      (behind_head s p h) t q))
 
   abbrev pub End : Option Header → Result (Option T) (Error E) → Type 0
   End first r = IfNone first ((r ≡ Ok None) × (t.decoder ≡ s.decoder))
@@ -128,8 +131,8 @@ module _ {S W T A : Type 0} (E : Type 0) (can_fail : Bool) (remaining : S →
   abbrev pub First : Option Header → Type 0
   First first = Takes remaining d s.decoder (λ b. IsFirstTaken {E = E} b d.counter.count (Ok first))
 
-  ends : (b : List ℕ) → remaining lent ≡ Some b → (h : Header) → First (Some h) → end_at remaining s ≡ 0 + length b
-  ends b known h taken = takes-end remaining d s.decoder _ b (begun-left remaining d lent 0 begins ∙ known) taken ∙
+  ends : (b : List ℕ) → remaining lent ≡ Some b → (h : Header) → First (Some h) → end_at remaining s ≡ p + length b
+  ends b known h taken = takes-end remaining d s.decoder _ b (begun-left remaining d lent p begins ∙ known) taken ∙
       ap (λ n. n + length b) begins.count
 
   module _ (back : s.decoder.reader.ghost_name ≡ t.decoder.reader.ghost_name → x ≡ t.decoder.reader.now) where
@@ -142,15 +145,15 @@ module _ {S W T A : Type 0} (E : Type 0) (can_fail : Bool) (remaining : S →
         ap (λ (u : Decoder S W). u.reader.now) same in
         subst (λ q. TellsEnd {E = E} (remaining lent) (remaining x) q) (sym is) (
           subst (λ y. Consumes (remaining lent) (remaining y) []) (sym after)
-              (subst (λ y. Consumes y (left_of remaining s.decoder) []) (begun-left remaining d lent 0 begins)
+              (subst (λ y. Consumes y (left_of remaining s.decoder) []) (begun-left remaining d lent p begins)
               (subst (λ z. Consumes (left_of remaining d) (left_of remaining s.decoder) z) none consumed)),
           subst (λ y. IsAtEnd (remaining y)) (sym after) end,
         )
     tells-end (Some h) (Ok None) taken end empty none item = absurd item
     tells-end (Some h) (Ok (Some v)) taken end empty none item =
-        λ known. empty (begun-left remaining d lent 0 begins ∙ known)
+        λ known. empty (begun-left remaining d lent p begins ∙ known)
     tells-end (Some h) (Err e) taken end empty none item =
-        λ known. absurd (empty (begun-left remaining d lent 0 begins ∙ known))
+        λ known. absurd (empty (begun-left remaining d lent p begins ∙ known))
 
     next-ok : (first : Option Header) (r : Result (Option T) (Error E)) → First first → End first r →
         Behind first r →
@@ -160,38 +163,37 @@ module _ {S W T A : Type 0} (E : Type 0) (can_fail : Bool) (remaining : S →
         (remaining x) (read_as reading.content q)) is
     next-ok (Some h) (Ok None) taken none item = absurd item
     next-ok (Some h) (Ok (Some v)) taken none item = λ b known. handed-given E can_fail remaining reading
-        (behind_head s h) t b 0 (front E can_fail remaining d s lent begins kept h taken b known)
+        (behind_head s p h) t b p (front E can_fail remaining d s lent p begins kept h taken b known)
         (ends b known h taken) x back (Ok v) item
     next-ok (Some h) (Err e) taken none item = λ b known. tt
 
     next-value : (first : Option Header) (r : Result (Option T) (Error E)) → First first → End first r →
         Behind first r →
-        Otherwise r (λ q. IfSome reading.whole (λ tree. ReadsWhole any (remaining lent) s.levels (remaining x)
+        Otherwise r (λ q. IfSome reading.whole (λ tree. TakesBytes any p (remaining lent) s.levels (remaining x)
         (read_as (λ v. tree (reading.content v)) q)))
     next-value None r taken (is, same) item = end-says r
-        (λ q. IfSome reading.whole (λ tree. ReadsWhole any (remaining lent) s.levels (remaining x)
+        (λ q. IfSome reading.whole (λ tree. TakesBytes any p (remaining lent) s.levels (remaining x)
         (read_as (λ v. tree (reading.content v)) q))) is
     next-value (Some h) (Ok None) taken none item = absurd item
     next-value (Some h) (Ok (Some v)) taken none item =
-        some-map reading.whole item.whole (λ tree reads. whole-of {E = E} any s.levels (remaining lent) (remaining x)
-        (Ok (tree (reading.content v))) (joined E can_fail remaining d s lent begins kept h taken t x
-        (Ok (tree (reading.content v))) back reads))
+        some-map reading.whole item.whole (λ tree reads. joined E can_fail remaining d s lent p begins kept h taken t x
+        (Ok (tree (reading.content v))) back reads)
     next-value (Some h) (Err e) taken none item =
-        some-map reading.whole item.whole (λ tree reads. whole-of {E = E} any s.levels (remaining lent) (remaining x)
-        (Err e) (joined E can_fail remaining d s lent begins kept h taken t x (Err e) back reads))
+        some-map reading.whole item.whole (λ tree reads. joined E can_fail remaining d s lent p begins kept h taken t x
+        (Err e) back reads)
 
     next-refused : (first : Option Header) (r : Result (Option T) (Error E)) → First first → End first r →
-        Behind first r → Otherwise r (λ q. RefusesTaken 0 (Some s.levels) reading.taken (remaining lent)
+        Behind first r → Otherwise r (λ q. RefusesTaken p (Some s.levels) reading.taken (remaining lent)
         (left_at_failure can_fail (remaining x))
         (read_as reading.content q))
     next-refused None r taken (is, same) item = end-says r
-        (λ q. RefusesTaken 0 (Some s.levels) reading.taken (remaining lent)
+        (λ q. RefusesTaken p (Some s.levels) reading.taken (remaining lent)
         (left_at_failure can_fail (remaining x))
         (read_as reading.content q)) is
     next-refused (Some h) (Ok None) taken none item = absurd item
     next-refused (Some h) (Ok (Some v)) taken none item = λ b known. tt
     next-refused (Some h) (Err e) taken none item = λ b known. handed-denied E can_fail remaining reading
-        (behind_head s h) t b 0 (front E can_fail remaining d s lent begins kept h taken b known)
+        (behind_head s p h) t b p (front E can_fail remaining d s lent p begins kept h taken b known)
         (ends b known h taken) x back (Err e) item
 
     next-memory : (first : Option Header) (r : Result (Option T) (Error E)) → End first r → Behind first r →
@@ -201,26 +203,41 @@ module _ {S W T A : Type 0} (E : Type 0) (can_fail : Bool) (remaining : S →
         (remaining x)) e) reading.needs_memory)) (sym is) tt
     next-memory (Some h) (Ok v) none item = tt
     next-memory (Some h) (Err e) none item =
-        handed-memory E can_fail remaining reading (behind_head s h) t x back (Err e) item
+        handed-memory E can_fail remaining reading (behind_head s p h) t x back (Err e) item
+
+  -- the offset behind an item is where the source stands
+  moves-offset : (r : Result (Option T) (Error E)) (q : ℕ) → TakesTo p t.decoder.counter.count (remaining lent)
+      (remaining x) → MatchItem r (q ≡ offset_of t.decoder) (q ≡ p) → MovesOffset p q (remaining lent) (remaining x) r
+  moves-offset (Ok (Some v)) q (b, consumes, counted) at =
+      (b, consumes, at ∙ (ap (next_offset t.decoder.counter.count) t.unpushed ∙ counted))
+  moves-offset (Ok None) q taken at = at
+  moves-offset (Err e) q taken at = at
 
   -- all of it
   pub reads-next : (s.decoder.reader.ghost_name ≡ t.decoder.reader.ghost_name → x ≡ t.decoder.reader.now) →
-      TakesOnly (HasTakenSince remaining) s t → (first : Option Header) (r : Result (Option T) (Error E)) →
+      p < greatest_offset → TakesOnly (HasTakenSince remaining) s t →
+      (first : Option Header) (r : Result (Option T) (Error E)) (q : ℕ) →
+      MatchItem r (q ≡ offset_of t.decoder) (q ≡ p) →
       First first → IfNone first (IsAtEnd (left_of remaining s.decoder)) →
       (left_of remaining d ≡ Some [] → IsEndOrFault {E = E} (Ok first)) → End first r → Behind first r →
-      ReadsNextAsTypeFrom can_fail s.levels reading (remaining lent) (remaining x) r
-  reads-next back only first r taken end empty none item =
-      let same = kept in record {
-        end = tells-end back first r taken end empty none item;
-        ok = next-ok back first r taken none item;
-        refused = next-refused back first r taken none item;
-        memory = next-memory back first r none item;
-        taken = taken-beginning remaining d t.decoder lent x 0 begins (λ e. back (same ∙ e))
-            (taken-then remaining d s.decoder t.decoder
-            (takes-only remaining d s.decoder _ same taken d (taken-none remaining d))
-            (only s (taken-none remaining s.decoder)));
-        value = next-value back first r taken none item;
-      }
+      ReadsNextAtFrom can_fail p s.levels reading (remaining lent) (remaining x) r ×
+      MovesOffset p q (remaining lent) (remaining x) r
+  reads-next back less only first r q at taken end empty none item =
+      let same = kept in
+      let all = taken-to remaining d t.decoder lent x p begins (λ e. back (same ∙ e))
+      (taken-then remaining d s.decoder t.decoder
+      (takes-only remaining d s.decoder _ same taken d (taken-none remaining d))
+      (only s (taken-none remaining s.decoder))) in (
+        record {
+          end = ((λ _. tells-end back first r taken end empty none item), λ full. absurd (omega (arith, less, full)));
+          ok = next-ok back first r taken none item;
+          refused = next-refused back first r taken none item;
+          memory = next-memory back first r none item;
+          taken = (all.0, all.1);
+          value = next-value back first r taken none item;
+        },
+        moves-offset r q all at,
+      )
 
 -- ---- the first head was refused
 
@@ -235,40 +252,40 @@ first-io ll.TooLong h = h
 first-io ll.Memory h = h
 
 module _ {S W : Type 0} (E : Type 0) (can_fail : Bool) (remaining : S → Option (List ℕ)) (d e : Decoder S W) (lent : S)
-    (begins : HasBegun d lent 0) (same : HasSameReader d e) (x : LlError E)
+    (p : ℕ) (begins : HasBegun d lent p) (same : HasSameReader d e) (x : LlError E)
     (ended : HasEnded can_fail (left_of remaining e) x)
     (taken : Takes remaining d e (λ b. IsHeadTaken {E = E} b d.counter.count (Err x))) where
   first-denied : {A : Type 0} (l : Option ℕ) (given : Taken A) (b : List ℕ) → remaining lent ≡ Some b →
-      IsFaultAhead 0 l given b (fault_of (left_at_failure can_fail (remaining e.reader.now)) (from_ll x))
+      IsFaultAhead p l given b (fault_of (left_at_failure can_fail (remaining e.reader.now)) (from_ll x))
   first-denied l given b known i s left spelled split =
       let (y, c, head, whole) = first-head s i spelled in
       let refused = reads-head {E = E} (left_of remaining d) (left_of remaining e) b d.counter.count e.counter.count
-      (Err x) (begun-left remaining d lent 0 begins ∙ known) taken in
+      (Err x) (begun-left remaining d lent p begins ∙ known) taken in
       let there = first-payload s i spelled in
       let more = length-append c left in
       let all : length b ≡ length s + length left = ap length split ∙ length-append s left in
-      let zero = begins.count in
+      let begun : d.counter.count ≡ p = begins.count in
       fault_outside _ (fault_of (left_at_failure can_fail (remaining e.reader.now)) (from_ll x)) (outcome l (given i))
-      (subst (λ f. IsOutsideFault (0 + length s) f) (failed-fault can_fail (left_of remaining e) (from_ll x)
+      (subst (λ f. IsOutsideFault (p + length s) f) (failed-fault can_fail (left_of remaining e) (from_ll x)
       (ended-ll can_fail (left_of remaining e) x ended))
-      (head-outside (remaining e.reader.now) x b y (c ++ left) d.counter.count (length left) (0 + length s)
+      (head-outside (remaining e.reader.now) x b y (c ++ left) d.counter.count (length left) (p + length s)
       (header_of i) head (split ∙ ap (λ (z : List ℕ). z ++ left) whole ∙ append_assoc y c left)
-      (omega (arith, there, more)) (omega (arith, all, zero)) refused))
+      (omega (arith, there, more)) (omega (arith, all, begun)) refused))
 
   first-taken : (l : ℕ) (back : S) → back ≡ e.reader.now →
-      TakesBytes {E = E} any 0 (remaining lent) l (remaining back) (Err (from_ll x))
+      TakesBytes {E = E} any p (remaining lent) l (remaining back) (Err (from_ll x))
   first-taken l back given =
       let (b, consumed, count, head, bytes) = taken in
-      let zero : d.counter.count ≡ 0 = begins.count in
+      let begun : d.counter.count ≡ p = begins.count in
       let less = e.counter.fits in (
         b,
         subst (λ y. Consumes (remaining lent) (remaining y) b) (sym given)
-            (subst (λ y. Consumes y (left_of remaining e) b) (begun-left remaining d lent 0 begins) consumed),
-        omega (arith, count, zero, less),
-        (λ c. refused-map (Some c) (from_ll x) (HeadRefuses (b ++ c) 0) (λ r. Refuses any (b ++ c) 0 (Some l) r)
+            (subst (λ y. Consumes y (left_of remaining e) b) (begun-left remaining d lent p begins) consumed),
+        omega (arith, count, begun, less),
+        (λ c. refused-map (Some c) (from_ll x) (HeadRefuses (b ++ c) p) (λ r. Refuses any (b ++ c) p (Some l) r)
             (λ r h. Refuses.no_head h)
-            (refused-from (Some c) x (HeadRefuses (b ++ c) 0)
-            (subst (λ n. Rattle.ciborium_ll.specs.ReaderSteps.IsRefusalOf (Some c) x (HeadRefuses (b ++ c) n)) zero
+            (refused-from (Some c) x (HeadRefuses (b ++ c) p)
+            (subst (λ n. Rattle.ciborium_ll.specs.ReaderSteps.IsRefusalOf (Some c) x (HeadRefuses (b ++ c) n)) begun
             (reads-head {E = E} (Some (b ++ c)) (Some c) (b ++ c) d.counter.count e.counter.count (Err x) refl
             (b, refl, count, head, bytes))))),
         bytes,
@@ -276,18 +293,68 @@ module _ {S W : Type 0} (E : Type 0) (can_fail : Bool) (remaining : S → Option
 
   -- all of it
   pub refuses-first : {T A : Type 0} (l : ℕ) (reading : Reading T A) (back : S) →
-      (left_of remaining d ≡ Some [] → first_heads.IsHeadIo x) → back ≡ e.reader.now →
-      ReadsNextAsTypeFrom can_fail l reading (remaining lent) (remaining back) (Err (from_ll x))
-  refuses-first l reading back empty given = record {
-    end = λ known. first-io x (empty (begun-left remaining d lent 0 begins ∙ known));
+      (left_of remaining d ≡ Some [] → first_heads.IsHeadIo x) → back ≡ e.reader.now → p < greatest_offset →
+      ReadsNextAtFrom can_fail p l reading (remaining lent) (remaining back) (Err (from_ll x))
+  refuses-first l reading back empty given less = record {
+    end = (
+      (λ _ known. first-io x (empty (begun-left remaining d lent p begins ∙ known))),
+      λ full. absurd (omega (arith, less, full)),
+    );
     ok = λ b known. tt;
-    refused = λ b known. subst (λ y. IsFaultAhead 0 (Some l) reading.taken b
+    refused = λ b known. subst (λ y. IsFaultAhead p (Some l) reading.taken b
         (fault_of (left_at_failure can_fail (remaining y)) (from_ll x))) (sym given) (first-denied
         (Some l) reading.taken b known);
     memory = granted-head (left_at_failure can_fail (remaining back)) x taken.0 d.counter.count reading.needs_memory
         taken.3;
-    taken = taken-beginning remaining d e lent back 0 begins (λ _. given)
+    taken = taken-beginning remaining d e lent back p begins (λ _. given)
         (takes-only remaining d e _ same taken d (taken-none remaining d));
-    value = some-all reading.whole (λ tree. whole-of {E = E} any l (remaining lent) (remaining back) (Err (from_ll x))
-        (first-taken l back given));
+    value = some-all reading.whole (λ tree. first-taken l back given);
   }
+
+-- ---- at the greatest offset
+
+full-refuses : (c : List ℕ) → HeadRefuses c greatest_offset refusal.too_long
+full-refuses [] = refl
+full-refuses (x ∷ c) = refl
+
+pub refuses-full : {T A : Type 0} (E : Type 0) (can_fail : Bool) (p l : ℕ) (reading : Reading T A)
+    (before : Option (List ℕ)) → p ≡ greatest_offset →
+    ReadsNextAtFrom {E = E} can_fail p l reading before before (Err TooLong)
+refuses-full E can_fail p l reading before full = record {
+  end = ((λ less. absurd (omega (arith, less, full))), λ _. refl);
+  ok = λ b known. tt;
+  refused = λ b known i s left spelled split. let some = spells-pos i s spelled in omega (arith, full, some);
+  memory = tt;
+  taken = ([], Consumes-nil before);
+  value = some-all reading.whole (λ tree. (
+    [],
+    Consumes-nil before,
+    omega (arith, full),
+    (λ c. Refuses.no_head (subst (λ n. HeadRefuses c n refusal.too_long) (sym full) (full-refuses c))),
+    (λ k n h. absurd (omega (arith, h))),
+  ));
+}
+
+-- ---- at offset 0
+
+start-whole : {T A : Type 0} (E : Type 0) (l : ℕ) (reading : Reading T A) (before after : Option (List ℕ))
+    (r : Result (Option T) (Error E)) → Otherwise r (λ q. IfSome reading.whole (λ tree. TakesBytes any 0 before l after
+    (read_as (λ v. tree (reading.content v)) q))) → Otherwise r (λ q. IfSome reading.whole (λ tree. ReadsWhole any
+    before l after (read_as (λ v. tree (reading.content v)) q)))
+start-whole E l reading before after (Ok None) h = tt
+start-whole E l reading before after (Ok (Some v)) h = some-map reading.whole h
+    (λ tree taken. whole-of {E = E} any l before after (Ok (tree (reading.content v))) taken)
+start-whole E l reading before after (Err e) h = some-map reading.whole h
+    (λ tree taken. whole-of {E = E} any l before after (Err e) taken)
+
+pub reads-from-start : {T A : Type 0} (E : Type 0) (can_fail : Bool) (l : ℕ) (reading : Reading T A)
+    (before after : Option (List ℕ)) (r : Result (Option T) (Error E)) →
+    ReadsNextAtFrom can_fail 0 l reading before after r → ReadsNextAsTypeFrom can_fail l reading before after r
+reads-from-start E can_fail l reading before after r h = record {
+  end = h.end.0 (lit< tt);
+  ok = h.ok;
+  refused = h.refused;
+  memory = h.memory;
+  taken = h.taken;
+  value = start-whole E l reading before after r h.value;
+}

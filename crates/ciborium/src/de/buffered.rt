@@ -1,12 +1,12 @@
 //! Values from a reader with a buffer.
 
 ghost use Rattle.std.specs.Prelude.{Some};
-ghost use Rattle.ciborium.specs.NextItems.{ReadsNextAsType};
+ghost use Rattle.ciborium.specs.NextItems.{MovesOffset, ReadsNextAsType, ReadsNextAt};
 ghost use Rattle.ciborium_value.specs.Spelling.{any};
 ghost use Rattle.ciborium.specs.TypedAnswers.{ReadsAsType};
 ghost use Rattle.ciborium.specs.ValueClauses.{ReadsWhole};
 
-use super::{Deserialize, Error, RECURSION_LIMIT, SCRATCH_SIZE, read, read_next};
+use super::{Deserialize, Error, RECURSION_LIMIT, SCRATCH_SIZE, read, read_next, read_next_at};
 use ciborium_ll::Buffered;
 use std::alloc::Global;
 use std::io::{self, BufRead};
@@ -79,4 +79,24 @@ pub fn from_buf_reader_next_with_recursion_limit<T: Deserialize, R: BufRead>(
 {
     let mut scratch = [0u8; SCRATCH_SIZE];
     read_next::<T, R, Buffered>(alloc, reader, &mut scratch, recursion_limit)
+}
+
+/// Reads the next item as `from_reader_next_at` does, from a reader with a buffer.
+///
+/// # Errors
+///
+/// Those of `from_reader_next_at`.
+pub fn from_buf_reader_next_at<T: Deserialize, R: BufRead>(
+    alloc: Global,
+    reader: &mut R,
+    offset: &mut usize,
+    limit: usize,
+) -> Result<Option<T>, Error<io::Error>>
+    ensures next { ReadsNextAt offset.old limit T.reading (R.remaining reader.old)
+        (R.remaining reader.new) result }
+    ensures moved { MovesOffset offset.old offset.new (R.remaining reader.old)
+        (R.remaining reader.new) result }
+{
+    let mut scratch = [0u8; SCRATCH_SIZE];
+    read_next_at::<T, R, Buffered>(alloc, reader, offset, &mut scratch, limit)
 }
