@@ -5,6 +5,7 @@ pub mod Tags
 pub mod Literals
 pub mod ItemSequences
 pub mod NextItems
+pub mod CutItems
 pub mod SequenceWrites
 pub mod SequenceReads
 pub mod SliceAnswers

@@ -7,7 +7,7 @@ ghost use Rattle.ciborium.specs.declared.de.error.Error.TheVariants.{Io, Memory}
 
 use ciborium_value::Kind;
 use std::alloc::{AllocError, AllocFailed};
-use std::io::{self, ErrorKind};
+use std::io::{self, ErrorKind, Read};
 use std::{error, fmt};
 
 /// Why reading failed. Offsets count bytes, from where the call began to read.
@@ -37,6 +37,37 @@ impl<T> Error<T> {
         ensures { result ≡ Error.Semantic offset kind }
     {
         Error::Semantic(offset, kind)
+    }
+}
+
+impl Error<io::Error> {
+    ghost use Rattle.std.specs.Prelude.{◌↔◌, [], IfOk, IsTrue, List, Some, ℕ};
+    ghost use Rattle.ciborium.specs.CutItems.{IsEndError};
+    ghost use Rattle.ciborium.specs.TypedAnswers.{TakesBeginning};
+
+    /// Whether an item was refused since the stream ends within it, and not since its device
+    /// failed: the error is `Io` of kind `UnexpectedEof`, and the reader that the item was read
+    /// from, asked once more, gives nothing. If it gives a byte, that is taken.
+    ///
+    /// # Errors
+    ///
+    /// The reader's, where it fails when it is asked. Any other error of reading is answered with
+    /// `false`, and the reader is not asked.
+    pub fn is_cut_short<R: Read>(&self, reader: &mut R) -> io::Result<bool>
+        ensures cut { (b : List ℕ) → R.remaining reader.old ≡ Some b →
+            IfOk result (λ is_cut. IsTrue is_cut ↔ (IsEndError self.now × (b ≡ []))) }
+        // Of any reader, known or not.
+        ensures kind { IfOk result (λ is_cut. IsTrue is_cut → IsEndError self.now) }
+        ensures taken { TakesBeginning (R.remaining reader.old) (R.remaining reader.new) }
+    {
+        match self {
+            Error::Io(error) if error.kind() == ErrorKind::UnexpectedEof => {
+                let mut next = [0];
+                let taken = reader.read(&mut next)?;
+                Ok(taken == 0)
+            }
+            _ => Ok(false),
+        }
     }
 }
 
