@@ -51,12 +51,16 @@ TellsEnd before after (Ok None) = Consumes before after [] × IsAtEnd after
 TellsEnd before after (Ok (Some v)) = ¬ (before ≡ Some [])
 TellsEnd before after (Err e) = before ≡ Some [] → IsReadIo e
 
--- the same where an item would begin at offset p: at the greatest offset none does, and the answer
--- is `TooLong`
+-- the same where an item would begin at offset p. At the greatest offset none does
 abbrev pub TellsEndAt : {A E : Type 0} → ℕ → Option (List ℕ) → Option (List ℕ) →
     Result (Option A) (Error E) → Type 0
-TellsEndAt p before after r = (p < greatest_offset → TellsEnd before after r) ×
-    (p ≡ greatest_offset → r ≡ Err TooLong)
+TellsEndAt p before after (Ok None) = Consumes before after [] × IsAtEnd after
+TellsEndAt p before after (Ok (Some v)) = ¬ (before ≡ Some [])
+TellsEndAt p before after (Err e) = before ≡ Some [] → p < greatest_offset → IsReadIo e
+
+-- and there the answer is `TooLong`, whatever is left
+abbrev pub IsFullAt : {A E : Type 0} → ℕ → Result (Option A) (Error E) → Type 0
+IsFullAt p r = p ≡ greatest_offset → r ≡ Err TooLong
 
 -- a call that reads the next item, which would begin at offset p, within so many levels, of a
 -- reader that can or cannot fail before its end: what it says of the end; or otherwise what a call
@@ -90,7 +94,7 @@ ReadsNextAsType l reading before after r = ReadsNextAsTypeFrom true l reading be
 abbrev pub ReadsNextAtFrom : {T A E : Type 0} → Bool → ℕ → ℕ → Reading T A → Option (List ℕ) →
     Option (List ℕ) → Result (Option T) (Error E) → Type 0
 ReadsNextAtFrom can_fail p l reading before after r = ReadsNextFrom can_fail p l reading before
-    after (TellsEndAt p before after r) (TakesBytes any p before l after) r
+    after (TellsEndAt p before after r × IsFullAt p r) (TakesBytes any p before l after) r
 
 -- the same of any reader
 abbrev pub ReadsNextAt : {T A E : Type 0} → ℕ → ℕ → Reading T A → Option (List ℕ) →

@@ -36,7 +36,7 @@ use Rattle.ciborium.specs.ValueClauses.{ReadsWhole}
 use Rattle.ciborium.specs.inner.ByteSources.{HasTakenSince, IsUnread, ReadsValue, end_at}
 use Rattle.ciborium.specs.Errors.{fault_of, from_ll}
 use Rattle.ciborium.specs.NextItems.{IfNotEnded, IsReadIo, IsReadFrom, MatchItem, MovesOffset, Otherwise}
-use Rattle.ciborium.specs.NextItems.{ReadsNextAsTypeFrom, ReadsNextAtFrom, TakesTo, TellsEnd, behind_head}
+use Rattle.ciborium.specs.NextItems.{ReadsNextAsTypeFrom, ReadsNextAtFrom, TakesTo, TellsEnd, TellsEndAt, behind_head}
 use Rattle.ciborium.specs.TypedAnswers.{IsFaultAhead, RefusesTaken, TakesGiven}
 use Rattle.ciborium_value.specs.Spelling.{any}
 use Rattle.ciborium.proofs.Items.FrontReads.{ended-ll, failed-fault, granted-head, head-outside}
@@ -50,6 +50,12 @@ use Rattle.ciborium.proofs.Readers.WhateverFollows.{taken-tree}
 -- what an answer says where none is the end
 end-says : {A E : Type 0} (r : Result (Option A) E) (P : Result A E → Type 0) → r ≡ Ok None → Otherwise r P
 end-says r P is = subst (λ q. Otherwise q P) (sym is) tt
+
+end-at : {A E : Type 0} (p : ℕ) (before after : Option (List ℕ)) (r : Result (Option A) (Error E)) →
+    TellsEnd before after r → TellsEndAt p before after r
+end-at p before after (Ok None) h = h
+end-at p before after (Ok (Some v)) h = h
+end-at p before after (Err e) h = λ known less. h known
 
 -- ---- the head that was pulled first: d was begun on the reader that was lent, and has pulled it
 
@@ -229,7 +235,10 @@ module _ {S W T A : Type 0} (E : Type 0) (can_fail : Bool) (remaining : S →
       (takes-only remaining d s.decoder _ same taken d (taken-none remaining d))
       (only s (taken-none remaining s.decoder))) in (
         record {
-          end = ((λ _. tells-end back first r taken end empty none item), λ full. absurd (omega (arith, less, full)));
+          end = (
+            end-at p (remaining lent) (remaining x) r (tells-end back first r taken end empty none item),
+            λ full. absurd (omega (arith, less, full)),
+          );
           ok = next-ok back first r taken none item;
           refused = next-refused back first r taken none item;
           memory = next-memory back first r none item;
@@ -297,7 +306,7 @@ module _ {S W : Type 0} (E : Type 0) (can_fail : Bool) (remaining : S → Option
       ReadsNextAtFrom can_fail p l reading (remaining lent) (remaining back) (Err (from_ll x))
   refuses-first l reading back empty given less = record {
     end = (
-      (λ _ known. first-io x (empty (begun-left remaining d lent p begins ∙ known))),
+      (λ known _. first-io x (empty (begun-left remaining d lent p begins ∙ known))),
       λ full. absurd (omega (arith, less, full)),
     );
     ok = λ b known. tt;
@@ -321,7 +330,7 @@ pub refuses-full : {T A : Type 0} (E : Type 0) (can_fail : Bool) (p l : ℕ) (re
     (before : Option (List ℕ)) → p ≡ greatest_offset →
     ReadsNextAtFrom {E = E} can_fail p l reading before before (Err TooLong)
 refuses-full E can_fail p l reading before full = record {
-  end = ((λ less. absurd (omega (arith, less, full))), λ _. refl);
+  end = ((λ known less. absurd (omega (arith, less, full))), λ _. refl);
   ok = λ b known. tt;
   refused = λ b known i s left spelled split. let some = spells-pos i s spelled in omega (arith, full, some);
   memory = tt;
@@ -337,6 +346,12 @@ refuses-full E can_fail p l reading before full = record {
 
 -- ---- at offset 0
 
+start-end : {A E : Type 0} (before after : Option (List ℕ)) (r : Result (Option A) (Error E)) →
+    TellsEndAt 0 before after r → TellsEnd before after r
+start-end before after (Ok None) h = h
+start-end before after (Ok (Some v)) h = h
+start-end before after (Err e) h = λ known. h known (lit< tt)
+
 start-whole : {T A : Type 0} (E : Type 0) (l : ℕ) (reading : Reading T A) (before after : Option (List ℕ))
     (r : Result (Option T) (Error E)) → Otherwise r (λ q. IfSome reading.whole (λ tree. TakesBytes any 0 before l after
     (read_as (λ v. tree (reading.content v)) q))) → Otherwise r (λ q. IfSome reading.whole (λ tree. ReadsWhole any
@@ -351,7 +366,7 @@ pub reads-from-start : {T A : Type 0} (E : Type 0) (can_fail : Bool) (l : ℕ) (
     (before after : Option (List ℕ)) (r : Result (Option T) (Error E)) →
     ReadsNextAtFrom can_fail 0 l reading before after r → ReadsNextAsTypeFrom can_fail l reading before after r
 reads-from-start E can_fail l reading before after r h = record {
-  end = h.end.0 (lit< tt);
+  end = start-end before after r h.end.0;
   ok = h.ok;
   refused = h.refused;
   memory = h.memory;
