@@ -1,9 +1,9 @@
 mod Turns
-mod Readers
+pub mod Readers
 pub mod ReadBack
 mod Encodings
 mod Items
 mod Payloads
 mod Containers
-mod Writing
+pub mod Writing
 pub mod Refusals

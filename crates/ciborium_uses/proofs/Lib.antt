@@ -5,3 +5,4 @@ mod ReadAgain
 mod Tagged
 mod WholeItems
 mod WrittenMessages
+mod LogEnds

@@ -1,4 +1,5 @@
 pub mod Envelopes
+pub mod Logs
 pub mod Settings
 pub mod Shapes
 pub mod Topics

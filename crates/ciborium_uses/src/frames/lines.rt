@@ -2,14 +2,17 @@
 //! level, and the bytes of a log as hex.
 use super::reading::Reading;
 use super::{
-    LogError, load_log, load_sensor, read_log, save_log, through_memory, write_log, write_reading,
+    LogError, append_reading, load_log, load_sensor, mend_log, read_log, save_log, through_appends,
+    through_memory, write_log, write_reading,
 };
 use std::alloc::{AllocError, Global};
 use std::fs::File;
 
-/// Answers `write WORDS` with hex, `read HEX` with words, and `keep WORDS` with the words again. Of
-/// a file, `save PATH WORDS` makes a log of it, and so does `grow PATH WORDS`, reading by reading;
-/// `load PATH` answers its words, and `sensor PATH NAME` those of one sensor.
+/// Answers `write WORDS` with hex, `read HEX` with words, and `keep WORDS` with the words again, as
+/// `gather WORDS` does, reading by reading. Of a file, `save PATH WORDS` makes a log of it, and so
+/// does `grow PATH WORDS`, reading by reading; `append PATH WORDS` puts them behind what it holds;
+/// `load PATH` answers its words, and `sensor PATH NAME` those of one sensor; `mend PATH` cuts it
+/// behind its last whole reading, and answers how long it is.
 ///
 /// # Errors
 ///
@@ -22,10 +25,13 @@ pub fn answer(rt: &HostRuntime, line: &str) -> Result<String, AllocError> {
         "write" => write(alloc, rest),
         "read" => read(alloc, rest),
         "keep" => keep(alloc, rest),
+        "gather" => gather(alloc, rest),
         "save" => save(rt, path, words),
         "grow" => grow(rt, path, words),
+        "append" => append(rt, path, words),
         "load" => load(rt, rest),
         "sensor" => sensor(rt, path, words),
+        "mend" => mend(rt, rest),
         _ => String::from_str(alloc, "no such command").map_err(LogError::from),
     };
     match answer {
@@ -56,6 +62,12 @@ fn keep(alloc: Global, words: &str) -> Result<String, LogError> {
     Ok(show_readings(alloc, &again)?)
 }
 
+fn gather(alloc: Global, words: &str) -> Result<String, LogError> {
+    let readings = parse_readings(alloc, words)?;
+    let again = through_appends(alloc, &readings)?;
+    Ok(show_readings(alloc, &again)?)
+}
+
 fn save(rt: &HostRuntime, path: &str, words: &str) -> Result<String, LogError> {
     let readings = parse_readings(rt.alloc(), words)?;
     save_log(rt, path, &readings)?;
@@ -71,6 +83,14 @@ fn grow(rt: &HostRuntime, path: &str, words: &str) -> Result<String, LogError> {
     Ok(String::from_str(rt.alloc(), "saved")?)
 }
 
+fn append(rt: &HostRuntime, path: &str, words: &str) -> Result<String, LogError> {
+    let readings = parse_readings(rt.alloc(), words)?;
+    for reading in &readings {
+        append_reading(rt, path, reading)?;
+    }
+    Ok(String::from_str(rt.alloc(), "appended")?)
+}
+
 fn load(rt: &HostRuntime, path: &str) -> Result<String, LogError> {
     let readings = load_log(rt, path)?;
     Ok(show_readings(rt.alloc(), &readings)?)
@@ -79,6 +99,11 @@ fn load(rt: &HostRuntime, path: &str) -> Result<String, LogError> {
 fn sensor(rt: &HostRuntime, path: &str, name: &str) -> Result<String, LogError> {
     let readings = load_sensor(rt, path, name)?;
     Ok(show_readings(rt.alloc(), &readings)?)
+}
+
+fn mend(rt: &HostRuntime, path: &str) -> Result<String, LogError> {
+    let end = mend_log(rt, path)?;
+    Ok(format!(in rt.alloc(); "{end} bytes")?)
 }
 
 // The readings of words; a word that is none is passed over.
