@@ -1,5 +1,6 @@
 //! Callers that write and read sequences (RFC 8742, section 2), each with a contract of its own.
-ghost use Rattle.std.specs.Prelude.{◌≡◌, ◌≤◌, All, IfOk, IfSome, List, Ok, OnOk, Some, map, ℕ};
+ghost use Rattle.std.specs.Prelude.{◌≡◌, ◌+◌, ◌++◌, ◌≤◌, All, IfOk, IfSome, List, Ok, OnOk, Some};
+ghost use Rattle.std.specs.Prelude.{length, map, ℕ};
 ghost use Rattle.std.specs.Io.KnownBytes.{Appends};
 ghost use Rattle.ciborium.specs.Item as item;
 ghost use Rattle.ciborium.specs.Item.{Item};
@@ -12,10 +13,12 @@ ghost use Rattle.ciborium.specs.ItemSequences.{IsSequence};
 ghost use Rattle.ciborium.specs.SequenceReads.{TakesSequence};
 ghost use Rattle.ciborium.specs.SequenceWrites.{AreNamedWritten};
 
-use ciborium::de::{self, Deserialize};
+use ciborium::de::{self, Deserialize, RECURSION_LIMIT};
 use ciborium::laws::{ReadsBack, are_read_back};
 use ciborium::ser::{Error, Serialize};
-use ciborium::{Value, from_reader_next, into_writer, read_sequence, write_sequence};
+use ciborium::{
+    Value, from_reader_next, from_reader_next_at, into_writer, read_sequence, write_sequence,
+};
 use std::alloc::Global;
 use std::io::{self, Read, Write};
 
@@ -53,6 +56,25 @@ pub fn read_both<R: Read>(alloc: Global, reader: &mut R) -> Option<(Value, Value
         return None;
     };
     Some((first, second))
+}
+
+/// Reads the next message of a stream in which so many bytes stand before it, and says how many
+/// stand before what follows it: the message is just the bytes between. There is none at the end.
+pub fn message_and_end<T: Deserialize, R: Read>(
+    alloc: Global,
+    reader: &mut R,
+    begin: usize,
+) -> Result<Option<(T, usize)>, de::Error<io::Error>>
+    ensures { (b : List ℕ) → R.remaining reader.old ≡ Some b → IfOk result (λ next.
+        IfSome next (λ message. (s : List ℕ) × (left : List ℕ) × (b ≡ s ++ left) ×
+        (message.1 ≡ begin + length s) × (R.remaining reader.new ≡ Some left))) }
+{
+    let mut end = begin;
+    let next = from_reader_next_at::<T, R>(alloc, reader, &mut end, RECURSION_LIMIT)?;
+    let Some(message) = next else {
+        return Ok(None);
+    };
+    Ok(Some((message, end)))
 }
 
 /// Writes messages of any type in a row, as a log that grows. At `Ok` just their items have gone
