@@ -11,6 +11,8 @@ mod buffered_tests;
 #[cfg(test)]
 mod caller_tests;
 #[cfg(test)]
+mod cut_tests;
+#[cfg(test)]
 mod described_tests;
 #[cfg(test)]
 mod deterministic_tests;

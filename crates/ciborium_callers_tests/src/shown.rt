@@ -6,6 +6,8 @@ use std::io::{self, BufRead, ErrorKind, Read};
 pub enum Fault {
     /// It answers an error.
     Breaks,
+    /// It answers the error of an end, though bytes are left.
+    SaysItEnded,
     /// It shows nothing, though bytes are left.
     ShowsNothing,
 }
@@ -43,6 +45,9 @@ impl<'a> Shown<'a> {
         match self.fault {
             Some((at, Fault::Breaks)) if number == at => {
                 Err(io::Error::from(ErrorKind::ConnectionReset))
+            }
+            Some((at, Fault::SaysItEnded)) if number == at => {
+                Err(io::Error::from(ErrorKind::UnexpectedEof))
             }
             Some((at, Fault::ShowsNothing)) if number == at => Ok(0),
             _ => Ok(self.bytes.len().min(self.most)),

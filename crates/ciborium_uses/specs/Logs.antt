@@ -12,5 +12,5 @@ BeginsNoItem b = (i : Item) (s left : List ℕ) → Spells s i → ¬ (b ≡ s +
 -- the first `end` bytes of b are items that give values of the type, one after the other, and no
 -- item is whole in the rest
 abbrev pub IsEndOfLog : {A : Type 0} → Taken A → List ℕ → ℕ → Type 0
-IsEndOfLog {A} taken b end = (cs : List A) × (rest : List ℕ) × GivesThen (Some 256) taken b cs rest ×
-    (length b ≡ end + length rest) × BeginsNoItem rest
+IsEndOfLog {A} taken b end = (cs : List A) × (rest : List ℕ) ×
+    GivesThen (Some 256) taken b cs rest × (length b ≡ end + length rest) × BeginsNoItem rest
