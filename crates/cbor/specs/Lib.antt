@@ -1,5 +1,6 @@
 pub mod Answer
 pub mod Dumped
+pub mod Ends
 pub mod Forms
 pub mod Line
 pub mod Laws

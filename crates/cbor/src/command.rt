@@ -1,5 +1,8 @@
 //! What the program is asked to do.
 
+ghost use Rattle.std.specs.Prelude.{◌≡◌};
+ghost use Rattle.cbor.specs.Ends.{tells_devices};
+
 use crate::reading::{Reading, Showing};
 use ciborium_value::KeyOrder;
 
@@ -17,6 +20,20 @@ pub enum Command {
     Dump,
     /// To print something about the program itself.
     Tell(Topic),
+}
+
+impl Command {
+    /// Whether a fault of a device has a status of its own. `read`, `sort` and `seq` over lines give
+    /// it the status of what is refused.
+    pub fn tells_devices(self) -> bool
+        ensures { result ≡ tells_devices self }
+    {
+        match self {
+            Command::Answer(Reading::Item(..) | Reading::Sequence) => false,
+            Command::Sort(_) | Command::Tell(_) => false,
+            Command::Answer(_) | Command::Show(..) | Command::Dump => true,
+        }
+    }
 }
 
 /// What the program prints about itself.

@@ -4,6 +4,7 @@ ghost use Rattle.std.specs.Prelude.{◌≡◌, ◌≤◌, ◌++◌, ◌↔◌, �
 ghost use Rattle.std.specs.Prelude.{map, string_bytes, true};
 ghost use Rattle.std.specs.Io.KnownBytes.{Appends, Keeps};
 ghost use Rattle.ciborium_value.specs.declared.key_order.KeyOrder.{KeyOrder};
+ghost use Rattle.cbor.specs.Ends.{IsStatusOf, end_status, fault_status};
 ghost use Rattle.cbor.specs.Lines.{AreAnswered};
 ghost use Rattle.cbor.specs.SortedLines.{AreSortedLines, AreSortedOrRefused};
 ghost use Rattle.cbor.specs.Streams.{IsDumpedBehind, IsStreamShown};
@@ -67,8 +68,9 @@ cbor --help tells of the other commands
 /// The status is 0 where every line or item is as it is asked for, and 1 where one is not. It is 2
 /// for any other words, and for none: the usage is then written to `errors`, and input and output
 /// are left alone. Where the input or the output fails, or an allocation for a line, an item of
-/// bytes, the list to sort or the dump of bytes, the run ends with status 1, and `errors` names the
-/// first such fault.
+/// bytes, the list to sort or the dump of bytes, the run ends, and `errors` names the first such
+/// fault. The status is then 3 where the input or the output failed, and 1 for an allocation, and
+/// for any fault of `read`, `sort` and `seq` over lines, and of `--help` and `--version`.
 pub fn run<R: Read, W: Write, E: Write>(
     alloc: Global,
     words: &[String],
@@ -80,7 +82,7 @@ pub fn run<R: Read, W: Write, E: Write>(
         (result ≡ 2) × (R.remaining input.new ≡ R.remaining input.old)
         × (W.contents output.new ≡ W.contents output.old) }
     ensures right { (command : Command) →
-        AskFor (map string_bytes words.now) command → result ≤ 1 }
+        AskFor (map string_bytes words.now) command → IsStatusOf command result }
     ensures answered { (reading : Reading) (b w : List ℕ) →
         AskFor (map string_bytes words.now) (Answer reading) → R.remaining input.old ≡ Some b →
         W.contents output.old ≡ Some w → result ≡ 0 →
@@ -103,7 +105,7 @@ pub fn run<R: Read, W: Write, E: Write>(
     match judge_words(words) {
         Some(command) => {
             let done = perform(alloc, command, input, output);
-            conclude(done, errors)
+            conclude(command, done, errors)
         }
         None => refuse_words(errors),
     }
@@ -209,17 +211,27 @@ fn finish<W: Write>(done: Result<bool, Fault>, output: &mut W) -> Result<bool, F
 
 // The status of a run that found each line to be as it is asked for, or one that is not, or that a
 // fault ended, which it names.
-fn conclude<E: Write>(done: Result<bool, Fault>, errors: &mut E) -> u8
-    ensures status { result ≤ 1 }
+fn conclude<E: Write>(command: Command, done: Result<bool, Fault>, errors: &mut E) -> u8
+    ensures status { result ≡ end_status command done }
     ensures all { (result ≡ 0) ↔ (done ≡ Ok true) }
 {
     match done {
         Err(fault) => {
             let _ = report(errors, fault.message());
-            1
+            fault_status(command, fault)
         }
         Ok(true) => 0,
         Ok(false) => 1,
+    }
+}
+
+// The status of a run that a fault ended.
+fn fault_status(command: Command, fault: Fault) -> u8
+    ensures { result ≡ fault_status command fault }
+{
+    match fault {
+        Fault::Input | Fault::Output if command.tells_devices() => 3,
+        _ => 1,
     }
 }
 

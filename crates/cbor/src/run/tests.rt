@@ -759,21 +759,22 @@ fn refuses_words_that_cannot_be_read(rt: HostRuntime) -> Result<(), Fail> {
     Ok(())
 }
 
-// A command, what it reads before its input fails, and what it then has written.
-const CUT_SHORT: [(&str, &str, &str); 8] = [
-    ("diag", "20\n8101\n1e", "-1\n[1]\n"),
-    ("read", "01\n1e", "ok 01\n"),
-    ("canon", "a202000100\n1e", "ok a201000200\n"),
-    ("read", "1800\n6161\n18", "ok 00\nok 6161\n"),
-    ("seq", "1800\n0102\n18", "ok 00\nok 01 02\n"),
-    ("sort", "", ""),
-    ("sort", "1800\n", ""),
-    ("sort", "1800\n6161\n18", ""),
+// A command, what it reads before its input fails, what it then has written, and the status.
+const CUT_SHORT: [(&str, &str, &str, u8); 9] = [
+    ("diag", "20\n8101\n1e", "-1\n[1]\n", 3),
+    ("dump", "00\n1e", "0: 00  unsigned 0\n\n", 3),
+    ("read", "01\n1e", "ok 01\n", 1),
+    ("canon", "a202000100\n1e", "ok a201000200\n", 3),
+    ("read", "1800\n6161\n18", "ok 00\nok 6161\n", 1),
+    ("seq", "1800\n0102\n18", "ok 00\nok 01 02\n", 1),
+    ("sort", "", "", 1),
+    ("sort", "1800\n", "", 1),
+    ("sort", "1800\n6161\n18", "", 1),
 ];
 
 #[test]
 fn tells_a_fault_of_the_input(rt: HostRuntime) -> Result<(), Fail> {
-    for (command, input, output) in CUT_SHORT {
+    for (command, input, output, status) in CUT_SHORT {
         for kind in [
             ErrorKind::Other,
             ErrorKind::UnexpectedEof,
@@ -783,39 +784,43 @@ fn tells_a_fault_of_the_input(rt: HostRuntime) -> Result<(), Fail> {
                 let mut source = Source::new(input.as_bytes(), most, Some(kind));
                 let device = Device::new(rt.alloc(), usize::MAX, flush_fails);
                 let ended = run_on(rt.alloc(), &[command], &mut source, device)?;
-                expect_end(&rt, &ended, 1, output.as_bytes(), "input failed\n", input);
+                let output = output.as_bytes();
+                expect_end(&rt, &ended, status, output, "input failed\n", input);
             }
         }
     }
     Ok(())
 }
 
-// A command, what it reads, what it would write, and the room for that; the last flush fails.
-const NO_ROOM: [(&str, &str, &str, [usize; 4]); 7] = [
-    ("diag", "8100\n820102\n", "[0]\n[1, 2]\n", [0, 3, 6, 20]),
-    ("--version", "", "cbor 0.4.0\n", [0, 4, 10, 20]),
+// A command, what it reads, what it would write, the status where that fails, and the room; the
+// last flush fails.
+const NO_ROOM: [(&str, &str, &str, u8, [usize; 4]); 8] = [
+    ("diag", "8100\n820102\n", "[0]\n[1, 2]\n", 3, [0, 3, 6, 20]),
+    ("dump", "00\n", "0: 00  unsigned 0\n\n", 3, [0, 3, 18, 20]),
+    ("--version", "", "cbor 0.4.0\n", 1, [0, 4, 10, 20]),
     (
         "canon",
         "1800\na202000100\n",
         "ok 00\nok a201000200\n",
+        3,
         [0, 6, 8, 20],
     ),
-    ("read", "1800\n6161\n", "ok 00\nok 6161\n", [0, 6, 8, 20]),
-    ("seq", "1800\n0102\n", "ok 00\nok 01 02\n", [0, 6, 8, 20]),
-    ("sort", "6161\n1800\n", "00\n6161\n", [0, 2, 6, 20]),
-    ("sort", "6161\n18\n", "line 2: io\n", [0, 2, 6, 20]),
+    ("read", "1800\n6161\n", "ok 00\nok 6161\n", 1, [0, 6, 8, 20]),
+    ("seq", "1800\n0102\n", "ok 00\nok 01 02\n", 1, [0, 6, 8, 20]),
+    ("sort", "6161\n1800\n", "00\n6161\n", 1, [0, 2, 6, 20]),
+    ("sort", "6161\n18\n", "line 2: io\n", 1, [0, 2, 6, 20]),
 ];
 
 #[test]
 fn tells_a_fault_of_the_output(rt: HostRuntime) -> Result<(), Fail> {
-    for (command, input, output, rooms) in NO_ROOM {
+    for (command, input, output, status, rooms) in NO_ROOM {
         for room in rooms {
             let mut source = Source::new(input.as_bytes(), usize::MAX, None);
             let device = Device::new(rt.alloc(), room, room == 20);
             let ended = run_on(rt.alloc(), &[command], &mut source, device)?;
             let held = ended.output.as_slice();
             assert!(rt; output.as_bytes().starts_with(held), "{room}");
-            expect_end(&rt, &ended, 1, held, "output failed\n", input);
+            expect_end(&rt, &ended, status, held, "output failed\n", input);
         }
     }
     Ok(())
@@ -834,7 +839,7 @@ fn tells_a_fault_of_a_dump(rt: HostRuntime) -> Result<(), Fail> {
         let mut source = Source::new(b"\x00", usize::MAX, fault);
         let device = Device::new(rt.alloc(), usize::MAX, true);
         let ended = run_on(rt.alloc(), &["dump", "--binary"], &mut source, device)?;
-        expect_end(&rt, &ended, 1, output.as_bytes(), errors, errors);
+        expect_end(&rt, &ended, 3, output.as_bytes(), errors, errors);
     }
     Ok(())
 }
