@@ -85,7 +85,9 @@ named words (Sort LengthFirst) asked = subst (λ (ws : List (List ℕ)). NameLim
     ws 256) (sym asked) (no-others (command_words (Sort LengthFirst)))
 named words (Sort Bytewise) asked = subst (λ (ws : List (List ℕ)). NameLimitBehind (command_words (Sort Bytewise)) ws
     256) (sym asked) (no-others (command_words (Sort Bytewise)))
-named words (Show showings.Encoding n) asked = asked
+named words (Show (showings.Encoding Any) n) asked = asked
+named words (Show (showings.Encoding (Deterministic LengthFirst)) n) asked = asked
+named words (Show (showings.Encoding (Deterministic Bytewise)) n) asked = asked
 named words (Show (showings.Notation OneLine) n) asked = asked
 named words (Show (showings.Notation Indented) n) asked = asked
 named words (Show (showings.Form LengthFirst) n) asked = asked
@@ -110,7 +112,11 @@ are-names (Answer (readings.Notation Indented n)) = (λ h. omega (arith, h), (λ
 are-names (Answer readings.Dump) = (λ h. omega (arith, h), tt)
 are-names (Sort LengthFirst) = (λ h. omega (arith, h), tt)
 are-names (Sort Bytewise) = (λ h. omega (arith, h), (λ h. omega (arith, h), tt))
-are-names (Show showings.Encoding n) = (λ h. omega (arith, h), (λ h. omega (arith, h), tt))
+are-names (Show (showings.Encoding Any) n) = (λ h. omega (arith, h), (λ h. omega (arith, h), tt))
+are-names (Show (showings.Encoding (Deterministic LengthFirst)) n) =
+    (λ h. omega (arith, h), (λ h. omega (arith, h), (λ h. omega (arith, h), tt)))
+are-names (Show (showings.Encoding (Deterministic Bytewise)) n) =
+    (λ h. omega (arith, h), (λ h. omega (arith, h), (λ h. omega (arith, h), (λ h. omega (arith, h), tt))))
 are-names (Show (showings.Notation OneLine) n) = (λ h. omega (arith, h), (λ h. omega (arith, h), tt))
 are-names (Show (showings.Notation Indented) n) = (
   λ h. omega (arith, h),
@@ -142,7 +148,9 @@ command-of total n =
     else if total == 438 then Answer readings.Dump
     else if total == 456 then Sort LengthFirst
     else if total == 971 then Sort Bytewise
-    else if total == 1147 then Show showings.Encoding n
+    else if total == 1147 then Show (showings.Encoding Any) n
+    else if total == 1554 then Show (showings.Encoding (Deterministic LengthFirst)) n
+    else if total == 2069 then Show (showings.Encoding (Deterministic Bytewise)) n
     else if total == 1140 then Show (showings.Notation OneLine) n
     else if total == 1872 then Show (showings.Notation Indented) n
     else if total == 1262 then Show (showings.Form LengthFirst) n
@@ -165,7 +173,9 @@ told-apart (Answer (readings.Notation Indented n)) = refl
 told-apart (Answer readings.Dump) = refl
 told-apart (Sort LengthFirst) = refl
 told-apart (Sort Bytewise) = refl
-told-apart (Show showings.Encoding n) = refl
+told-apart (Show (showings.Encoding Any) n) = refl
+told-apart (Show (showings.Encoding (Deterministic LengthFirst)) n) = refl
+told-apart (Show (showings.Encoding (Deterministic Bytewise)) n) = refl
 told-apart (Show (showings.Notation OneLine) n) = refl
 told-apart (Show (showings.Notation Indented) n) = refl
 told-apart (Show (showings.Form LengthFirst) n) = refl
@@ -226,18 +236,22 @@ abbrev pub NameNone : List (List ℕ) → List (List ℕ) → Type 0
 NameNone flags words = (n : ℕ) → ¬ NameLimitBehind flags words n
 
 -- where they name none behind the words of each showing, they ask to show nothing
-pub shows-none : (words : List (List ℕ)) → NameNone (command_words (Show showings.Encoding 0)) words →
+pub shows-none : (words : List (List ℕ)) → NameNone (command_words (Show (showings.Encoding Any) 0)) words →
+    NameNone (command_words (Show (showings.Encoding (Deterministic LengthFirst)) 0)) words →
+    NameNone (command_words (Show (showings.Encoding (Deterministic Bytewise)) 0)) words →
     NameNone (command_words (Show (showings.Notation OneLine) 0)) words →
     NameNone (command_words (Show (showings.Notation Indented) 0)) words →
     NameNone (command_words (Show (showings.Form LengthFirst) 0)) words →
     NameNone (command_words (Show (showings.Form Bytewise) 0)) words →
     (showing : Showing) (limit : ℕ) → AskFor words (Show showing limit) → ⊥
-shows-none words a b c d e showings.Encoding n (inl asked) = a n asked
-shows-none words a b c d e (showings.Notation OneLine) n (inl asked) = b n asked
-shows-none words a b c d e (showings.Notation Indented) n (inl asked) = c n asked
-shows-none words a b c d e (showings.Form LengthFirst) n (inl asked) = d n asked
-shows-none words a b c d e (showings.Form Bytewise) n (inl asked) = e n asked
-shows-none words a b c d e showing n (inr (short, help)) = cc
+shows-none words a b c d e f g (showings.Encoding Any) n (inl asked) = a n asked
+shows-none words a b c d e f g (showings.Encoding (Deterministic LengthFirst)) n (inl asked) = b n asked
+shows-none words a b c d e f g (showings.Encoding (Deterministic Bytewise)) n (inl asked) = c n asked
+shows-none words a b c d e f g (showings.Notation OneLine) n (inl asked) = d n asked
+shows-none words a b c d e f g (showings.Notation Indented) n (inl asked) = e n asked
+shows-none words a b c d e f g (showings.Form LengthFirst) n (inl asked) = f n asked
+shows-none words a b c d e f g (showings.Form Bytewise) n (inl asked) = g n asked
+shows-none words a b c d e f g showing n (inr (short, help)) = cc
 
 -- ---- words are compared one by one
 

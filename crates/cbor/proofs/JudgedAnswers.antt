@@ -38,25 +38,25 @@ item-answers spelling line limit false text (e, h, m, same) =
 -- ---- sequences
 
 -- what the front of some bytes is refused for
-pub front-refusal : (rest : List ℕ) (limit : ℕ) (e : Refusal) → wants_memory e ≡ false →
-    IsFrontRefused Any rest limit e →
-    (f : faults.Refusal) × RefusesItem Any rest limit f × (refused_text e ≡ refusal_text f)
-front-refusal rest limit Hex m h = absurd h
-front-refusal rest limit (Trailing k) m h = absurd h
-front-refusal rest limit Io m h = (io, h, refl)
-front-refusal rest limit (Syntax p) m h = (syntax p, h, refl)
-front-refusal rest limit (Semantic p reason) m h = (semantic p (kind_of_reason reason), h, refl)
-front-refusal rest limit Nesting m h = (recursion_limit_exceeded, h, refl)
-front-refusal rest limit TooLong m h = (too_long, h, refl)
-front-refusal rest limit Memory m h = absurd cc
+pub front-refusal : (spelling : Spelling) (rest : List ℕ) (limit : ℕ) (e : Refusal) → wants_memory e ≡ false →
+    IsFrontRefused spelling rest limit e →
+    (f : faults.Refusal) × RefusesItem spelling rest limit f × (refused_text e ≡ refusal_text f)
+front-refusal spelling rest limit Hex m h = absurd h
+front-refusal spelling rest limit (Trailing k) m h = absurd h
+front-refusal spelling rest limit Io m h = (io, h, refl)
+front-refusal spelling rest limit (Syntax p) m h = (syntax p, h, refl)
+front-refusal spelling rest limit (Semantic p reason) m h = (semantic p (kind_of_reason reason), h, refl)
+front-refusal spelling rest limit Nesting m h = (recursion_limit_exceeded, h, refl)
+front-refusal spelling rest limit TooLong m h = (too_long, h, refl)
+front-refusal spelling rest limit Memory m h = absurd cc
 
 -- the text of the item that is refused behind some good ones answers the bytes
 pub item-refused : (b : List ℕ) (trees : List Tree) (rest : List ℕ) (n : ℕ) (e : Refusal) (text : List ℕ) →
-    AreItemsBefore b 256 trees rest → 0 < length rest →
+    AreItemsBefore Any b 256 trees rest → 0 < length rest →
     n ≡ length trees + 1 → IsFrontRefused Any rest 256 e → (wants_memory e ≡ false) ×
     (text ≡ refused_item_text n (refused_text e)) → AreNoSequence b 256 text
 item-refused b trees rest n e text a more count h (m, same) =
-    let f = front-refusal rest 256 e m h in (
+    let f = front-refusal Any rest 256 e m h in (
       trees,
       rest,
       f.0,

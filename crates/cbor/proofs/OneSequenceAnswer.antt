@@ -28,7 +28,7 @@ behind-bytes (x ∷ s) left h = behind-bytes s left (All-tail (λ y. y < 256) x 
 bytes-left : (b left : List ℕ) (limit : ℕ) (v : Tree) → AreBytes b → HasItemBefore Any b limit v left → AreBytes left
 bytes-left b left limit v h (s, item, split) = behind-bytes s left (subst AreBytes split h)
 
-bytes-behind : (trees : List Tree) (b rest : List ℕ) (limit : ℕ) → AreBytes b → AreItemsBefore b limit trees rest →
+bytes-behind : (trees : List Tree) (b rest : List ℕ) (limit : ℕ) → AreBytes b → AreItemsBefore Any b limit trees rest →
     AreBytes rest
 bytes-behind [] b rest limit h e = subst AreBytes e h
 bytes-behind (v ∷ vs) b rest limit h (left, item, more) =
@@ -36,8 +36,8 @@ bytes-behind (v ∷ vs) b rest limit h (left, item, more) =
 
 -- items in a row end where the next is refused
 one-row : (ts us : List Tree) (b r q : List ℕ) (limit : ℕ) (e f : Refusal) → AreBytes b →
-    AreItemsBefore b limit ts r →
-    AreItemsBefore b limit us q → RefusesItem Any r limit e → RefusesItem Any q limit f → (ts ≡ us) × (r ≡ q)
+    AreItemsBefore Any b limit ts r →
+    AreItemsBefore Any b limit us q → RefusesItem Any r limit e → RefusesItem Any q limit f → (ts ≡ us) × (r ≡ q)
 one-row [] [] b r q limit e f h m n p s = (refl, sym m ∙ n)
 one-row [] (w ∷ us) b r q limit e f h m (left, item, more) p s =
     absurd (not-both Any b limit e h (w, left, item)
@@ -48,7 +48,7 @@ one-row (v ∷ ts) [] b r q limit e f h (left, item, more) n p s =
 one-row (v ∷ ts) (w ∷ us) b r q limit e f h (x, (s, i, split), m) (y, (t, j, other), n) p k =
     let same = one-tree Any s t x y limit v w i j (sym split ∙ other) in
     let rest = one-row ts us x r q limit e f (bytes-left b x limit v h (s, i, split)) m
-    (subst (λ (zs : List ℕ). AreItemsBefore zs limit us q) (sym same.1) n) p k in
+    (subst (λ (zs : List ℕ). AreItemsBefore Any zs limit us q) (sym same.1) n) p k in
     (ap (λ (u : Tree). u ∷ ts) same.0 ∙ ap (λ (vs : List Tree). w ∷ vs) rest.0, rest.1)
 
 not-empty : (xs : List ℕ) → [] ≡ xs → 0 < length xs → ⊥
@@ -87,7 +87,7 @@ abbrev Ends : List ℕ → ℕ → Type 0
 Ends rest limit = (rest ≡ []) ⊎ ((0 < length rest) × (e : Refusal) × RefusesItem Any rest limit e)
 
 found : (n : ℕ) (b : List ℕ) (limit : ℕ) → length b ≤ n → AreBytes b →
-    (trees : List Tree) × (rest : List ℕ) × AreItemsBefore b limit trees rest × Ends rest limit
+    (trees : List Tree) × (rest : List ℕ) × AreItemsBefore Any b limit trees rest × Ends rest limit
 found n [] limit below h = ([], [], refl, inl refl)
 found zero (x ∷ b) limit below h = absurd (omega arith)
 found (suc n) (x ∷ b) limit below h =
@@ -105,7 +105,7 @@ bytes-answered : (b : List ℕ) (limit : ℕ) → AreBytes b → (answer : List 
 bytes-answered b limit h =
     let f = found (length b) b limit (omega arith) h in
     elim f.3 [
-      | inl e ↦ (sequence_text f.0, inl (f.0, subst (λ (r : List ℕ). AreItemsBefore b limit f.0 r) e f.2, refl))
+      | inl e ↦ (sequence_text f.0, inl (f.0, subst (λ (r : List ℕ). AreItemsBefore Any b limit f.0 r) e f.2, refl))
       | inr r ↦ (refused_item_text (length f.0 + 1) (refusal_text r.1), inr (f.0, f.1, r.1, f.2, r.0, r.2, refl))
     ]
 

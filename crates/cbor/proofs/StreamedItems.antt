@@ -12,13 +12,12 @@ use Rattle.ciborium_value.specs.declared.kind.Kind.{Kind}
 use Rattle.ciborium_value.specs.declared.tree.Value.{Value}
 use Rattle.cbor.specs.declared.answer.Refusal.{Refusal}
 use Rattle.cbor.specs.declared.reading.Showing.{Showing}
-use Rattle.cbor.specs.declared.reading.Spelling.TheVariants.{Any}
 use Rattle.cbor.specs.Answer.{IsFrontRefused, refused_text, wants_memory}
 use Rattle.cbor.specs.Forms.{formless_text}
 use Rattle.cbor.specs.Line.{refusal_text}
 use Rattle.cbor.specs.Lines.{text_line}
 use Rattle.cbor.specs.Sequence.{AreItemsBefore, refused_item_text}
-use Rattle.cbor.specs.Shown.{shown_tree}
+use Rattle.cbor.specs.Shown.{shown_spelling, shown_tree}
 use Rattle.cbor.specs.Streams.{AreShownBehind, AreShownOf, IsReadNext, IsStreamShown, refused, shown_line, whole}
 use Rattle.cbor.proofs.ItemsInRow.{one-more-before}
 use Rattle.cbor.proofs.JudgedAnswers.{front-refusal}
@@ -60,7 +59,7 @@ refused-shown w n e text after (Err x) same h = tt
 abbrev pub AreShownSoFar : Showing → List ℕ → ℕ → List ℕ → Option (List ℕ) → Option (List ℕ) → ℕ → Type 0
 AreShownSoFar showing b limit w left held number =
     (trees : List Tree) × (shown : List Tree) × (rest : List ℕ) × (left ≡ Some rest) ×
-    AreItemsBefore b limit trees rest × AreShownOf showing trees shown × AreShownBehind showing w shown held ×
+    AreItemsBefore (shown_spelling showing) b limit trees rest × AreShownOf showing trees shown × AreShownBehind showing w shown held ×
     (number ≡ length trees + 1)
 
 -- one more is shown of one more item
@@ -95,13 +94,13 @@ module _ (showing : Showing) (b : List ℕ) (limit : ℕ) (w : List ℕ) (left h
   pub all-shown : AreShownSoFar showing b limit w left held number → ((xs : List ℕ) → left ≡ Some xs → xs ≡ []) →
       IsStreamShown showing b limit w true held
   all-shown (trees, shown, rest, e, a, of, same, count) ends =
-      whole trees shown held (subst (λ (r : List ℕ). AreItemsBefore b limit trees r) (ends rest e) a) of same
+      whole trees shown held (subst (λ (r : List ℕ). AreItemsBefore (shown_spelling showing) b limit trees r) (ends rest e) a) of same
 
   module _ (now : Option (List ℕ)) where
     -- one more item is read and shown
     pub one-more-shown : (next : Option (List ℕ)) (v : Value) (u : Tree) →
         AreShownSoFar showing b limit w left held number →
-        ((xs : List ℕ) → left ≡ Some xs → IsReadNext xs limit next (Ok v)) →
+        ((xs : List ℕ) → left ≡ Some xs → IsReadNext (shown_spelling showing) xs limit next (Ok v)) →
         shown_tree showing (tree_of v) ≡ gives u →
         ((ys : List ℕ) → held ≡ Some ys → now ≡ Some (ys ++ shown_line showing u)) →
         AreShownSoFar showing b limit w next now (number + 1)
@@ -112,7 +111,7 @@ module _ (showing : Showing) (b : List ℕ) (limit : ℕ) (w : List ℕ) (left h
           shown ++ (u ∷ []),
           item.0,
           item.2,
-          one-more-before limit trees b rest item.0 (tree_of v) a item.1,
+          one-more-before (shown_spelling showing) limit trees b rest item.0 (tree_of v) a item.1,
           shown-of-more showing trees shown (tree_of v) u of form,
           written (behind shown) same ∙ ap Some (flat_map_more (shown_line showing) w shown u),
           omega (arith, more, count),
@@ -120,12 +119,12 @@ module _ (showing : Showing) (b : List ℕ) (limit : ℕ) (w : List ℕ) (left h
 
     -- the next item is refused, and the line says so
     pub first-refused : (e : Refusal) → AreShownSoFar showing b limit w left held number →
-        ((xs : List ℕ) → left ≡ Some xs → (0 < length xs) × IsFrontRefused Any xs limit e) →
+        ((xs : List ℕ) → left ≡ Some xs → (0 < length xs) × IsFrontRefused (shown_spelling showing) xs limit e) →
         ((ys : List ℕ) → held ≡ Some ys → IsRefusalBehind ys number e now) → IsStreamShown showing b limit w false now
     first-refused e (trees, shown, rest, is, a, of, same, count) read written =
         let (some, why) = read rest is in
         let line = written (behind shown) same in
-        let f = front-refusal rest limit e line.0 why in
+        let f = front-refusal (shown_spelling showing) rest limit e line.0 why in
         let text = λ (n : ℕ) (t : List ℕ). Some (behind shown ++ text_line (refused_item_text n t)) in
         refused trees shown rest (refusal_text f.0) now a of some (inl (f.0, f.1, refl))
         (line.1 ∙ ap (λ (n : ℕ). text n (refused_text e)) count ∙ ap (text (length trees + 1)) f.2)
@@ -133,7 +132,7 @@ module _ (showing : Showing) (b : List ℕ) (limit : ℕ) (w : List ℕ) (left h
     -- the next item has no form, and the line says so
     pub first-formless : (next : Option (List ℕ)) (v : Value) (k : Kind) →
         AreShownSoFar showing b limit w left held number →
-        ((xs : List ℕ) → left ≡ Some xs → (0 < length xs) × IsReadNext xs limit next (Ok v)) →
+        ((xs : List ℕ) → left ≡ Some xs → (0 < length xs) × IsReadNext (shown_spelling showing) xs limit next (Ok v)) →
         shown_tree showing (tree_of v) ≡ refuses k →
         ((ys : List ℕ) → held ≡ Some ys →
         now ≡ Some (ys ++ text_line (refused_item_text number (formless_text k)))) →

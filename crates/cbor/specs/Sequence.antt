@@ -8,17 +8,17 @@ use Rattle.hex.specs.Hex.{decode_of, encode_lower}
 use Rattle.ciborium_ll.specs.Refusal.{Refusal}
 use Rattle.ciborium_value.specs.Encoding.{encoding}
 use Rattle.ciborium_value.specs.Tree.{Tree}
+use Rattle.cbor.specs.declared.reading.Spelling.{Spelling}
 use Rattle.cbor.specs.declared.reading.Spelling.TheVariants.{Any}
 use Rattle.cbor.specs.Line.{hex_text, refusal_text}
 use Rattle.cbor.specs.Spellings.{HasItemBefore, RefusesItem}
 
--- b begins with items one after the other, which mean these trees, and rest is left: each is good
--- within so many levels, and offsets are
--- counted from its own first byte
-abbrev pub AreItemsBefore : List ℕ → ℕ → List Tree → List ℕ → Type 0
-AreItemsBefore b limit [] rest = b ≡ rest
-AreItemsBefore b limit (tree ∷ trees) rest = (left : List ℕ) × HasItemBefore Any b limit tree left ×
-    AreItemsBefore left limit trees rest
+-- b begins with items one after the other, which mean these trees, and rest is left: each is spelled
+-- so and good within so many levels, and offsets are counted from its own first byte
+abbrev pub AreItemsBefore : Spelling → List ℕ → ℕ → List Tree → List ℕ → Type 0
+AreItemsBefore spelling b limit [] rest = b ≡ rest
+AreItemsBefore spelling b limit (tree ∷ trees) rest = (left : List ℕ) ×
+    HasItemBefore spelling b limit tree left × AreItemsBefore spelling left limit trees rest
 
 -- a space, and the encoding of a tree in lower-case hex (RFC 8949, section 4.1)
 abbrev pub item_text : Tree → List ℕ
@@ -34,13 +34,13 @@ refused_item_text n reason = codes "item " ++ (decimal n ++ (codes ": " ++ reaso
 
 -- all of b is a sequence, and the text is the answer that says so
 abbrev pub AreSequence : List ℕ → ℕ → List ℕ → Type 0
-AreSequence b limit text = (trees : List Tree) × AreItemsBefore b limit trees [] ×
+AreSequence b limit text = (trees : List Tree) × AreItemsBefore Any b limit trees [] ×
     (text ≡ sequence_text trees)
 
 -- behind items one after the other more bytes follow, and are refused, and the text says so
 abbrev pub AreNoSequence : List ℕ → ℕ → List ℕ → Type 0
 AreNoSequence b limit text =
-    (trees : List Tree) × (rest : List ℕ) × (e : Refusal) × AreItemsBefore b limit trees rest ×
+    (trees : List Tree) × (rest : List ℕ) × (e : Refusal) × AreItemsBefore Any b limit trees rest ×
     (0 < length rest) × RefusesItem Any rest limit e ×
     (text ≡ refused_item_text (length trees + 1) (refusal_text e))
 

@@ -10,6 +10,7 @@ use Rattle.cbor.specs.declared.reading.Layout.{Layout}
 use Rattle.cbor.specs.declared.reading.Layout.TheVariants.{OneLine, Indented}
 use Rattle.cbor.specs.declared.reading.Showing.{Showing}
 use Rattle.cbor.specs.declared.reading.Showing.TheVariants.{Encoding, Form, Notation}
+use Rattle.cbor.specs.declared.reading.Spelling.{Spelling}
 use Rattle.cbor.specs.declared.reading.Spelling.TheVariants.{Any}
 use Rattle.cbor.specs.Answer.{IsMeant, TellsRefusal}
 
@@ -18,16 +19,22 @@ abbrev pub notation_text : Layout → Tree → List ℕ
 notation_text OneLine v = notation v
 notation_text Indented v = indented_notation v
 
+-- the spellings that an item may have which is shown so
+abbrev pub shown_spelling : Showing → Spelling
+shown_spelling (Encoding spelling) = spelling
+shown_spelling (Notation layout) = Any
+shown_spelling (Form order) = Any
+
 -- the tree that is shown of an item which means v: its deterministic form, where that is wanted and
 -- there is one (RFC 8949, section 4.2), and else v
 abbrev pub shown_tree : Showing → Tree → Outcome Tree
-shown_tree Encoding v = gives v
+shown_tree (Encoding spelling) v = gives v
 shown_tree (Notation layout) v = gives v
 shown_tree (Form order) v = deterministic_form order v
 
 -- a tree as it is shown: its encoding in lower-case hex (RFC 8949, section 4.1), or its notation
 abbrev pub shown_text : Showing → Tree → List ℕ
-shown_text Encoding v = encode_lower (encoding v)
+shown_text (Encoding spelling) v = encode_lower (encoding v)
 shown_text (Notation layout) v = notation_text layout v
 shown_text (Form order) v = encode_lower (encoding v)
 

@@ -11,14 +11,14 @@ use Rattle.ciborium_value.specs.declared.kind.Kind.{Kind}
 use Rattle.ciborium_value.specs.declared.tree.Value.{Value}
 use Rattle.cbor.specs.declared.answer.Refusal.{Refusal as Reason}
 use Rattle.cbor.specs.declared.reading.Showing.{Showing}
-use Rattle.cbor.specs.declared.reading.Spelling.TheVariants.{Any}
+use Rattle.cbor.specs.declared.reading.Spelling.{Spelling}
 use Rattle.cbor.specs.Answer.{IsFrontRefused}
 use Rattle.cbor.specs.Dumped.{IsDumpOf}
 use Rattle.cbor.specs.Forms.{formless_text}
 use Rattle.cbor.specs.Line.{refusal_text}
 use Rattle.cbor.specs.Lines.{text_line}
 use Rattle.cbor.specs.Sequence.{AreItemsBefore, refused_item_text}
-use Rattle.cbor.specs.Shown.{shown_text, shown_tree}
+use Rattle.cbor.specs.Shown.{shown_spelling, shown_text, shown_tree}
 use Rattle.cbor.specs.Spellings.{HasItemBefore, RefusesItem}
 
 -- a tree as it is shown, and a line feed
@@ -37,9 +37,10 @@ AreShownBehind showing w trees after = after ≡ Some (w ++ flat_map (shown_line
 -- counted from the first byte; or with one that has no form
 abbrev pub TellsNoItem : Showing → List ℕ → ℕ → List ℕ → Type 0
 TellsNoItem showing b limit reason =
-    ((e : Refusal) × RefusesItem Any b limit e × (reason ≡ refusal_text e)) ⊎
-    ((v : Tree) × (left : List ℕ) × (k : Kind) × HasItemBefore Any b limit v left ×
-    (shown_tree showing v ≡ refuses k) × (reason ≡ formless_text k))
+    ((e : Refusal) × RefusesItem (shown_spelling showing) b limit e × (reason ≡ refusal_text e)) ⊎
+    ((v : Tree) × (left : List ℕ) × (k : Kind) ×
+    HasItemBefore (shown_spelling showing) b limit v left × (shown_tree showing v ≡ refuses k) ×
+    (reason ≡ formless_text k))
 
 -- the items of b are shown behind w, each within so many levels: of all of b, which is a sequence,
 -- or of those before the first that is refused or has no form, and then comes the line that says
@@ -47,27 +48,28 @@ TellsNoItem showing b limit reason =
 pub data IsStreamShown (showing : Showing) (b : List ℕ) (limit : ℕ) (w : List ℕ) : Bool →
     Option (List ℕ) → Type 0 where
   whole : (trees shown : List Tree) (after : Option (List ℕ)) →
-      AreItemsBefore b limit trees [] → AreShownOf showing trees shown →
+      AreItemsBefore (shown_spelling showing) b limit trees [] → AreShownOf showing trees shown →
       AreShownBehind showing w shown after →
       IsStreamShown showing b limit w true after
   refused : (trees shown : List Tree) (rest reason : List ℕ) (after : Option (List ℕ)) →
-      AreItemsBefore b limit trees rest → AreShownOf showing trees shown → 0 < length rest →
+      AreItemsBefore (shown_spelling showing) b limit trees rest → AreShownOf showing trees shown → 0 < length rest →
       TellsNoItem showing rest limit reason →
       after ≡ Some ((w ++ flat_map (shown_line showing) shown) ++ text_line
       (refused_item_text (length trees + 1) reason)) →
       IsStreamShown showing b limit w false after
 
--- of the bytes b the item at the front was read, within so many levels, and is the value, or is
--- refused for this reason
-abbrev pub IsReadNext : List ℕ → ℕ → Option (List ℕ) → Result Value Reason → Type 0
-IsReadNext b limit after next = MatchResult next
-    (λ value. (left : List ℕ) × HasItemBefore Any b limit (tree_of value) left ×
+-- of the bytes b the item at the front was read, spelled so and within so many levels, and is the
+-- value, or is refused for this reason
+abbrev pub IsReadNext : Spelling → List ℕ → ℕ → Option (List ℕ) → Result Value Reason → Type 0
+IsReadNext spelling b limit after next = MatchResult next
+    (λ value. (left : List ℕ) × HasItemBefore spelling b limit (tree_of value) left ×
     (after ≡ Some left))
-    (λ reason. IsFrontRefused Any b limit reason)
+    (λ reason. IsFrontRefused spelling b limit reason)
 
--- an item that has a meaning, within so many levels, begins these bytes
-abbrev pub HoldsItem : List ℕ → ℕ → Type 0
-HoldsItem b limit = (v : Tree) × (left : List ℕ) × HasItemBefore Any b limit v left
+-- an item that has a meaning, spelled so and within so many levels, begins these bytes
+abbrev pub HoldsItem : Spelling → List ℕ → ℕ → Type 0
+HoldsItem spelling b limit = (v : Tree) × (left : List ℕ) ×
+    HasItemBefore spelling b limit v left
 
 -- the lines of a dump: behind the reason in which that of no item ends stands a line feed
 abbrev pub dump_lines : Bool → List ℕ → List ℕ

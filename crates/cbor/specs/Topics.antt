@@ -23,7 +23,8 @@ topic_text Help =
     codes "all lines' items in order: 6161 and 00 give 00 and 6161\n" ++
     codes "  cbor diag --binary [--indent] [limit] " ++
     codes "each item of a file: cbor diag --binary < file.cbor\n" ++
-    codes "  cbor read --binary [limit]            " ++
+    codes "  cbor read --binary [--det [--core]] [limit]\n" ++
+    codes "                                        " ++
     codes "the same in hex: cbor read --binary < file.cbor\n" ++
     codes "  cbor canon --binary [--core] [limit]  " ++
     codes "in deterministic hex: cbor canon --binary < file.cbor\n" ++
@@ -36,7 +37,9 @@ topic_text Help =
     codes "A bignum of more than 16 bytes is taken and written as it stands, " ++
     codes "even with zeros at its front.\n" ++
     codes "At most 256 levels are nested, or as many as the limit says. Status " ++
-    codes "1: something was refused.\n"
+    codes "1: something was refused;\n" ++
+    codes "2: wrong words; 3: the input or the output failed " ++
+    codes "(1 for read, seq and sort of lines).\n"
 topic_text Version = codes "cbor 0.4.0\n"
 
 abbrev pub fault_text : Fault → List ℕ

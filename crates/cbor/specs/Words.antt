@@ -55,7 +55,8 @@ command_words (Answer (readings.Form order n)) = codes "canon" ∷ order_flags o
 command_words (Answer (readings.Notation layout n)) = codes "diag" ∷ layout_flags layout
 command_words (Answer readings.Dump) = codes "dump" ∷ []
 command_words (Sort order) = codes "sort" ∷ order_flags order
-command_words (Show showings.Encoding n) = codes "read" ∷ (codes "--binary" ∷ [])
+command_words (Show (showings.Encoding spelling) n) =
+    codes "read" ∷ (codes "--binary" ∷ spelling_flags spelling)
 command_words (Show (showings.Notation layout) n) =
     codes "diag" ∷ (codes "--binary" ∷ layout_flags layout)
 command_words (Show (showings.Form order) n) =

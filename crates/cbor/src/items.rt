@@ -9,9 +9,11 @@ ghost use Rattle.ciborium_value.specs.declared.kind.Kind.TheVariants.{TrailingDa
 ghost use Rattle.ciborium.specs.declared.de.error.Error.TheVariants.{Semantic};
 ghost use Rattle.ciborium.specs.ValueAnswers.{IsRefusedBy, refusal_kind_of};
 ghost use Rattle.ciborium.specs.NextItems.{IsReadIo};
+ghost use Rattle.ciborium.specs.ValueClauses.{ReadsWhole};
+ghost use Rattle.ciborium.specs.View.{read_as};
 ghost use Rattle.cbor.specs.Answer.{AreRefused, IsFrontRefused, IsMeant, IsRefused, StandsFor};
 ghost use Rattle.cbor.specs.Answer.{kind_of_reason};
-ghost use Rattle.cbor.specs.Spellings.{HasItemBefore, IsItem, RefusesItem};
+ghost use Rattle.cbor.specs.Spellings.{HasItemBefore, IsItem, spelling_of};
 ghost use Rattle.cbor.specs.declared.reading.Spelling.TheVariants.{Any};
 
 use crate::answer::{Reason, Refusal};
@@ -24,7 +26,7 @@ use ciborium::de::{
 use ciborium::ser::into_writer;
 use ciborium_value::{Kind, Value};
 use std::alloc::{AllocError, Global};
-use std::io;
+use std::io::{self, BufRead};
 
 /// The value of a line whose bytes are one item in a spelling that is asked for, within this many
 /// levels. `room` is a buffer for the bytes, to be used again.
@@ -112,7 +114,7 @@ pub fn read_front(
     ensures refused { IfErr result (λ refusal.
         IsFrontRefused spelling rest.old.now limit refusal) }
 {
-    match read_value(alloc, rest, spelling, limit) {
+    match read_spelled(alloc, rest, spelling, limit) {
         Ok(value) => Ok(value),
         // Unreachable in practice: a slice does not fail before its end.
         Err(error) => Err(name_refusal(error, rest.is_empty()).unwrap_or(Refusal::Memory)),
@@ -140,22 +142,25 @@ pub fn name_refusal(error: Error<io::Error>, is_at_end: bool) -> Option<Refusal>
     }
 }
 
-// Reads the value at the front by the reader of these spellings.
-fn read_value(
+/// Reads the value of the item at the front by the reader of these spellings, and leaves what
+/// follows it.
+///
+/// # Errors
+///
+/// Those of that reader.
+pub fn read_spelled<R: BufRead>(
     alloc: Global,
-    rest: &mut &[u8],
+    reader: &mut R,
     spelling: Spelling,
     limit: usize,
 ) -> Result<Value, Error<io::Error>>
-    ensures item { IfOk result (λ value.
-        HasItemBefore spelling rest.old.now limit (tree_of value) rest.new.now) }
-    ensures refused { IfErr result (λ e.
-        IsRefusedBy (Some rest.new.now) e (RefusesItem spelling rest.old.now limit)) }
+    ensures { ReadsWhole (spelling_of spelling) (R.remaining reader.old) limit
+        (R.remaining reader.new) (read_as tree_of result) }
 {
     match spelling {
-        Spelling::Any => from_buf_reader_with_recursion_limit(alloc, rest, limit),
+        Spelling::Any => from_buf_reader_with_recursion_limit(alloc, reader, limit),
         Spelling::Deterministic(order) => {
-            from_buf_reader_deterministic_with_order(alloc, rest, limit, order)
+            from_buf_reader_deterministic_with_order(alloc, reader, limit, order)
         }
     }
 }

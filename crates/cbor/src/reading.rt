@@ -21,8 +21,9 @@ pub enum Reading {
 /// How an item is shown.
 #[derive(Clone, Copy, Debug)]
 pub enum Showing {
-    /// By its one shortest encoding, in lower-case hex (RFC 8949, section 4.1).
-    Encoding,
+    /// By its one shortest encoding, in lower-case hex (RFC 8949, section 4.1), where it is in such
+    /// a spelling.
+    Encoding(Spelling),
     /// By its diagnostic notation (RFC 8949, section 8).
     Notation(Layout),
     /// By its deterministic encoding, in lower-case hex, with the keys of its maps in this order
@@ -39,7 +40,7 @@ pub enum Layout {
     Indented,
 }
 
-/// Which spellings of an item a line may have.
+/// Which spellings an item may have.
 #[derive(Clone, Copy, Debug)]
 pub enum Spelling {
     /// Any (RFC 8949, section 3).

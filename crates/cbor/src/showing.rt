@@ -4,13 +4,24 @@ ghost use Rattle.std.specs.Prelude.{◌≡◌, ◌⊎◌, ◌++◌, IfErr, IfOk,
 ghost use Rattle.ciborium_value.specs.Taken.{gives, refuses};
 ghost use Rattle.ciborium_value.specs.View.{tree_of};
 ghost use Rattle.ciborium_value.specs.declared.kind.Kind.TheVariants.{DuplicateKey, TooLarge};
-ghost use Rattle.cbor.specs.Shown.{notation_text, shown_text, shown_tree};
+ghost use Rattle.cbor.specs.Shown.{notation_text, shown_spelling, shown_text};
+ghost use Rattle.cbor.specs.Shown.{shown_tree};
 
 use crate::items::push_encoding;
-use crate::reading::{Layout, Showing};
+use crate::reading::{Layout, Showing, Spelling};
 use ciborium_value::{Kind, Value};
 use std::alloc::AllocError;
 use std::io::Write;
+
+/// Which spellings an item may have that is shown so.
+pub fn shown_spelling(showing: Showing) -> Spelling
+    ensures { result ≡ shown_spelling showing }
+{
+    match showing {
+        Showing::Encoding(spelling) => spelling,
+        Showing::Notation(_) | Showing::Form(_) => Spelling::Any,
+    }
+}
 
 /// Makes a value the one by which it is shown: its deterministic form, where that is wanted, and
 /// else itself.
@@ -26,7 +37,7 @@ pub fn make_shown(value: &mut Value, showing: Showing) -> Result<(), Kind>
     ensures kinds { IfErr result (λ kind. (kind ≡ DuplicateKey) ⊎ (kind ≡ TooLarge)) }
 {
     match showing {
-        Showing::Encoding | Showing::Notation(_) => Ok(()),
+        Showing::Encoding(_) | Showing::Notation(_) => Ok(()),
         Showing::Form(order) => value.make_deterministic(order),
     }
 }
@@ -47,7 +58,7 @@ pub fn push_shown(
         (text.new.items ≡ text.old.items ++ shown_text showing (tree_of value.now)) }
 {
     match showing {
-        Showing::Encoding | Showing::Form(_) => push_encoding(value, room, text),
+        Showing::Encoding(_) | Showing::Form(_) => push_encoding(value, room, text),
         Showing::Notation(layout) => push_notation(value, layout, text),
     }
 }

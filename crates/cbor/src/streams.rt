@@ -15,19 +15,20 @@ ghost use Rattle.cbor.specs.Streams.{HoldsItem, IsReadNext, IsStreamShown, shown
 
 use crate::answer::Refusal;
 use crate::fault::Fault;
-use crate::items::{name_refusal, read_front};
+use crate::items::{name_refusal, read_front, read_spelled};
 use crate::lines::{put_text, send_waiting};
 use crate::reading::{Showing, Spelling};
 use crate::retrying::Retrying;
 use crate::sequences::{write_formless_item, write_refused_item};
-use crate::showing::{make_shown, push_shown};
-use ciborium::de::{Error, from_buf_reader_with_recursion_limit};
+use crate::showing::{make_shown, push_shown, shown_spelling};
+use ciborium::de::Error;
 use ciborium_value::{Kind, Value};
 use std::alloc::Global;
 use std::io::{self, BufRead, BufReader, ErrorKind, Read, Write};
 
 /// Shows each item of the input, which is a sequence as bytes, by a line on the output, and says
-/// whether all of the input is a sequence of items in any spelling, each within this many levels.
+/// whether all of the input is a sequence of items, each in a spelling that may be shown so and
+/// within this many levels.
 /// For the first item that is refused the line gives its number, counted from 1, and the reason,
 /// with the offset counted inside that item; the reason is `io` where the end of the input cuts the
 /// item short. So it does where the deterministic form of items is shown, for the first that has
@@ -73,8 +74,9 @@ fn show_stream<R: Read, W: Write>(
 {
     let mut room = Vec::new(alloc);
     let mut line = Vec::new(alloc);
+    let spelling = shown_spelling(showing);
     'items: for number in 1..u64::MAX {
-        match next_item(alloc, reader, limit, waiting, output)? {
+        match next_item(alloc, reader, spelling, limit, waiting, output)? {
             None => return Ok(true),
             Some(Ok(mut value)) => {
                 if let Err(kind) = make_shown(&mut value, showing) {
@@ -98,39 +100,45 @@ fn show_stream<R: Read, W: Write>(
 fn next_item<R: Read, W: Write>(
     alloc: Global,
     reader: &mut BufReader<R>,
+    spelling: Spelling,
     limit: usize,
     waiting: &mut Vec<u8>,
     output: &mut W,
 ) -> Result<Option<Result<Value, Refusal>>, Fault>
     ensures next { (b : List ℕ) → reader_remaining R.remaining reader.old ≡ Some b →
         IfOk result (λ next. MatchOption next (b ≡ []) (λ item. (0 < length b)
-        × IsReadNext b limit (reader_remaining R.remaining reader.new) item)) }
-    ensures sent { HoldsItem (reader_buffer reader.old) limit ⊎ (waiting.new.items ≡ []) }
+        × IsReadNext spelling b limit (reader_remaining R.remaining reader.new) item)) }
+    ensures sent { HoldsItem spelling (reader_buffer reader.old) limit ⊎ (waiting.new.items ≡ []) }
     ensures held { (w : List ℕ) →
         append_known (W.contents output.old) waiting.old.items ≡ Some w →
         OnOk result (append_known (W.contents output.new) waiting.new.items ≡ Some w) }
 {
-    if let Some(value) = read_held(alloc, reader, limit) {
+    if let Some(value) = read_held(alloc, reader, spelling, limit) {
         return Ok(Some(Ok(value)));
     }
     send_lines(waiting, output)?;
     if is_at_end(reader)? {
         return Ok(None);
     }
-    let next = read_next(alloc, reader, limit)?;
+    let next = read_next(alloc, reader, spelling, limit)?;
     Ok(Some(next))
 }
 
 // Reads the item at the front where the buffer holds it whole, and otherwise takes nothing.
-fn read_held<R: Read>(alloc: Global, reader: &mut BufReader<R>, limit: usize) -> Option<Value>
+fn read_held<R: Read>(
+    alloc: Global,
+    reader: &mut BufReader<R>,
+    spelling: Spelling,
+    limit: usize,
+) -> Option<Value>
     ensures item { (b : List ℕ) → reader_remaining R.remaining reader.old ≡ Some b →
         MatchOption result (reader_remaining R.remaining reader.new ≡ Some b)
-        (λ value. IsReadNext b limit (reader_remaining R.remaining reader.new) (Ok value)) }
-    ensures held { IfSome result (λ value. HoldsItem (reader_buffer reader.old) limit) }
+        (λ value. IsReadNext spelling b limit (reader_remaining R.remaining reader.new) (Ok value)) }
+    ensures held { IfSome result (λ value. HoldsItem spelling (reader_buffer reader.old) limit) }
 {
     let bytes = reader.buffer();
     let mut rest = bytes;
-    let Ok(value) = read_front(alloc, &mut rest, Spelling::Any, limit) else {
+    let Ok(value) = read_front(alloc, &mut rest, spelling, limit) else {
         return None;
     };
     let taken = bytes.len() - rest.len();
@@ -155,12 +163,13 @@ fn is_at_end<R: Read>(reader: &mut BufReader<R>) -> Result<bool, Fault>
 fn read_next<R: Read>(
     alloc: Global,
     reader: &mut BufReader<R>,
+    spelling: Spelling,
     limit: usize,
 ) -> Result<Result<Value, Refusal>, Fault>
     ensures { (b : List ℕ) → reader_remaining R.remaining reader.old ≡ Some b →
-        IfOk result (λ next. IsReadNext b limit (reader_remaining R.remaining reader.new) next) }
+        IfOk result (λ next. IsReadNext spelling b limit (reader_remaining R.remaining reader.new) next) }
 {
-    match from_buf_reader_with_recursion_limit::<Value, _>(alloc, reader, limit) {
+    match read_spelled(alloc, reader, spelling, limit) {
         Ok(value) => Ok(Ok(value)),
         Err(error) => {
             let is_cut = is_cut_short(&error, reader)?;

@@ -100,7 +100,15 @@ fn judge_showing(words: &[String]) -> Option<Command>
         (λ command. AskFor (map string_bytes words.now) command) }
 {
     if let Some(limit) = limit_behind(words, &["read", "--binary"]) {
-        return Some(Command::Show(Showing::Encoding, limit));
+        return Some(Command::Show(Showing::Encoding(Spelling::Any), limit));
+    }
+    if let Some(limit) = limit_behind(words, &["read", "--binary", "--det"]) {
+        let spelling = Spelling::Deterministic(LengthFirst);
+        return Some(Command::Show(Showing::Encoding(spelling), limit));
+    }
+    if let Some(limit) = limit_behind(words, &["read", "--binary", "--det", "--core"]) {
+        let spelling = Spelling::Deterministic(Bytewise);
+        return Some(Command::Show(Showing::Encoding(spelling), limit));
     }
     if let Some(limit) = limit_behind(words, &["diag", "--binary"]) {
         return Some(Command::Show(Showing::Notation(Layout::OneLine), limit));

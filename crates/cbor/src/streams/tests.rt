@@ -1,7 +1,7 @@
 // Streams of items, how each kind is shown, where they end, and faults.
 use super::show_items;
 use crate::fault::Fault;
-use crate::reading::{Layout, Showing};
+use crate::reading::{Layout, Showing, Spelling};
 use crate::test_devices::{Asker, Device, Mended, Source, Tally, Viewer};
 use ciborium::de::RECURSION_LIMIT;
 use std::alloc::Global;
@@ -11,7 +11,7 @@ use std::process::Abort;
 use std::test::Fail;
 
 const SHOWINGS: [Showing; 3] = [
-    Showing::Encoding,
+    Showing::Encoding(Spelling::Any),
     Showing::Notation(Layout::OneLine),
     Showing::Notation(Layout::Indented),
 ];
@@ -116,7 +116,7 @@ fn tells_the_end_from_a_cut(rt: HostRuntime) -> Result<(), Fail> {
                 &rt,
                 rt.alloc(),
                 &mut source,
-                Showing::Encoding,
+                Showing::Encoding(Spelling::Any),
                 RECURSION_LIMIT,
                 expected,
             );
@@ -179,7 +179,13 @@ fn expect_seen(rt: &impl Abort, alloc: Global, given: &[&str], expected: (usize,
     let seen = Cell::new(0);
     let mut input = Asker::new(given, &seen);
     let mut output = Viewer::new(&seen);
-    let ended = show_items(alloc, &mut input, Showing::Encoding, 256, &mut output);
+    let ended = show_items(
+        alloc,
+        &mut input,
+        Showing::Encoding(Spelling::Any),
+        256,
+        &mut output,
+    );
     assert!(rt; matches!(ended, Ok(false)));
     assert_eq!(rt; (input.given(), seen.get()), expected);
 }
@@ -237,7 +243,7 @@ fn keeps_the_order_of_a_long_line(rt: HostRuntime) -> Result<(), Fail> {
             &rt,
             rt.alloc(),
             &mut source,
-            Showing::Encoding,
+            Showing::Encoding(Spelling::Any),
             256,
             expected,
         );
@@ -268,7 +274,13 @@ fn tells_a_fault_of_the_input(rt: HostRuntime) {
     for &(before, kind, after, text) in FAULTS {
         let mut input = Mended::new(before, kind, after);
         let mut output = Vec::new(rt.alloc());
-        let shown = show_items(rt.alloc(), &mut input, Showing::Encoding, 256, &mut output);
+        let shown = show_items(
+            rt.alloc(),
+            &mut input,
+            Showing::Encoding(Spelling::Any),
+            256,
+            &mut output,
+        );
         match text {
             Some(text) => {
                 assert!(rt; matches!(shown, Ok(true)));
@@ -286,7 +298,13 @@ fn tells_a_fault_of_the_output(rt: HostRuntime) {
     for room in 0..=text.len() {
         let mut input = Source::new(b"\x01\x61a\x1e", usize::MAX, None);
         let mut output = Device::new(rt.alloc(), room, room == text.len());
-        let shown = show_items(rt.alloc(), &mut input, Showing::Encoding, 256, &mut output);
+        let shown = show_items(
+            rt.alloc(),
+            &mut input,
+            Showing::Encoding(Spelling::Any),
+            256,
+            &mut output,
+        );
         assert!(rt; matches!(shown, Err(Fault::Output)), "{room}");
         let held = if room == text.len() { 8 } else { room };
         assert_eq!(rt; output.held(), &text[..held], "{room}");

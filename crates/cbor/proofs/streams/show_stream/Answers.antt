@@ -21,7 +21,7 @@ returns-in-Some-Err g c b w e f =
     first-refused c.args.showing b c.args.limit w _ _ c.items.number _ c.in-Some-Err.refusal
     (shown-still c.args.showing b c.args.limit w _ _ c.items.number _ (c.items.invariant b w e f)
     c.in_ok-next_item.ensures.held)
-    (λ xs h. rw next at (c.in_ok-next_item.ensures.next xs h)) c.in_ok-show_refused-in-Some-Err.ensures
+    (λ xs h. rw (next, c.shown_spelling-spelling.ensures) at (c.in_ok-next_item.ensures.next xs h)) c.in_ok-show_refused-in-Some-Err.ensures
 
 pub returns-in-Err : goal.returns-in-Err
 returns-in-Err g c b w e f =
@@ -30,7 +30,7 @@ returns-in-Err g c b w e f =
     first-formless c.args.showing b c.args.limit w _ _ c.items.number _ _ c.in-Some-Ok.value c.in-Err.kind
     (shown-still c.args.showing b c.args.limit w _ _ c.items.number _ (c.items.invariant b w e f)
     c.in_ok-next_item.ensures.held)
-    (λ xs h. rw next at (c.in_ok-next_item.ensures.next xs h)) c.in-Err.ensures.formless
+    (λ xs h. rw (next, c.shown_spelling-spelling.ensures) at (c.in_ok-next_item.ensures.next xs h)) c.in-Err.ensures.formless
     c.in_ok-show_formless-in-Some-Ok.ensures
 
 pub items-preserved : goal.items-preserved
@@ -41,5 +41,5 @@ items-preserved g c b w e f =
     (tree_of c.make_shown.new.value)
     (shown-still c.args.showing b c.args.limit w _ _ c.items.number _ (c.items.invariant b w e f)
     c.in_ok-next_item.ensures.held)
-    (λ xs h. let (some, read) = rw next at (c.in_ok-next_item.ensures.next xs h) in read)
+    (λ xs h. let (some, read) = rw (next, c.shown_spelling-spelling.ensures) at (c.in_ok-next_item.ensures.next xs h) in read)
     c.in_default.ensures.form c.in_ok-show_item-in-Some-Ok.ensures
