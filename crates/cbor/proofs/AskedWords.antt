@@ -14,7 +14,8 @@ use Rattle.cbor.specs.declared.reading.Reading.TheVariants as readings
 use Rattle.cbor.specs.declared.reading.Showing.{Showing}
 use Rattle.cbor.specs.declared.reading.Showing.TheVariants as showings
 use Rattle.cbor.specs.declared.reading.Spelling.TheVariants.{Any, Deterministic}
-use Rattle.cbor.specs.Words.{AreWordsFor, AreWrong, AskFor, NameLimit, NameLimitBehind, command_limit, command_words}
+use Rattle.cbor.specs.Words.{AreWordsFor, AskForNothing, AskFor, NameLimit, NameLimitBehind, command_limit}
+use Rattle.cbor.specs.Words.{command_words}
 
 -- ---- words ask for one command
 
@@ -212,7 +213,7 @@ asks-for-one words c d p q =
 -- where they ask for no command without a limit, and for none with one, they are wrong
 asks-for-none : (words : List (List ℕ)) →
     ((command : Command) → command_limit command ≡ None → ¬ AskFor words command) →
-    ((command : Command) → IsSome (command_limit command) → ¬ AskFor words command) → AreWrong words
+    ((command : Command) → IsSome (command_limit command) → ¬ AskFor words command) → AskForNothing words
 asks-for-none words alone limited command asked =
     elim (none-or-some (command_limit command)) [
       | inl none ↦ alone command none asked
@@ -227,7 +228,7 @@ pub judged : (words : List (List ℕ)) (r : Option Command) →
     ((command : Command) → command_limit command ≡ None → ¬ AskFor words command) →
     MatchOption r ((command : Command) → IsSome (command_limit command) → ¬ AskFor words command)
     (λ command. AskFor words command) →
-    MatchOption r (AreWrong words) (λ command. AskFor words command)
+    MatchOption r (AskForNothing words) (λ command. AskFor words command)
 judged words None alone limited = asks-for-none words alone limited
 judged words (Some command) alone asked = asked
 

@@ -13,6 +13,7 @@ pub mod OneTextAnswer
 pub mod OneLineAnswer
 pub mod OneSequenceAnswer
 pub mod ReadBytes
+pub mod ShownFiles
 pub mod ShownItems
 pub mod SortedValues
 pub mod SpelledItems

@@ -8,12 +8,13 @@ use Rattle.cbor.specs.Sequence.{refused_item_text}
 use Rattle.cbor.specs.Streams.{IsStreamShown, refused, shown_line, whole}
 use Rattle.cbor.proofs.AnsweredLines.{still}
 
-pub shown-still : (showing : Showing) (b : List ℕ) (limit : ℕ) (w : List ℕ) (all : Bool) (held now : Option (List ℕ)) →
+pub shown-still : (place : List ℕ) (showing : Showing) (b : List ℕ) (limit : ℕ) (w : List ℕ)
+    (all : Bool) (held now : Option (List ℕ)) →
     Keeps held now →
-    IsStreamShown showing b limit w all held → IsStreamShown showing b limit w all now
-shown-still showing b limit w all held now k (whole trees shown after items of e) =
+    IsStreamShown place showing b limit w all held → IsStreamShown place showing b limit w all now
+shown-still place showing b limit w all held now k (whole trees shown after items of e) =
     whole trees shown now items of (still held now (w ++ flat_map (shown_line showing) shown) k e)
-shown-still showing b limit w all held now k (refused trees shown rest reason after items of more h e) =
+shown-still place showing b limit w all held now k (refused trees shown rest reason after items of more h e) =
     refused trees shown rest reason now items of more h
-    (still held now ((w ++ flat_map (shown_line showing) shown) ++ text_line
+    (still held now (((w ++ flat_map (shown_line showing) shown) ++ place) ++ text_line
     (refused_item_text (length trees + 1) reason)) k e)

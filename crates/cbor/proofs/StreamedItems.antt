@@ -43,15 +43,16 @@ ended b (Ok false) h = λ t. absurd cc
 ended b (Err e) h = tt
 
 -- behind w the line of the item of this number is written, which is refused, but not for memory
-abbrev pub IsRefusalBehind : List ℕ → ℕ → Refusal → Option (List ℕ) → Type 0
-IsRefusalBehind w n e after =
-    (wants_memory e ≡ false) × (after ≡ Some (w ++ text_line (refused_item_text n (refused_text e))))
+abbrev pub IsRefusalBehind : List ℕ → List ℕ → ℕ → Refusal → Option (List ℕ) → Type 0
+IsRefusalBehind place w n e after =
+    (wants_memory e ≡ false) × (after ≡ Some ((w ++ place) ++ text_line (refused_item_text n (refused_text e))))
 
-pub refused-shown : {E : Type 0} (w : List ℕ) (n : ℕ) (e : Refusal) (text : List ℕ) (after : Option (List ℕ))
+pub refused-shown : {E : Type 0} (place w : List ℕ) (n : ℕ) (e : Refusal) (text : List ℕ) (after : Option (List ℕ))
     (r : Result Unit E) → (wants_memory e ≡ false) × (text ≡ refused_item_text n (refused_text e)) →
-    OnOk r (after ≡ Some (w ++ text_line text)) → OnOk r (IsRefusalBehind w n e after)
-refused-shown w n e text after (Ok u) (m, same) h = (m, h ∙ ap (λ (t : List ℕ). Some (w ++ text_line t)) same)
-refused-shown w n e text after (Err x) same h = tt
+    OnOk r (after ≡ Some ((w ++ place) ++ text_line text)) → OnOk r (IsRefusalBehind place w n e after)
+refused-shown place w n e text after (Ok u) (m, same) h =
+    (m, h ∙ ap (λ (t : List ℕ). Some ((w ++ place) ++ text_line t)) same)
+refused-shown place w n e text after (Err x) same h = tt
 
 -- ---- all items
 
@@ -59,7 +60,8 @@ refused-shown w n e text after (Err x) same h = tt
 abbrev pub AreShownSoFar : Showing → List ℕ → ℕ → List ℕ → Option (List ℕ) → Option (List ℕ) → ℕ → Type 0
 AreShownSoFar showing b limit w left held number =
     (trees : List Tree) × (shown : List Tree) × (rest : List ℕ) × (left ≡ Some rest) ×
-    AreItemsBefore (shown_spelling showing) b limit trees rest × AreShownOf showing trees shown × AreShownBehind showing w shown held ×
+    AreItemsBefore (shown_spelling showing) b limit trees rest × AreShownOf showing trees shown ×
+    AreShownBehind showing w shown held ×
     (number ≡ length trees + 1)
 
 -- one more is shown of one more item
@@ -79,7 +81,8 @@ none-shown showing b limit w left held e f =
 abbrev pub IsKept : Option (List ℕ) → Option (List ℕ) → Type 0
 IsKept left kept = (xs : List ℕ) → left ≡ Some xs → kept ≡ Some xs
 
-module _ (showing : Showing) (b : List ℕ) (limit : ℕ) (w : List ℕ) (left held : Option (List ℕ)) (number : ℕ) where
+module _ (place : List ℕ) (showing : Showing) (b : List ℕ) (limit : ℕ) (w : List ℕ) (left held : Option (List ℕ))
+    (number : ℕ) where
   -- the output behind these items
   abbrev behind : List Tree → List ℕ
   behind trees = w ++ flat_map (shown_line showing) trees
@@ -92,9 +95,10 @@ module _ (showing : Showing) (b : List ℕ) (limit : ℕ) (w : List ℕ) (left h
 
   -- the input ends
   pub all-shown : AreShownSoFar showing b limit w left held number → ((xs : List ℕ) → left ≡ Some xs → xs ≡ []) →
-      IsStreamShown showing b limit w true held
+      IsStreamShown place showing b limit w true held
   all-shown (trees, shown, rest, e, a, of, same, count) ends =
-      whole trees shown held (subst (λ (r : List ℕ). AreItemsBefore (shown_spelling showing) b limit trees r) (ends rest e) a) of same
+      whole trees shown held
+      (subst (λ (r : List ℕ). AreItemsBefore (shown_spelling showing) b limit trees r) (ends rest e) a) of same
 
   module _ (now : Option (List ℕ)) where
     -- one more item is read and shown
@@ -120,12 +124,13 @@ module _ (showing : Showing) (b : List ℕ) (limit : ℕ) (w : List ℕ) (left h
     -- the next item is refused, and the line says so
     pub first-refused : (e : Refusal) → AreShownSoFar showing b limit w left held number →
         ((xs : List ℕ) → left ≡ Some xs → (0 < length xs) × IsFrontRefused (shown_spelling showing) xs limit e) →
-        ((ys : List ℕ) → held ≡ Some ys → IsRefusalBehind ys number e now) → IsStreamShown showing b limit w false now
+        ((ys : List ℕ) → held ≡ Some ys → IsRefusalBehind place ys number e now) →
+        IsStreamShown place showing b limit w false now
     first-refused e (trees, shown, rest, is, a, of, same, count) read written =
         let (some, why) = read rest is in
         let line = written (behind shown) same in
         let f = front-refusal (shown_spelling showing) rest limit e line.0 why in
-        let text = λ (n : ℕ) (t : List ℕ). Some (behind shown ++ text_line (refused_item_text n t)) in
+        let text = λ (n : ℕ) (t : List ℕ). Some ((behind shown ++ place) ++ text_line (refused_item_text n t)) in
         refused trees shown rest (refusal_text f.0) now a of some (inl (f.0, f.1, refl))
         (line.1 ∙ ap (λ (n : ℕ). text n (refused_text e)) count ∙ ap (text (length trees + 1)) f.2)
 
@@ -135,19 +140,20 @@ module _ (showing : Showing) (b : List ℕ) (limit : ℕ) (w : List ℕ) (left h
         ((xs : List ℕ) → left ≡ Some xs → (0 < length xs) × IsReadNext (shown_spelling showing) xs limit next (Ok v)) →
         shown_tree showing (tree_of v) ≡ refuses k →
         ((ys : List ℕ) → held ≡ Some ys →
-        now ≡ Some (ys ++ text_line (refused_item_text number (formless_text k)))) →
-        IsStreamShown showing b limit w false now
+        now ≡ Some ((ys ++ place) ++ text_line (refused_item_text number (formless_text k)))) →
+        IsStreamShown place showing b limit w false now
     first-formless next v k (trees, shown, rest, is, a, of, same, count) read form written =
         let (some, item) = read rest is in
-        let text = λ (n : ℕ). Some (behind shown ++ text_line (refused_item_text n (formless_text k))) in
+        let text = λ (n : ℕ). Some ((behind shown ++ place) ++ text_line (refused_item_text n (formless_text k))) in
         refused trees shown rest (formless_text k) now a of some
         (inr (tree_of v, item.0, k, item.1, form, refl)) (written (behind shown) same ∙ ap text count)
 
 -- what is shown stays so where what waits is sent at the end
-pub shown-sent : (showing : Showing) (b : List ℕ) (limit : ℕ) (w : List ℕ) (held now : Option (List ℕ)) →
-    IsKept held now → (all : Bool) → IsStreamShown showing b limit w all held →
-    IsStreamShown showing b limit w all now
-shown-sent showing b limit w held now keeps all (whole trees shown was a of same) =
+pub shown-sent : (place : List ℕ) (showing : Showing) (b : List ℕ) (limit : ℕ) (w : List ℕ)
+    (held now : Option (List ℕ)) →
+    IsKept held now → (all : Bool) → IsStreamShown place showing b limit w all held →
+    IsStreamShown place showing b limit w all now
+shown-sent place showing b limit w held now keeps all (whole trees shown was a of same) =
     whole trees shown now a of (keeps (w ++ flat_map (shown_line showing) shown) same)
-shown-sent showing b limit w held now keeps all (refused trees shown rest reason was a of some f line) =
+shown-sent place showing b limit w held now keeps all (refused trees shown rest reason was a of some f line) =
     refused trees shown rest reason now a of some f (keeps _ line)

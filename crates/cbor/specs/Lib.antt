@@ -1,6 +1,7 @@
 pub mod Answer
 pub mod Dumped
 pub mod Ends
+pub mod Files
 pub mod Forms
 pub mod Line
 pub mod Laws

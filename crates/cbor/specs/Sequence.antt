@@ -13,8 +13,8 @@ use Rattle.cbor.specs.declared.reading.Spelling.TheVariants.{Any}
 use Rattle.cbor.specs.Line.{hex_text, refusal_text}
 use Rattle.cbor.specs.Spellings.{HasItemBefore, RefusesItem}
 
--- b begins with items one after the other, which mean these trees, and rest is left: each is spelled
--- so and good within so many levels, and offsets are counted from its own first byte
+-- b begins with items one after the other, which mean these trees, and rest is left: each is
+-- spelled so and good within so many levels, and offsets are counted from its own first byte
 abbrev pub AreItemsBefore : Spelling → List ℕ → ℕ → List Tree → List ℕ → Type 0
 AreItemsBefore spelling b limit [] rest = b ≡ rest
 AreItemsBefore spelling b limit (tree ∷ trees) rest = (left : List ℕ) ×

@@ -44,19 +44,20 @@ TellsNoItem showing b limit reason =
 
 -- the items of b are shown behind w, each within so many levels: of all of b, which is a sequence,
 -- or of those before the first that is refused or has no form, and then comes the line that says
--- its number, counted from 1, and why
-pub data IsStreamShown (showing : Showing) (b : List ℕ) (limit : ℕ) (w : List ℕ) : Bool →
-    Option (List ℕ) → Type 0 where
+-- in which place, its number, counted from 1, and why
+pub data IsStreamShown (place : List ℕ) (showing : Showing) (b : List ℕ) (limit : ℕ)
+    (w : List ℕ) : Bool → Option (List ℕ) → Type 0 where
   whole : (trees shown : List Tree) (after : Option (List ℕ)) →
       AreItemsBefore (shown_spelling showing) b limit trees [] → AreShownOf showing trees shown →
       AreShownBehind showing w shown after →
-      IsStreamShown showing b limit w true after
+      IsStreamShown place showing b limit w true after
   refused : (trees shown : List Tree) (rest reason : List ℕ) (after : Option (List ℕ)) →
-      AreItemsBefore (shown_spelling showing) b limit trees rest → AreShownOf showing trees shown → 0 < length rest →
+      AreItemsBefore (shown_spelling showing) b limit trees rest →
+      AreShownOf showing trees shown → 0 < length rest →
       TellsNoItem showing rest limit reason →
-      after ≡ Some ((w ++ flat_map (shown_line showing) shown) ++ text_line
+      after ≡ Some (((w ++ flat_map (shown_line showing) shown) ++ place) ++ text_line
       (refused_item_text (length trees + 1) reason)) →
-      IsStreamShown showing b limit w false after
+      IsStreamShown place showing b limit w false after
 
 -- of the bytes b the item at the front was read, spelled so and within so many levels, and is the
 -- value, or is refused for this reason

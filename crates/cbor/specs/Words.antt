@@ -1,6 +1,9 @@
 -- Which words the program is run with, and what they ask for.
 use Rattle.std.specs.Prelude.{◌≡◌, ◌⊎◌, ℕ, ◌^◌, ◌<◌, List, [], ◌∷◌, Option, Some, None, MatchOption}
-use Rattle.std.specs.Prelude.{codes}
+use Rattle.std.specs.Prelude.{Bool, true, false, IsTrue, zero, suc, ◌-◌, ◌==◌, ◌&&◌, codes, get_or}
+use Rattle.std.specs.Prelude.{if◌then◌else◌, length, nat_le, take}
+use Rattle.std.specs.Char.{is_ascii_digit}
+use Rattle.std.specs.List.{list_all}
 use Rattle.std.specs.Str.Parse.{IsNumeral, digits_value}
 use Rattle.ciborium_value.specs.declared.key_order.KeyOrder.{KeyOrder}
 use Rattle.ciborium_value.specs.declared.key_order.KeyOrder.TheVariants.{LengthFirst, Bytewise}
@@ -91,6 +94,51 @@ AreShortFor words command = (words ≡ codes "-h" ∷ []) × (command ≡ Tell H
 abbrev pub AskFor : List (List ℕ) → Command → Type 0
 AskFor words command = AreWordsFor words command ⊎ AreShortFor words command
 
--- the words ask for nothing that the program does
+-- all of the words ask for nothing
+abbrev pub AskForNothing : List (List ℕ) → Type 0
+AskForNothing words = (command : Command) → ¬ AskFor words command
+
+-- whether files may be named behind the words for a command and its limit
+abbrev pub takes_files : Command → Bool
+takes_files (Show showing n) = true
+takes_files Dump = true
+takes_files other = false
+
+-- a word that is no name behind the first: a dash, and more behind it
+abbrev pub is_flag : List ℕ → Bool
+is_flag word = nat_le 2 (length word) && (get_or word 0 0 == 45)
+
+-- digits alone
+abbrev pub is_number : List ℕ → Bool
+is_number word = list_all is_ascii_digit word
+
+-- the words behind those at the front that are flags, but at most so many
+abbrev pub behind_flags : ℕ → List (List ℕ) → List (List ℕ)
+behind_flags zero words = words
+behind_flags (suc n) [] = []
+behind_flags (suc n) (word ∷ words) = if is_flag word then behind_flags n words else word ∷ words
+
+-- the words behind the first one, where it is digits alone
+abbrev pub behind_number : List (List ℕ) → List (List ℕ)
+behind_number [] = []
+behind_number (word ∷ words) = if is_number word then words else word ∷ words
+
+-- the words that may be names of files: those behind the first, flags, of which no command has more
+-- than three, and a word of digits right behind them
+abbrev pub words_behind : List (List ℕ) → List (List ℕ)
+words_behind [] = []
+words_behind (first ∷ words) = behind_number (behind_flags 3 words)
+
+-- the words before them
+abbrev pub words_before : List (List ℕ) → List (List ℕ)
+words_before words = take (length words - length (words_behind words)) words
+
+-- the words ask for nothing by themselves, but those before the names of these files ask for this
+abbrev pub AskForFiles : List (List ℕ) → Command → List (List ℕ) → Type 0
+AskForFiles words command names = AskForNothing words × AskFor (words_before words) command ×
+    IsTrue (takes_files command) × (names ≡ words_behind words)
+
+-- the words ask for nothing that the program does, with files or without
 abbrev pub AreWrong : List (List ℕ) → Type 0
-AreWrong words = (command : Command) → ¬ AskFor words command
+AreWrong words = AskForNothing words ×
+    ((command : Command) (names : List (List ℕ)) → ¬ AskForFiles words command names)

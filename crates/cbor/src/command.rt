@@ -2,6 +2,7 @@
 
 ghost use Rattle.std.specs.Prelude.{◌≡◌};
 ghost use Rattle.cbor.specs.Ends.{tells_devices};
+ghost use Rattle.cbor.specs.Words.{takes_files};
 
 use crate::reading::{Reading, Showing};
 use ciborium_value::KeyOrder;
@@ -23,8 +24,18 @@ pub enum Command {
 }
 
 impl Command {
-    /// Whether a fault of a device has a status of its own. `read`, `sort` and `seq` over lines give
-    /// it the status of what is refused.
+    /// Whether files may be named behind its words.
+    pub fn takes_files(self) -> bool
+        ensures { result ≡ takes_files self }
+    {
+        match self {
+            Command::Show(..) | Command::Dump => true,
+            Command::Answer(_) | Command::Sort(_) | Command::Tell(_) => false,
+        }
+    }
+
+    /// Whether a fault of a device has a status of its own. `read`, `sort` and `seq` over lines
+    /// give it the status of what is refused.
     pub fn tells_devices(self) -> bool
         ensures { result ≡ tells_devices self }
     {

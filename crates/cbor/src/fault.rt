@@ -11,6 +11,8 @@ use std::alloc::AllocError;
 pub enum Fault {
     /// The input could not be read.
     Input,
+    /// A file could not be opened.
+    Unopened,
     /// An answer could not be written.
     Output,
     /// An allocation for a line, for the list to sort or for the dump of bytes failed.
@@ -32,6 +34,7 @@ impl Fault {
     {
         match self {
             Fault::Input => "input failed\n",
+            Fault::Unopened => "cannot be opened\n",
             Fault::Output => "output failed\n",
             Fault::Memory => "memory\n",
         }

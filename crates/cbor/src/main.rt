@@ -10,6 +10,7 @@ mod digits;
 mod dumping;
 mod dumping_streams;
 mod fault;
+mod files;
 mod items;
 mod line_laws;
 mod lines;
@@ -26,6 +27,8 @@ mod test_devices;
 mod topics;
 mod words;
 
+use files::Opener;
+use std::fs::File;
 use std::io::Lock;
 use std::process::ExitCode;
 use std::{env, io};
@@ -36,12 +39,27 @@ fn main(rt: HostRuntime) -> ExitCode {
             rt.alloc(),
             &words,
             &mut rt.stdin().lock(),
+            &Host { rt: &rt },
             &mut rt.stdout().lock(),
             &mut rt.stderr().lock(),
         ),
         Err(_) => run::refuse_words(&mut rt.stderr().lock()),
     };
     ExitCode::from(status)
+}
+
+// The files of the system.
+#[derive(Drop)]
+struct Host<'a> {
+    rt: &'a HostRuntime,
+}
+
+impl<'a> Opener for Host<'a> {
+    type File = File;
+
+    fn open(&self, name: &str) -> io::Result<File> {
+        File::open(self.rt, name)
+    }
 }
 
 // Reads the arguments without the program's name.

@@ -1,15 +1,16 @@
 //! The command line: what is done for which words, and the status.
 
 ghost use Rattle.std.specs.Prelude.{◌≡◌, ◌≤◌, ◌++◌, ◌↔◌, ℕ, IfOk, IsTrue, List, OnOk, Ok, Some};
-ghost use Rattle.std.specs.Prelude.{map, string_bytes, true};
+ghost use Rattle.std.specs.Prelude.{[], map, string_bytes, true};
 ghost use Rattle.std.specs.Io.KnownBytes.{Appends, Keeps};
 ghost use Rattle.ciborium_value.specs.declared.key_order.KeyOrder.{KeyOrder};
 ghost use Rattle.cbor.specs.Ends.{IsStatusOf, end_status, fault_status};
+ghost use Rattle.cbor.specs.Files.{AreFilesShown, AreInputs, Input};
 ghost use Rattle.cbor.specs.Lines.{AreAnswered};
 ghost use Rattle.cbor.specs.SortedLines.{AreSortedLines, AreSortedOrRefused};
 ghost use Rattle.cbor.specs.Streams.{IsDumpedBehind, IsStreamShown};
 ghost use Rattle.cbor.specs.Topics.{topic_text};
-ghost use Rattle.cbor.specs.Words.{AreWrong, AskFor};
+ghost use Rattle.cbor.specs.Words.{AreWrong, AskFor, AskForFiles, takes_files};
 ghost use Rattle.cbor.specs.declared.command.Command.{Command};
 ghost use Rattle.cbor.specs.declared.command.Command.TheVariants.{Answer, Dump, Show, Sort, Tell};
 ghost use Rattle.cbor.specs.declared.command.Topic.{Topic};
@@ -20,10 +21,11 @@ use crate::answering::answer_lines;
 use crate::command::{Command, Topic};
 use crate::dumping_streams::dump_input;
 use crate::fault::Fault;
+use crate::files::{Opener, show_files};
 use crate::sorting::sort_lines;
 use crate::streams::show_items;
 use crate::topics::topic_text;
-use crate::words::judge_words;
+use crate::words::{judge_files, judge_words};
 use ciborium::de::RECURSION_LIMIT;
 use std::alloc::Global;
 use std::io::{self, Read, Write};
@@ -62,8 +64,10 @@ cbor --help tells of the other commands
 /// `item`, its number, counted from 1, a colon and the reason, with the offset counted inside that
 /// item.
 /// `dump --binary` takes all of the input as the bytes of one item, reads it whole, and then writes
-/// its dump, with a line feed behind the reason where it is none. `--help` or `-h`, as the only
-/// word, lists the commands, and `--version` prints the version.
+/// its dump, with a line feed behind the reason where it is none. Behind the words of a command
+/// with `--binary`, and its limit, files may be named, which are shown one after the other; `-` is
+/// the input. Before `item` stand then the name and a colon, and so they do before a fault.
+/// `--help` or `-h`, as the only word, lists the commands, and `--version` prints the version.
 ///
 /// The status is 0 where every line or item is as it is asked for, and 1 where one is not. It is 2
 /// for any other words, and for none: the usage is then written to `errors`, and input and output
@@ -71,10 +75,11 @@ cbor --help tells of the other commands
 /// bytes, the list to sort or the dump of bytes, the run ends, and `errors` names the first such
 /// fault. The status is then 3 where the input or the output failed, and 1 for an allocation, and
 /// for any fault of `read`, `sort` and `seq` over lines, and of `--help` and `--version`.
-pub fn run<R: Read, W: Write, E: Write>(
+pub fn run<R: Read, O: Opener, W: Write, E: Write>(
     alloc: Global,
     words: &[String],
     input: &mut R,
+    opener: &O,
     output: &mut W,
     errors: &mut E,
 ) -> u8
@@ -94,21 +99,55 @@ pub fn run<R: Read, W: Write, E: Write>(
     ensures shown { (showing : Showing) (limit : ℕ) (b w : List ℕ) →
         AskFor (map string_bytes words.now) (Show showing limit) →
         R.remaining input.old ≡ Some b → W.contents output.old ≡ Some w → result ≡ 0 →
-        IsStreamShown showing b limit w true (W.contents output.new) }
+        IsStreamShown [] showing b limit w true (W.contents output.new) }
     ensures dumped { (b w : List ℕ) → AskFor (map string_bytes words.now) Dump →
         R.remaining input.old ≡ Some b → W.contents output.old ≡ Some w → result ≡ 0 →
         IsDumpedBehind b w true (W.contents output.new) }
     ensures told { (topic : Topic) (w : List ℕ) →
         AskFor (map string_bytes words.now) (Tell topic) → W.contents output.old ≡ Some w →
         result ≡ 0 → W.contents output.new ≡ Some (w ++ topic_text topic) }
+    ensures right_files { (command : Command) (names : List (List ℕ)) →
+        AskForFiles (map string_bytes words.now) command names → IsStatusOf command result }
+    ensures files { (command : Command) (inputs : List Input) (w : List ℕ) →
+        AskForFiles (map string_bytes words.now) command (map (λ i. i.0) inputs) →
+        AreInputs (O.held opener.now) (R.remaining input.old) inputs →
+        W.contents output.old ≡ Some w → result ≡ 0 →
+        AreFilesShown command inputs w true (W.contents output.new) }
 {
     match judge_words(words) {
         Some(command) => {
             let done = perform(alloc, command, input, output);
             conclude(command, done, errors)
         }
-        None => refuse_words(errors),
+        None => run_on_files(alloc, words, input, opener, output, errors),
     }
+}
+
+// Does what the words say that name files, as `run` does.
+fn run_on_files<R: Read, O: Opener, W: Write, E: Write>(
+    alloc: Global,
+    words: &[String],
+    input: &mut R,
+    opener: &O,
+    output: &mut W,
+    errors: &mut E,
+) -> u8
+    ensures wrong { AreWrong (map string_bytes words.now) →
+        (result ≡ 2) × (R.remaining input.new ≡ R.remaining input.old)
+        × (W.contents output.new ≡ W.contents output.old) }
+    ensures right { (command : Command) (names : List (List ℕ)) →
+        AskForFiles (map string_bytes words.now) command names → IsStatusOf command result }
+    ensures files { (command : Command) (inputs : List Input) (w : List ℕ) →
+        AskForFiles (map string_bytes words.now) command (map (λ i. i.0) inputs) →
+        AreInputs (O.held opener.now) (R.remaining input.old) inputs →
+        W.contents output.old ≡ Some w → result ≡ 0 →
+        AreFilesShown command inputs w true (W.contents output.new) }
+{
+    let Some((command, names)) = judge_files(words) else {
+        return refuse_words(errors);
+    };
+    let done = perform_on_files(alloc, command, names, input, opener, output, errors);
+    conclude(command, done, errors)
 }
 
 /// Tells how the program is used, and returns the exit status for words that are wrong, or that
@@ -150,7 +189,7 @@ fn perform<R: Read, W: Write>(
     ensures shown { (showing : Showing) (limit : ℕ) (b w : List ℕ) →
         command ≡ Show showing limit → R.remaining input.old ≡ Some b →
         W.contents output.old ≡ Some w →
-        IfOk result (λ all. IsStreamShown showing b limit w all (W.contents output.new)) }
+        IfOk result (λ all. IsStreamShown [] showing b limit w all (W.contents output.new)) }
     ensures dumped { (b w : List ℕ) → command ≡ Dump → R.remaining input.old ≡ Some b →
         W.contents output.old ≡ Some w →
         IfOk result (λ all. IsDumpedBehind b w all (W.contents output.new)) }
@@ -169,7 +208,7 @@ fn perform<R: Read, W: Write>(
             finish(sorted, output)
         }
         Command::Show(showing, limit) => {
-            let shown = show_items(alloc, input, showing, limit, output);
+            let shown = show_items(alloc, input, b"", showing, limit, output);
             finish(shown, output)
         }
         Command::Dump => {
@@ -181,6 +220,31 @@ fn perform<R: Read, W: Write>(
             finish(told, output)
         }
     }
+}
+
+// Shows the files of these names, and flushes the output, as `perform` does for its input.
+//
+// # Errors
+//
+// The first fault, of which `errors` has the name of the file.
+fn perform_on_files<R: Read, O: Opener, W: Write, E: Write>(
+    alloc: Global,
+    command: Command,
+    names: &[String],
+    input: &mut R,
+    opener: &O,
+    output: &mut W,
+    errors: &mut E,
+) -> Result<bool, Fault>
+    requires { IsTrue (takes_files command) }
+    ensures { (inputs : List Input) (w : List ℕ) →
+        map string_bytes names.now ≡ map (λ i. i.0) inputs →
+        AreInputs (O.held opener.now) (R.remaining input.old) inputs →
+        W.contents output.old ≡ Some w →
+        IfOk result (λ all. AreFilesShown command inputs w all (W.contents output.new)) }
+{
+    let shown = show_files(alloc, command, names, input, opener, output, errors);
+    finish(shown, output)
 }
 
 // Writes what is told of a topic.
@@ -230,7 +294,7 @@ fn fault_status(command: Command, fault: Fault) -> u8
     ensures { result ≡ fault_status command fault }
 {
     match fault {
-        Fault::Input | Fault::Output if command.tells_devices() => 3,
+        Fault::Input | Fault::Unopened | Fault::Output if command.tells_devices() => 3,
         _ => 1,
     }
 }

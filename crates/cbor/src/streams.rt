@@ -29,7 +29,8 @@ use std::io::{self, BufRead, BufReader, ErrorKind, Read, Write};
 /// Shows each item of the input, which is a sequence as bytes, by a line on the output, and says
 /// whether all of the input is a sequence of items, each in a spelling that may be shown so and
 /// within this many levels.
-/// For the first item that is refused the line gives its number, counted from 1, and the reason,
+/// For the first item that is refused the line gives the place, a text that stands before all
+/// else, the number of the item, counted from 1, and the reason,
 /// with the offset counted inside that item; the reason is `io` where the end of the input cuts the
 /// item short. So it does where the deterministic form of items is shown, for the first that has
 /// none. No item after it is read. Lines wait until the input's device is asked for more, or
@@ -42,18 +43,27 @@ use std::io::{self, BufRead, BufReader, ErrorKind, Read, Write};
 pub fn show_items<R: Read, W: Write>(
     alloc: Global,
     input: &mut R,
+    place: &[u8],
     showing: Showing,
     limit: usize,
     output: &mut W,
 ) -> Result<bool, Fault>
     ensures { (b w : List ℕ) → R.remaining input.old ≡ Some b → W.contents output.old ≡ Some w →
-        IfOk result (λ all. IsStreamShown showing b limit w all (W.contents output.new)) }
+        IfOk result (λ all. IsStreamShown place.now showing b limit w all (W.contents output.new)) }
 {
     let Ok(mut reader) = BufReader::new(alloc, Retrying::new(input)) else {
         return Err(Fault::Memory);
     };
     let mut waiting = Vec::new(alloc);
-    let shown = show_stream(alloc, &mut reader, showing, limit, &mut waiting, output);
+    let shown = show_stream(
+        alloc,
+        &mut reader,
+        place,
+        showing,
+        limit,
+        &mut waiting,
+        output,
+    );
     send_lines(&mut waiting, output)?;
     shown
 }
@@ -62,6 +72,7 @@ pub fn show_items<R: Read, W: Write>(
 fn show_stream<R: Read, W: Write>(
     alloc: Global,
     reader: &mut BufReader<R>,
+    place: &[u8],
     showing: Showing,
     limit: usize,
     waiting: &mut Vec<u8>,
@@ -69,7 +80,7 @@ fn show_stream<R: Read, W: Write>(
 ) -> Result<bool, Fault>
     ensures { (b w : List ℕ) → reader_remaining R.remaining reader.old ≡ Some b →
         append_known (W.contents output.old) waiting.old.items ≡ Some w →
-        IfOk result (λ all. IsStreamShown showing b limit w all
+        IfOk result (λ all. IsStreamShown place.now showing b limit w all
         (append_known (W.contents output.new) waiting.new.items)) }
 {
     let mut room = Vec::new(alloc);
@@ -80,13 +91,13 @@ fn show_stream<R: Read, W: Write>(
             None => return Ok(true),
             Some(Ok(mut value)) => {
                 if let Err(kind) = make_shown(&mut value, showing) {
-                    show_formless(number, kind, &mut line, waiting, output)?;
+                    show_formless(place, number, kind, &mut line, waiting, output)?;
                     return Ok(false);
                 }
                 show_item(&value, showing, &mut room, &mut line, waiting, output)?;
             }
             Some(Err(refusal)) => {
-                show_refused(number, refusal, &mut line, waiting, output)?;
+                show_refused(place, number, refusal, &mut line, waiting, output)?;
                 return Ok(false);
             }
         }
@@ -133,7 +144,8 @@ fn read_held<R: Read>(
 ) -> Option<Value>
     ensures item { (b : List ℕ) → reader_remaining R.remaining reader.old ≡ Some b →
         MatchOption result (reader_remaining R.remaining reader.new ≡ Some b)
-        (λ value. IsReadNext spelling b limit (reader_remaining R.remaining reader.new) (Ok value)) }
+        (λ value. IsReadNext spelling b limit (reader_remaining R.remaining reader.new)
+        (Ok value)) }
     ensures held { IfSome result (λ value. HoldsItem spelling (reader_buffer reader.old) limit) }
 {
     let bytes = reader.buffer();
@@ -167,7 +179,8 @@ fn read_next<R: Read>(
     limit: usize,
 ) -> Result<Result<Value, Refusal>, Fault>
     ensures { (b : List ℕ) → reader_remaining R.remaining reader.old ≡ Some b →
-        IfOk result (λ next. IsReadNext spelling b limit (reader_remaining R.remaining reader.new) next) }
+        IfOk result (λ next.
+        IsReadNext spelling b limit (reader_remaining R.remaining reader.new) next) }
 {
     match read_spelled(alloc, reader, spelling, limit) {
         Ok(value) => Ok(Ok(value)),
@@ -211,9 +224,10 @@ fn show_item<W: Write>(
     put_line(line, waiting, output)
 }
 
-// Puts the line of an item that is refused behind the texts that wait. `line` is a buffer for it,
-// to be used again.
+// Puts the line of an item that is refused, in this place, behind the texts that wait. `line` is a
+// buffer for it, to be used again.
 fn show_refused<W: Write>(
+    place: &[u8],
     number: u64,
     refusal: Refusal,
     line: &mut Vec<u8>,
@@ -223,15 +237,18 @@ fn show_refused<W: Write>(
     ensures { (w : List ℕ) → append_known (W.contents output.old) waiting.old.items ≡ Some w →
         OnOk result ((wants_memory refusal ≡ false)
         × (append_known (W.contents output.new) waiting.new.items
-        ≡ Some (w ++ text_line (refused_item_text number (refused_text refusal))))) }
+        ≡ Some ((w ++ place.now)
+        ++ text_line (refused_item_text number (refused_text refusal))))) }
 {
     write_refused_item(number, refusal, line)?;
+    put_text(place, waiting, output)?;
     put_line(line, waiting, output)
 }
 
-// Puts the line of an item that has no deterministic form behind the texts that wait. `line` is a
-// buffer for it, to be used again.
+// Puts the line of an item that has no deterministic form, in this place, behind the texts that
+// wait. `line` is a buffer for it, to be used again.
 fn show_formless<W: Write>(
+    place: &[u8],
     number: u64,
     kind: Kind,
     line: &mut Vec<u8>,
@@ -241,9 +258,11 @@ fn show_formless<W: Write>(
     requires { (kind ≡ DuplicateKey) ⊎ (kind ≡ TooLarge) }
     ensures { (w : List ℕ) → append_known (W.contents output.old) waiting.old.items ≡ Some w →
         OnOk result (append_known (W.contents output.new) waiting.new.items
-        ≡ Some (w ++ text_line (refused_item_text number (formless_text kind)))) }
+        ≡ Some ((w ++ place.now)
+        ++ text_line (refused_item_text number (formless_text kind)))) }
 {
     write_formless_item(number, kind, line)?;
+    put_text(place, waiting, output)?;
     put_line(line, waiting, output)
 }
 

@@ -1,4 +1,5 @@
 //! An input and an output that may fail, and a run of the program on them.
+use crate::files::Opener;
 use crate::run::run;
 use std::alloc::{AllocError, Global};
 use std::cell::Cell;
@@ -47,6 +48,32 @@ impl<'a> Read for Source<'a> {
         buffer[..taken].copy_from_slice(&self.bytes[..taken]);
         self.bytes = &self.bytes[taken..];
         Ok(taken)
+    }
+}
+
+/// Files by name, each with its bytes and the fault that it ends by.
+#[derive(Drop)]
+pub struct Shelf<'a> {
+    files: &'a [(&'a str, &'a [u8], Option<ErrorKind>)],
+}
+
+impl<'a> Shelf<'a> {
+    /// A shelf of these files.
+    pub fn new(files: &'a [(&'a str, &'a [u8], Option<ErrorKind>)]) -> Shelf<'a> {
+        Shelf { files }
+    }
+}
+
+impl<'a> Opener for Shelf<'a> {
+    type File = Source<'a>;
+
+    fn open(&self, name: &str) -> io::Result<Source<'a>> {
+        for &(known, bytes, fault) in self.files {
+            if known == name {
+                return Ok(Source::new(bytes, 3, fault));
+            }
+        }
+        Err(io::Error::from(ErrorKind::NotFound))
     }
 }
 
@@ -263,11 +290,22 @@ pub struct Ended {
     pub errors: Vec<u8>,
 }
 
-/// Runs the program with these words.
+/// Runs the program with these words, where no file can be opened.
 pub fn run_on(
     alloc: Global,
     texts: &[&str],
     input: &mut Source<'_>,
+    output: Device,
+) -> Result<Ended, AllocError> {
+    run_on_files(alloc, texts, input, &Shelf::new(&[]), output)
+}
+
+/// Runs the program with these words, where these files can be opened.
+pub fn run_on_files(
+    alloc: Global,
+    texts: &[&str],
+    input: &mut Source<'_>,
+    files: &Shelf<'_>,
     mut output: Device,
 ) -> Result<Ended, AllocError> {
     let mut words = Vec::new(alloc);
@@ -275,7 +313,7 @@ pub fn run_on(
         words.push(String::from_str(alloc, text)?)?;
     }
     let mut errors = Vec::new(alloc);
-    let status = run(alloc, &words, input, &mut output, &mut errors);
+    let status = run(alloc, &words, input, files, &mut output, &mut errors);
     Ok(Ended {
         status,
         output: output.held,

@@ -1,11 +1,13 @@
 //! Which words the program accepts as its arguments, and what they ask for.
 
-ghost use Rattle.std.specs.Prelude.{◌≡◌, ◌≢◌, ℕ, IsSome, MatchOption, codes, map, string_bytes};
+ghost use Rattle.std.specs.Prelude.{◌≡◌, ◌≢◌, ◌≤◌, ℕ, IsSome, IsTrue, MatchOption, codes, length};
+ghost use Rattle.std.specs.Prelude.{map, string_bytes};
 ghost use Rattle.std.specs.Bool.{MatchBool};
 ghost use Rattle.std.specs.Option.{SomeIff};
 ghost use Rattle.std.specs.Str.Parse.{digits_value};
-ghost use Rattle.cbor.specs.Words.{AreWrong, AskFor, IsLimit, NameLimit, NameLimitBehind};
-ghost use Rattle.cbor.specs.Words.{command_limit};
+ghost use Rattle.cbor.specs.Words.{AskFor, AskForNothing, IsLimit, NameLimit, NameLimitBehind};
+ghost use Rattle.cbor.specs.Words.{behind_flags, behind_number, command_limit, is_flag, is_number};
+ghost use Rattle.cbor.specs.Words.{takes_files, words_before, words_behind};
 ghost use Rattle.cbor.specs.declared.command.Command.{Command};
 ghost use Rattle.cbor.specs.declared.command.Command.TheVariants.{Show};
 ghost use Rattle.cbor.specs.declared.reading.Showing.{Showing};
@@ -15,15 +17,85 @@ use crate::reading::{Layout, Reading, Showing, Spelling};
 use ciborium::de::RECURSION_LIMIT;
 use ciborium_value::KeyOrder::{Bytewise, LengthFirst};
 
-/// What the words ask for, or `None` where they are wrong.
+// How many flags a command has at most.
+const MOST_FLAGS: usize = 3;
+
+/// What all of the words ask for, or `None` where they ask for nothing.
 pub fn judge_words(words: &[String]) -> Option<Command>
-    ensures { MatchOption result (AreWrong (map string_bytes words.now))
+    ensures { MatchOption result (AskForNothing (map string_bytes words.now))
         (λ command. AskFor (map string_bytes words.now) command) }
 {
     if let Some(command) = judge_alone(words) {
         return Some(command);
     }
     judge_with_limit(words)
+}
+
+/// What the words ask for before the names of files, and these names, or `None` where they ask for
+/// nothing that takes files.
+pub fn judge_files(words: &[String]) -> Option<(Command, &[String])>
+    ensures { MatchOption result ((command : Command) → IsTrue (takes_files command) →
+        ¬ AskFor (words_before (map string_bytes words.now)) command)
+        (λ asked. AskFor (words_before (map string_bytes words.now)) asked.0
+        × IsTrue (takes_files asked.0)
+        × (map string_bytes asked.1.now ≡ words_behind (map string_bytes words.now))) }
+{
+    let names = find_names(words);
+    let Some(command) = judge_words(&words[..words.len() - names.len()]) else {
+        return None;
+    };
+    if !command.takes_files() {
+        return None;
+    }
+    Some((command, names))
+}
+
+// The words that may be names of files.
+fn find_names(words: &[String]) -> &[String]
+    ensures names { map string_bytes result.now ≡ words_behind (map string_bytes words.now) }
+    ensures fewer { length result.now ≤ length words.now }
+{
+    let [_, words @ ..] = words else {
+        return words;
+    };
+    skip_number(skip_flags(words, MOST_FLAGS))
+}
+
+// The words behind those at the front that are flags, but at most so many.
+fn skip_flags(words: &[String], most: usize) -> &[String]
+    ensures behind { map string_bytes result.now
+        ≡ behind_flags most (map string_bytes words.now) }
+    ensures fewer { length result.now ≤ length words.now }
+{
+    match words {
+        [word, others @ ..] if most > 0 && is_flag(word.as_str()) => skip_flags(others, most - 1),
+        _ => words,
+    }
+}
+
+// The words behind the first one, where it is digits alone.
+fn skip_number(words: &[String]) -> &[String]
+    ensures behind { map string_bytes result.now ≡ behind_number (map string_bytes words.now) }
+    ensures fewer { length result.now ≤ length words.now }
+{
+    match words {
+        [word, others @ ..] if is_number(word.as_str()) => others,
+        _ => words,
+    }
+}
+
+// Whether a word is a dash, with more behind it.
+fn is_flag(word: &str) -> bool
+    ensures { result ≡ is_flag word.now }
+{
+    word.len() >= 2 && word.as_bytes()[0] == b'-'
+}
+
+// Whether a word is digits alone.
+fn is_number(word: &str) -> bool
+    ensures { result ≡ is_number word.now }
+{
+    word.as_bytes().iter().all(|byte| byte.is_ascii_digit())
 }
 
 // What the words ask for that takes no limit.

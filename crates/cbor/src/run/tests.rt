@@ -1,6 +1,8 @@
 // Lines and their answers, words that are right and wrong, limits, and faults.
 use super::{refuse_words, run};
-use crate::test_devices::{Asker, Device, Ended, Listener, Source, run_on, run_on_text};
+use crate::test_devices::{
+    Asker, Device, Ended, Listener, Shelf, Source, run_on, run_on_files, run_on_text,
+};
 use crate::topics::HELP;
 use std::alloc::Global;
 use std::cell::Cell;
@@ -521,6 +523,131 @@ const BYTE_RUNS: &[(&[&str], &[u8], &str, u8)] = &[
     (&["--version"], b"\xff", "cbor 0.4.0\n", 0),
 ];
 
+// The files of the runs below: two items; one, and then a break out of place inside an array; none;
+// a map and a text; equal keys; and two that fail, before and behind an item.
+const FILES: &[(&str, &[u8], Option<ErrorKind>)] = &[
+    ("a.cbor", b"\x01\x9f\x02\xff", None),
+    ("b.cbor", b"\x18\x03\x81\xff\x00", None),
+    ("c.cbor", b"", None),
+    ("300", b"\xa1\x61a\xf5\x61b", None),
+    ("same", b"\x00\xa2\x01\x00\x01\x00", None),
+    ("broken", b"", Some(ErrorKind::Other)),
+    ("torn", b"\x05\x82", Some(ErrorKind::UnexpectedEof)),
+];
+
+// The words, what is written, what is told on the standard error, and the status. The standard
+// input is an item of bytes, and another that is cut short.
+const FILE_RUNS: &[(&[&str], &str, &str, u8)] = &[
+    (&["diag", "--binary", "a.cbor"], "1\n[2]\n", "", 0),
+    (
+        &["diag", "--binary", "a.cbor", "c.cbor", "300", "a.cbor"],
+        "1\n[2]\n{\"a\": true}\n\"b\"\n1\n[2]\n",
+        "",
+        0,
+    ),
+    // A word of digits is the limit right behind the flags, and nowhere else.
+    (
+        &["read", "--binary", "0", "a.cbor", "300"],
+        "01\na.cbor: item 2: nesting\n300: item 1: nesting\n",
+        "",
+        1,
+    ),
+    (
+        &["canon", "--binary", "--core", "1", "300"],
+        "a16161f5\n6162\n",
+        "",
+        0,
+    ),
+    // A file that is refused does not keep the next one from being shown.
+    (
+        &["read", "--binary", "b.cbor", "a.cbor"],
+        "03\nb.cbor: item 2: semantic 1 break\n01\n8102\n",
+        "",
+        1,
+    ),
+    (
+        &["canon", "--binary", "same", "c.cbor"],
+        "00\nsame: item 2: duplicate\n",
+        "",
+        1,
+    ),
+    (
+        &["read", "--binary", "--det", "a.cbor", "300"],
+        "01\na.cbor: item 2: semantic 0 open\na16161f5\n6162\n",
+        "",
+        1,
+    ),
+    (
+        &["diag", "--binary", "a.cbor", "-", "c.cbor"],
+        "1\n[2]\nh'07'\n-: item 2: io\n",
+        "",
+        1,
+    ),
+    // It is read once.
+    (
+        &["diag", "--binary", "--indent", "-", "-"],
+        "h'07'\n-: item 2: io\n",
+        "",
+        1,
+    ),
+    (
+        &["dump", "--binary", "c.cbor", "b.cbor"],
+        "incomplete\n0: 1803  unsigned 3\ntrailing 3\n",
+        "",
+        1,
+    ),
+    // A fault ends the run, and is told with the name of the file.
+    (
+        &["diag", "--binary", "a.cbor", "none", "a.cbor"],
+        "1\n[2]\n",
+        "none: cannot be opened\n",
+        3,
+    ),
+    (
+        &["read", "--binary", "torn", "a.cbor"],
+        "05\n",
+        "torn: input failed\n",
+        3,
+    ),
+    (
+        &["dump", "--binary", "a.cbor", "broken"],
+        "0: 01  unsigned 1\ntrailing 3\n",
+        "broken: input failed\n",
+        3,
+    ),
+    (
+        &["canon", "--binary", "./300"],
+        "",
+        "./300: cannot be opened\n",
+        3,
+    ),
+];
+
+#[test]
+fn shows_files(rt: HostRuntime) -> Result<(), Fail> {
+    for &(words, output, errors, status) in FILE_RUNS {
+        let mut input = Source::new(b"\x41\x07\x18", 2, None);
+        let device = Device::new(rt.alloc(), usize::MAX, false);
+        let ended = run_on_files(rt.alloc(), words, &mut input, &Shelf::new(FILES), device)?;
+        expect_end(&rt, &ended, status, output.as_bytes(), errors, output);
+    }
+    Ok(())
+}
+
+// A fault of the output is that of no file.
+#[test]
+fn names_no_file_for_the_output(rt: HostRuntime) -> Result<(), Fail> {
+    for (room, flush_fails) in [(3, false), (usize::MAX, true)] {
+        let mut input = Source::new(b"", 1, None);
+        let device = Device::new(rt.alloc(), room, flush_fails);
+        let words = &["diag", "--binary", "a.cbor"];
+        let ended = run_on_files(rt.alloc(), words, &mut input, &Shelf::new(FILES), device)?;
+        assert_eq!(rt; ended.status, 3);
+        assert_eq!(rt; ended.errors.as_slice(), b"output failed\n".as_slice());
+    }
+    Ok(())
+}
+
 // Holds a run to its status, and to what it wrote.
 fn expect_end(rt: &impl Abort, ended: &Ended, status: u8, output: &[u8], errors: &str, what: &str) {
     assert_eq!(rt; ended.status, status, "{what}");
@@ -584,10 +711,10 @@ fn tells_its_commands(rt: HostRuntime) -> Result<(), Fail> {
         "  cbor seq ",
         "  cbor dump ",
         "  cbor sort [--core] ",
-        "  cbor diag --binary [--indent] [limit] ",
-        "  cbor read --binary [--det [--core]] [limit]\n",
-        "  cbor canon --binary [--core] [limit] ",
-        "  cbor dump --binary ",
+        "  cbor diag --binary [--indent] [limit] [file..]\n",
+        "  cbor read --binary [--det [--core]] [limit] [file..]\n",
+        "  cbor canon --binary [--core] [limit] [file..]\n",
+        "  cbor dump --binary [file..] ",
         "  cbor --help, -h, cbor --version ",
     ] {
         assert!(rt; HELP.contains(words), "{words}");
@@ -665,7 +792,14 @@ fn answers_before_it_asks(rt: HostRuntime) -> Result<(), Fail> {
         let mut input = Asker::new(&["1800\n", "zz\n", "6161\n"], &answered);
         let mut output = Listener::new(&answered);
         let mut errors = Vec::new(rt.alloc());
-        let status = run(rt.alloc(), &words, &mut input, &mut output, &mut errors);
+        let status = run(
+            rt.alloc(),
+            &words,
+            &mut input,
+            &Shelf::new(&[]),
+            &mut output,
+            &mut errors,
+        );
         assert_eq!(rt; status, 1, "{command}");
         assert_eq!(rt; answered.get(), 3, "{command}");
         assert!(rt; errors.is_empty(), "{command}");
@@ -739,9 +873,22 @@ const WRONG_WORDS: &[&[&str]] = &[
     &["diag", "--indent", "--indent"],
     &["diag", "--indent", "--binary"],
     &["diag", "1", "--indent"],
-    &["diag", "--binary", "x"],
-    &["diag", "--binary", "--indent", "x"],
     &["diag", "--binary", "--binary"],
+    &["diag", "--binary", "--binary", "a.cbor"],
+    &["diag", "--binary", "18446744073709551616", "a.cbor"],
+    &["diag", "--binary", "-1", "a.cbor"],
+    &["diag", "--binary", ""],
+    &["diag", "--indent", "a.cbor"],
+    &["diag", "a.cbor"],
+    &["canon", "a.cbor"],
+    &["dump", "a.cbor"],
+    &["dump", "--binary", "1", "a.cbor"],
+    &["read", "a.cbor"],
+    &["read", "--det", "a.cbor"],
+    &["seq", "a.cbor"],
+    &["sort", "a.cbor"],
+    &["a.cbor"],
+    &["--help", "a.cbor"],
     &["DIAG"],
     &["dump", "1"],
     &["dump", "--binary", "1"],
@@ -749,20 +896,16 @@ const WRONG_WORDS: &[&[&str]] = &[
     &["dump", "--binary", "--binary"],
     &["--binary", "dump"],
     &["DUMP"],
-    &["read", "--binary", "x"],
     &["read", "--binary", "--binary"],
     &["read", "--binary", "--core"],
     &["read", "--binary", "--core", "--det"],
     &["read", "--binary", "--det", "--det"],
-    &["read", "--binary", "--det", "x"],
     &["read", "--binary", "--indent"],
     &["read", "--det", "--binary"],
     &["read", "--det", "--core", "--binary"],
     &["read", "--indent"],
     &["canon", "--core", "--binary"],
     &["canon", "--binary", "--indent"],
-    &["canon", "--binary", "x"],
-    &["canon", "--binary", "5", "--core"],
     &["seq", "--binary"],
     &["sort", "--binary"],
     &["--binary"],
@@ -892,7 +1035,14 @@ fn ends_where_nothing_can_be_told(rt: HostRuntime) -> Result<(), Fail> {
     let mut output = Device::new(rt.alloc(), usize::MAX, false);
     let mut errors = Device::new(rt.alloc(), 0, true);
     assert_eq!(rt;
-        run(rt.alloc(), &words, &mut input, &mut output, &mut errors),
+        run(
+            rt.alloc(),
+            &words,
+            &mut input,
+            &Shelf::new(&[]),
+            &mut output,
+            &mut errors
+        ),
         2
     );
     Ok(())
@@ -919,7 +1069,14 @@ fn expect_untold(
     let words = vec![in alloc; String::from_str(alloc, command)?]?;
     let mut held = Vec::new(alloc);
     let mut errors = Device::new(alloc, 0, true);
-    let ended = run(alloc, &words, input, &mut held, &mut errors);
+    let ended = run(
+        alloc,
+        &words,
+        input,
+        &Shelf::new(&[]),
+        &mut held,
+        &mut errors,
+    );
     assert_eq!(rt; ended, status, "{command}");
     assert_eq!(rt; held.as_slice(), output.as_bytes(), "{command}");
     Ok(())
@@ -942,7 +1099,14 @@ fn ends_where_both_outputs_fail(rt: HostRuntime) -> Result<(), Fail> {
     let mut output = Device::new(rt.alloc(), 3, false);
     let mut errors = Device::new(rt.alloc(), 0, true);
     assert_eq!(rt;
-        run(rt.alloc(), &words, &mut input, &mut output, &mut errors),
+        run(
+            rt.alloc(),
+            &words,
+            &mut input,
+            &Shelf::new(&[]),
+            &mut output,
+            &mut errors
+        ),
         1
     );
     Ok(())

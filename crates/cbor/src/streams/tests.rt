@@ -66,7 +66,7 @@ fn expect_shown<R: Read>(
     expected: (bool, &[u8]),
 ) {
     let mut output = Vec::new(alloc);
-    let shown = show_items(alloc, input, showing, limit, &mut output);
+    let shown = show_items(alloc, input, b"", showing, limit, &mut output);
     assert_eq!(rt; output.as_slice(), expected.1);
     assert!(rt; matches!(shown, Ok(is_sequence) if is_sequence == expected.0));
 }
@@ -182,6 +182,7 @@ fn expect_seen(rt: &impl Abort, alloc: Global, given: &[&str], expected: (usize,
     let ended = show_items(
         alloc,
         &mut input,
+        b"",
         Showing::Encoding(Spelling::Any),
         256,
         &mut output,
@@ -212,7 +213,7 @@ fn writes_the_lines_of_a_read_at_once(rt: HostRuntime) -> Result<(), Fail> {
         let mut source = Source::new(&bytes, most, None);
         let mut output = Tally::new();
         let showing = Showing::Notation(Layout::OneLine);
-        let shown = show_items(rt.alloc(), &mut source, showing, 256, &mut output);
+        let shown = show_items(rt.alloc(), &mut source, b"", showing, 256, &mut output);
         assert!(rt; matches!(shown, Ok(true)));
         assert_eq!(rt; output.calls(), (writes, flushes), "{count} {most}");
     }
@@ -277,6 +278,7 @@ fn tells_a_fault_of_the_input(rt: HostRuntime) {
         let shown = show_items(
             rt.alloc(),
             &mut input,
+            b"",
             Showing::Encoding(Spelling::Any),
             256,
             &mut output,
@@ -301,6 +303,7 @@ fn tells_a_fault_of_the_output(rt: HostRuntime) {
         let shown = show_items(
             rt.alloc(),
             &mut input,
+            b"",
             Showing::Encoding(Spelling::Any),
             256,
             &mut output,

@@ -1,4 +1,4 @@
-use Rattle.std.proofs.Common.{◌≡◌, ◌++◌}
+use Rattle.std.proofs.Common.{◌≡◌, [], ◌++◌}
 use Rattle.cbor.specs.Lines.{AreAnswered}
 use Rattle.cbor.specs.SortedLines.{AreSortedOrRefused}
 use Rattle.cbor.specs.Streams.{IsDumpedBehind, IsStreamShown}
@@ -31,9 +31,9 @@ returns-in-Show-clause-shown g c showing limit b w same e f =
     let finish = c.finish-in-Show in
     let so : c.in-Show.showing ≡ showing = cc in
     let within : c.in-Show.limit ≡ limit = cc in
-    flushed-each (λ all. IsStreamShown showing b limit w all _) (λ all. IsStreamShown showing b limit w all _)
+    flushed-each (λ all. IsStreamShown [] showing b limit w all _) (λ all. IsStreamShown [] showing b limit w all _)
     c.show_items-shown.result finish.result finish.ensures.same
-    (λ all. shown-still showing b limit w all _ _ finish.ensures.kept)
+    (λ all. shown-still [] showing b limit w all _ _ finish.ensures.kept)
     (rw (so, within) at c.show_items-shown.ensures b w e f)
 
 pub returns-in-Dump-clause-dumped : goal.returns-in-Dump-clause-dumped

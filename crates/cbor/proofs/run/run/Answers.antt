@@ -34,3 +34,10 @@ returns-in-Some-clause-told g c topic w asked e zero =
 
 pub returns-in-None-clause-right : goal.returns-in-None-clause-right
 returns-in-None-clause-right g c command asked = absurd (c.in-None.ensures command asked)
+
+pub returns-in-None-clause-answered : goal.returns-in-None-clause-answered
+returns-in-None-clause-answered g c reading b w asked e f zero = absurd (c.in-None.ensures (Answer reading) asked)
+
+pub returns-in-None-clause-shown : goal.returns-in-None-clause-shown
+returns-in-None-clause-shown g c showing limit b w asked e f zero =
+    absurd (c.in-None.ensures (Show showing limit) asked)
