@@ -2,6 +2,7 @@
 pub mod Views
 pub mod Elements
 pub mod LookedUp
+pub mod Replaced
 pub mod TagParts
 pub mod Stacked
 pub mod MadeOfValues

@@ -1,7 +1,8 @@
--- What is looked up in a tree: a value by its label, an item by its index, a number by its width.
+-- What is looked up in a tree: a value by its label, an item by its index, a number by its width;
+-- and the tree with another value where one is found.
 use Rattle.std.specs.Option.{option_or}
 use Rattle.std.specs.Prelude.{ℕ, zero, suc, ◌^◌, ℤ, pos, negsuc, Option, Some, None}
-use Rattle.std.specs.Prelude.{if◌then◌else◌, nat_lt}
+use Rattle.std.specs.Prelude.{◌&&◌, if◌then◌else◌, is_none, nat_lt}
 use Rattle.ciborium_value.specs.Labels.{Label, named, numbered, other, is_label}
 use Rattle.ciborium_value.specs.Tree.{Tree, Trees, TreePairs, trees_count, tree_pairs_count}
 use Rattle.ciborium_value.specs.Tree.{integer, text, array, map}
@@ -24,6 +25,17 @@ abbrev pub tree_under : Label → Tree → Option Tree
 tree_under l (map ps) = last_with l ps
 tree_under l _ = None
 
+-- the pairs, with a new value in the last one whose key is this label
+abbrev pub replaced_last : Label → Tree → TreePairs → TreePairs
+replaced_last l new no_tree_pairs = no_tree_pairs
+replaced_last l new (tree_pair k v ps) = if is_none (last_with l ps) && is_label (tree_label k) l
+    then tree_pair k new ps else tree_pair k v (replaced_last l new ps)
+
+-- the tree, with a new value under a label, where it is a map that has one there
+abbrev pub replaced_under : Label → Tree → Tree → Tree
+replaced_under l new (map ps) = map (replaced_last l new ps)
+replaced_under l new v = v
+
 -- the tree at an index, from 0
 abbrev pub nth_tree : ℕ → Trees → Option Tree
 nth_tree i no_trees = None
@@ -34,6 +46,17 @@ nth_tree (suc i) (tree v vs) = nth_tree i vs
 abbrev pub tree_at : ℕ → Tree → Option Tree
 tree_at i (array vs) = nth_tree i vs
 tree_at i _ = None
+
+-- the trees, with a new one at an index
+abbrev pub replaced_nth : ℕ → Tree → Trees → Trees
+replaced_nth i new no_trees = no_trees
+replaced_nth zero new (tree v vs) = tree new vs
+replaced_nth (suc i) new (tree v vs) = tree v (replaced_nth i new vs)
+
+-- the tree, with a new item at an index, where it is an array that has one there
+abbrev pub replaced_at : ℕ → Tree → Tree → Tree
+replaced_at i new (array vs) = array (replaced_nth i new vs)
+replaced_at i new v = v
 
 -- how many items an array has, or pairs a map
 abbrev pub parts_of : Tree → Option ℕ

@@ -12,13 +12,13 @@ use Rattle.ciborium_value.specs.View.{tree_of, trees_of, tree_pairs_of}
 use Rattle.ciborium_value.specs.declared.tree.Value.{Value}
 
 -- the item at an index
-nth_within : (i : ℕ) (vs : List Value) (v : Value) → i < length vs → v ≡ get_or vs i v →
+pub nth_within : (i : ℕ) (vs : List Value) (v : Value) → i < length vs → v ≡ get_or vs i v →
     Some (tree_of v) ≡ nth_tree i (trees_of vs)
 nth_within i [] v h e = absurd (omega (arith, h))
 nth_within zero (w ∷ vs) v h e = ap (λ x. Some (tree_of x)) e
 nth_within (suc i) (w ∷ vs) v h e = nth_within i vs v (omega (arith, h)) e
 
-nth_past : (i : ℕ) (vs : List Value) → length vs ≤ i → None ≡ nth_tree i (trees_of vs)
+pub nth_past : (i : ℕ) (vs : List Value) → length vs ≤ i → None ≡ nth_tree i (trees_of vs)
 nth_past i [] h = refl
 nth_past zero (w ∷ vs) h = absurd (omega (arith, h))
 nth_past (suc i) (w ∷ vs) h = nth_past i vs (omega (arith, h))

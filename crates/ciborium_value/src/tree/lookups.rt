@@ -1,16 +1,19 @@
-//! What a `Value` holds at a label or an index. None of these calls takes memory.
+//! What a `Value` holds at a label or an index, and another value put there. None of these calls
+//! takes memory.
 
-ghost use Rattle.std.specs.Prelude.{◌≡◌, ◌↔◌, ◌<◌, IsTrue, MatchOption, None, Some, length};
-ghost use Rattle.std.specs.Prelude.{option_map};
+ghost use Rattle.std.specs.Prelude.{◌≡◌, ◌≢◌, ◌↔◌, ◌<◌, IfErr, IfOk, IfSome, IsTrue, MatchOption};
+ghost use Rattle.std.specs.Prelude.{None, OnErr, OnOk, Some, drop, length, option_map, suc, ℕ};
 ghost use Rattle.std.specs.List.{HoldsAt};
-ghost use Rattle.ciborium_value.specs.Labels.{is_label};
-ghost use Rattle.ciborium_value.specs.Lookups.{last_with, parts_of, signed_of, tree_at};
-ghost use Rattle.ciborium_value.specs.Lookups.{tree_label, tree_under, unsigned_of};
+ghost use Rattle.ciborium_value.specs.Labels.{Label, is_label};
+ghost use Rattle.ciborium_value.specs.Lookups.{last_with, parts_of, replaced_at, replaced_under};
+ghost use Rattle.ciborium_value.specs.Lookups.{signed_of, tree_at, tree_label, tree_under};
+ghost use Rattle.ciborium_value.specs.Lookups.{unsigned_of};
 ghost use Rattle.ciborium_value.specs.View.{tree_of, tree_pairs_of};
 
 use crate::labels::SoughtLabel;
 use crate::tree::Value;
 use std::convert::TryFrom;
+use std::mem;
 
 impl Value {
     /// The value under a key of a map, `value.get("name")` or `value.get(7)`: that of the last pair
@@ -38,6 +41,53 @@ impl Value {
         match self {
             Value::Array(items) => items.get(index),
             _ => None,
+        }
+    }
+
+    /// Puts a value in the place of the one that `get` finds under a key, and answers that one, as
+    /// `std::mem::replace` does: `value.replace("name", new)`. Where `get` finds none nothing
+    /// changes, and the new value is handed back: no pair is added.
+    pub fn replace<L: SoughtLabel>(&mut self, label: L, value: Value) -> Result<Value, Value>
+        ensures ok { IfOk result (λ v.
+            tree_under (L.label label) (tree_of self.old) ≡ Some (tree_of v)) }
+        ensures tree { OnOk result (tree_of self.new ≡
+            replaced_under (L.label label) (tree_of value) (tree_of self.old)) }
+        ensures found { OnOk result
+            (tree_under (L.label label) (tree_of self.new) ≡ Some (tree_of value)) }
+        ensures others { (l : Label) → l ≢ L.label label →
+            tree_under l (tree_of self.new) ≡ tree_under l (tree_of self.old) }
+
+        ensures err { OnErr result (tree_under (L.label label) (tree_of self.old) ≡ None) }
+        ensures unchanged { IfErr result (λ v. (v ≡ value) × (self.new ≡ self.old)) }
+    {
+        match self {
+            Value::Map(pairs) => match last_place(pairs, &label) {
+                Some(place) => Ok(mem::replace(&mut pairs[place].1, value)),
+                None => Err(value),
+            },
+            _ => Err(value),
+        }
+    }
+
+    /// Puts a value in the place of an array's item at an index, from 0, and answers that item.
+    /// Where `at` finds none nothing changes, and the new value is handed back: no item is added.
+    pub fn replace_at(&mut self, index: usize, value: Value) -> Result<Value, Value>
+        ensures ok { IfOk result (λ v. tree_at index (tree_of self.old) ≡ Some (tree_of v)) }
+        ensures tree { OnOk result
+            (tree_of self.new ≡ replaced_at index (tree_of value) (tree_of self.old)) }
+        ensures found { OnOk result (tree_at index (tree_of self.new) ≡ Some (tree_of value)) }
+        ensures others { (i : ℕ) → i ≢ index →
+            tree_at i (tree_of self.new) ≡ tree_at i (tree_of self.old) }
+
+        ensures err { OnErr result (tree_at index (tree_of self.old) ≡ None) }
+        ensures unchanged { IfErr result (λ v. (v ≡ value) × (self.new ≡ self.old)) }
+    {
+        match self {
+            Value::Array(items) => match items.get_mut(index) {
+                Some(item) => Ok(mem::replace(item, value)),
+                None => Err(value),
+            },
+            _ => Err(value),
         }
     }
 
@@ -101,10 +151,14 @@ fn is_under<L: SoughtLabel>(key: &Value, label: &L) -> bool
 
 // The index of the last pair under a label.
 fn last_place<L: SoughtLabel>(pairs: &[(Value, Value)], label: &L) -> Option<usize>
-    ensures { MatchOption result
+    ensures value { MatchOption result
         (last_with (L.label label.now) (tree_pairs_of pairs.now) ≡ None)
         (λ i. (i < length pairs.now) × HoldsAt (λ p. last_with (L.label label.now)
         (tree_pairs_of pairs.now) ≡ Some (tree_of p.1)) pairs.now i) }
+    ensures label { IfSome result (λ i. HoldsAt (λ p. IsTrue (is_label (tree_label (tree_of p.0))
+        (L.label label.now))) pairs.now i) }
+    ensures none_behind { IfSome result (λ i.
+        last_with (L.label label.now) (tree_pairs_of (drop (suc i) pairs.now)) ≡ None) }
 {
     let mut end = pairs.len();
     while end > 0 {
