@@ -1,8 +1,8 @@
-//! Values that are looked into: by label, by index, by width.
+//! Values that are looked into, and changed there: by label, by index, by width.
 use crate::expectations::expect_all;
 use ciborium::value::{Integer, Value};
 use ciborium::{cbor, from_slice};
-use ciborium_callers::lookups::{audience, seventh_of_third};
+use ciborium_callers::lookups::{audience, detach, renew, seventh_of_third};
 use std::test::Fail;
 
 // {1: "coap://as.example.com", 3: "coap://light.example.com"}, of the claims of RFC 8392, appendix
@@ -73,5 +73,71 @@ fn numbers_are_of_their_widths(rt: HostRuntime) -> Result<(), Fail> {
         least.as_u64().is_none(),
         minus.as_i64() == Some(-1),
         value.as_u64().is_none(),
+    ])
+}
+
+// {"a": 1, "a": 2, -1: 3}: the last of two equal keys has the new value, in the same order.
+#[test]
+fn the_last_pair_is_replaced(rt: HostRuntime) -> Result<(), Fail> {
+    let bytes = hex::decode(rt.alloc(), "a36161016161022003")?;
+    let mut value: Value = from_slice(rt.alloc(), &bytes)?;
+    let under_a = value.replace("a", Value::Null);
+    let under_minus_one = value.replace(Integer::from(-1i8), Value::from(true));
+    let replaced = hex::decode(rt.alloc(), "a36161016161f620f5")?;
+    let expected: Value = from_slice(rt.alloc(), &replaced)?;
+    expect_all(&[
+        under_a == Ok(Value::from(2u8)),
+        under_minus_one == Ok(Value::from(3u8)),
+        value == expected,
+    ])
+}
+
+// Where no key is there the value is handed back, and nothing changes.
+#[test]
+fn nothing_is_added_to_a_map(rt: HostRuntime) -> Result<(), Fail> {
+    let mut map = cbor!(rt.alloc(), {1 => 2})?;
+    expect_all(&[
+        map.replace(2, Value::from(5u8)) == Err(Value::from(5u8)),
+        map.replace("1", Value::from(6u8)) == Err(Value::from(6u8)),
+        map.replace_at(0, Value::from(7u8)) == Err(Value::from(7u8)),
+        map.get(1) == Some(&Value::from(2u8)),
+        map.len() == Some(1),
+    ])
+}
+
+#[test]
+fn an_item_is_replaced(rt: HostRuntime) -> Result<(), Fail> {
+    let mut array = cbor!(rt.alloc(), [1, 2])?;
+    expect_all(&[
+        array.replace_at(1, Value::from(3u8)) == Ok(Value::from(2u8)),
+        array.replace_at(2, Value::from(4u8)) == Err(Value::from(4u8)),
+        array.replace(0, Value::from(5u8)) == Err(Value::from(5u8)),
+        array.at(0) == Some(&Value::from(1u8)),
+        array.at(1) == Some(&Value::from(3u8)),
+        array.len() == Some(2),
+    ])
+}
+
+// {4: 1444064944} of the claims of RFC 8392, appendix A.1, a day later.
+#[test]
+fn claims_are_renewed(rt: HostRuntime) -> Result<(), Fail> {
+    let mut claims = cbor!(rt.alloc(), {3 => "coap://light.example.com", 4 => 1444064944})?;
+    let mut endless = cbor!(rt.alloc(), {3 => "coap://light.example.com"})?;
+    expect_all(&[
+        renew(&mut claims, 1444151344),
+        claims.get(4) == Some(&Value::from(1444151344u64)),
+        audience(&claims) == Some("coap://light.example.com"),
+        !renew(&mut endless, 1444151344),
+    ])
+}
+
+#[test]
+fn a_payload_is_sent_apart(rt: HostRuntime) -> Result<(), Fail> {
+    let mut message = cbor!(rt.alloc(), ["", {}, "payload", "signature"])?;
+    let payload = detach(&mut message);
+    expect_all(&[
+        payload == Some(Value::from_text(rt.alloc(), "payload")?),
+        message == cbor!(rt.alloc(), ["", {}, null, "signature"])?,
+        detach(&mut Value::Null).is_none(),
     ])
 }
