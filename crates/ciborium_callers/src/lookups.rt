@@ -40,8 +40,8 @@ pub fn renew(claims: &mut Value, time: u64) -> bool
     claims.replace(4, Value::from(time)).is_ok()
 }
 
-/// Takes the payload out of a signed message, an array's third item, and leaves null in its place,
-/// as where the payload is sent apart (RFC 9052, section 4.2).
+/// Takes the payload out of a signed message, an array's third item (RFC 9052, section 4.2), and
+/// leaves null in its place, as where the payload is sent apart (section 4.1).
 pub fn detach(message: &mut Value) -> Option<Value>
     ensures payload { IfSome result (λ v. tree_at 2 (tree_of message.old) ≡ Some (tree_of v)) }
     ensures detached { OnSome result (tree_at 2 (tree_of message.new) ≡ Some null) }
