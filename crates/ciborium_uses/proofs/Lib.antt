@@ -1,7 +1,9 @@
 mod CriticalLabels
 mod Exits
+mod KeptLabels
 mod LabelMaps
 mod ReadAgain
+mod ReadLevels
 mod Tagged
 mod WholeItems
 mod WrittenMessages

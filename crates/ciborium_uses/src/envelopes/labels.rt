@@ -6,8 +6,8 @@ ghost use Rattle.ciborium.specs.Order.{tree_cmp};
 ghost use Rattle.ciborium.specs.TakenParts.{has_key};
 ghost use Rattle.ciborium.specs.Tree.{Tree};
 ghost use Rattle.ciborium.specs.View.{tree_of, tree_pairs_of};
-ghost use Rattle.ciborium_uses.specs.Envelopes.{AreLabelBytes, AreLabels, IsHeader, IsOutside};
-ghost use Rattle.ciborium_uses.specs.Envelopes.{are_labels, entry_trees, is_label, value_at};
+ghost use Rattle.ciborium_uses.specs.Envelopes.{AreKept, AreLabelBytes, AreLabels, IsHeader};
+ghost use Rattle.ciborium_uses.specs.Envelopes.{IsOutside, are_labels, entry_trees, is_label, value_at};
 
 use super::error::{EnvelopeError, Part};
 use super::items::read_all;
@@ -19,7 +19,8 @@ use std::collections::BTreeMap;
 /// Values by their labels, which are integers and texts (RFC 9052, section 1.4).
 pub type Labels = BTreeMap<Value, Value>;
 
-/// The entries of a map whose keys are labels, none of which stands twice.
+/// The entries of a map whose keys are labels, none of which stands twice. They are written as they
+/// are read.
 ///
 /// # Errors
 ///
@@ -29,6 +30,7 @@ pub fn labels_of(alloc: Global, map: &Value, part: Part) -> Result<Labels, Envel
     ensures ok { IfOk result (λ m. AreLabels (tree_of map.now) (entry_trees m)) }
     ensures only { IfOk result (λ m. (es : List (Tree × Tree)) →
         AreLabels (tree_of map.now) es → entry_trees m ≡ es) }
+    ensures kept { IfOk result AreKept }
     ensures refused { IfErr result (λ e. (es : List (Tree × Tree)) →
         AreLabels (tree_of map.now) es → IsOutside e) }
 {
@@ -79,6 +81,7 @@ pub fn read_labels(alloc: Global, bytes: &[u8], part: Part) -> Result<Labels, En
     ensures ok { IfOk result (λ m. AreLabelBytes bytes.now (entry_trees m)) }
     ensures only { IfOk result (λ m. (es : List (Tree × Tree)) →
         AreLabelBytes bytes.now es → entry_trees m ≡ es) }
+    ensures kept { IfOk result AreKept }
     ensures refused { IfErr result (λ e. (es : List (Tree × Tree)) →
         AreLabelBytes bytes.now es → IsOutside e) }
 {
@@ -95,6 +98,7 @@ pub fn read_header(alloc: Global, bytes: &[u8]) -> Result<Labels, EnvelopeError>
     ensures ok { IfOk result (λ m. IsHeader bytes.now (entry_trees m)) }
     ensures only { IfOk result (λ m. (es : List (Tree × Tree)) →
         IsHeader bytes.now es → entry_trees m ≡ es) }
+    ensures kept { IfOk result AreKept }
     ensures refused { IfErr result (λ e. (es : List (Tree × Tree)) →
         IsHeader bytes.now es → IsOutside e) }
 {
