@@ -1,5 +1,5 @@
 -- Labels that were read are written as they are read, and nest no deeper than the map they were read from.
-use Rattle.std.proofs.Common.{◌≡◌, ◌≤◌, ℕ, max, IsTrue, true, false, List, [], ◌∷◌, map, Some, None, refl, sym, subst, ◌∙◌}
+use Rattle.std.proofs.Common.{◌≡◌, ◌≤◌, ℕ, IsTrue, true, false, List, [], ◌∷◌, map, Some, None, refl, sym, subst, ◌∙◌}
 use Rattle.std.proofs.Common.{ap, arith, Bool, ◌&&◌}
 use Rattle.std.proofs.lemmas.List.Elements.{All-from_recursion}
 use Rattle.std.specs.BTreeMap.{BTreeMap, IsOrdered, insert_entry}
@@ -82,8 +82,10 @@ put-kept n (trees.tree_pair k v ps) es rs labels fits all h =
     let (x, key, behind) = then_gives (outcome None (taken_value (item_of k)))
     (λ x. then_take (outcome None (taken_value (item_of v))) (put x)) rs h in
     let (y, value, rest) = then_gives (outcome None (taken_value (item_of v))) (put x) rs behind in
-    let one : IsKeptEntry n (x, y) = ((kept-label k x is (folds-to k x key), kept-tree n k x (omega (arith, fits)) key),
-    kept-tree n v y (omega (arith, fits)) value) in
+    let one : IsKeptEntry n (x, y) = (
+      (kept-label k x is (folds-to k x key), kept-tree n k x (omega (arith, fits)) key),
+      kept-tree n v y (omega (arith, fits)) value,
+    ) in
     put-kept n ps (insert_entry tree_cmp es x y) rs others (omega (arith, fits)) (insert-kept n es (x, y) one all) rest
 
 -- ---- of the entries of a map

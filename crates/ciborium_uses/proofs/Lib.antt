@@ -6,5 +6,6 @@ mod ReadAgain
 mod ReadLevels
 mod Tagged
 mod WholeItems
+mod WholeMessages
 mod WrittenMessages
 mod LogEnds

@@ -1,12 +1,12 @@
 -- What is read as a `Value` nests no deeper than its item, which is within the levels.
 use Rattle.std.proofs.Common.{◌≡◌, ◌≤◌, ◌^◌, ◌==◌, ℕ, zero, suc, max, Bool, true, false, cond, eqb, ltb, leb, le-leb}
 use Rattle.std.proofs.Common.{leb-true, ◌||◌}
-use Rattle.std.proofs.Common.{List, [], ◌∷◌, length, Option, Some, None, pos, negsuc, ℤ, refl, sym, ap, subst, ◌∙◌, arith}
+use Rattle.std.proofs.Common.{List, [], ◌∷◌, length, Option, Some, None, pos, negsuc, ℤ, refl, ap, subst, ◌∙◌, arith}
 use Rattle.ciborium.specs.Encoding.{item_of, items_of, pairs_of}
 use Rattle.ciborium.specs.Item as items
 use Rattle.ciborium.specs.Item.{Item, Items, Pairs}
 use Rattle.ciborium.specs.Nesting.{IsWithin, Limit, items_nesting, nesting, pairs_nesting, tag_nesting}
-use Rattle.ciborium.specs.Taken.{Outcome, Steps, deeper, gives, mapped, leveled, nests, outcome, outcome_map, refuses}
+use Rattle.ciborium.specs.Taken.{Outcome, Steps, deeper, gives, outcome, outcome_map}
 use Rattle.ciborium.specs.Taken.{taken_items, taken_tag, taken_tree_pairs, taken_value, then_take, within_level}
 use Rattle.ciborium.specs.Tree as trees
 use Rattle.ciborium.specs.Tree.{Tree, Trees, TreePairs}

@@ -239,13 +239,17 @@ message_of e = message_tree e.protected.0.items (labels_tree e.unprotected) e.pa
     e.signature.0.items
 
 -- an envelope that is read as it is written: its headers and claims are those of its bytes, and go
--- together, and two levels of the 256 are left for tags
-pub record IsWhole (e : Envelope) : Type 0 where
+-- together (RFC 9052, sections 3 and 3.1), and its message takes no more than so many levels
+pub record IsWholeWithin (levels : ℕ) (e : Envelope) : Type 0 where
   pub unprotected : AreKept e.unprotected
   pub header : IsHeader e.protected.0.items (entry_trees e.header)
   pub headers : AreHeaders (entry_trees e.header) (entry_trees e.unprotected)
   pub claims : AreClaimBytes e.payload.0.items e.claims
-  pub nests : nesting (item_of (message_of e)) ≤ 254
+  pub nests : nesting (item_of (message_of e)) ≤ levels
+
+-- the same where two levels of the 256 are left for tags, there or not
+abbrev pub IsWhole : Envelope → Type 0
+IsWhole e = IsWholeWithin 254 e
 
 -- the same bytes in each part, and equal labels in the headers and the claims
 pub record AreAlike (e f : Envelope) : Type 0 where

@@ -6,8 +6,8 @@ ghost use Rattle.std.specs.Prelude.{◌≡◌, IfErr, IfOk};
 ghost use Rattle.std.specs.Option.{option_copied, option_map};
 ghost use Rattle.ciborium.specs.Encoding.{written_bytes};
 ghost use Rattle.ciborium.specs.View.{tree_of};
-ghost use Rattle.ciborium_uses.specs.Envelopes.{IsEnvelope, IsMessage, IsOutside, IsWrapped};
-ghost use Rattle.ciborium_uses.specs.Envelopes.{OneEnvelope};
+ghost use Rattle.ciborium_uses.specs.Envelopes.{AreKept, IsEnvelope, IsMessage, IsOutside};
+ghost use Rattle.ciborium_uses.specs.Envelopes.{IsWhole, IsWholeWithin, IsWrapped, OneEnvelope};
 ghost use Rattle.ciborium_uses.specs.Envelopes.{entry_trees, signed_header, signed_item, value_at};
 ghost use Rattle.ciborium_uses.specs.declared.envelopes.Envelope.{Envelope};
 ghost use Rattle.ciborium_uses.specs.declared.envelopes.wrapping.Wrapping.{Wrapping};
@@ -66,6 +66,7 @@ pub struct Envelope {
 /// sections 3 and 3.1), `Claim` where a claim has another type, and `Memory`.
 pub fn read_envelope(alloc: Global, bytes: &[u8]) -> Result<Envelope, EnvelopeError>
     ensures ok { IfOk result (λ e. IsEnvelope bytes.now e) }
+    ensures whole { IfOk result (λ e. IsWholeWithin 255 e) }
     ensures refused { IfErr result (λ e. (v : Envelope) → IsEnvelope bytes.now v → IsOutside e) }
 {
     let Captured(tag, message) = read_all::<Captured<Value>>(alloc, bytes, Part::Message)?;
@@ -83,6 +84,7 @@ pub fn read_envelope(alloc: Global, bytes: &[u8]) -> Result<Envelope, EnvelopeEr
 /// Those of `read_envelope`, `Other` and `Tags` where other tags stand there.
 pub fn read_wrapped(alloc: Global, bytes: &[u8]) -> Result<(Wrapping, Envelope), EnvelopeError>
     ensures ok { IfOk result (λ r. IsWrapped bytes.now r.0 r.1) }
+    ensures whole { IfOk result (λ r. IsWhole r.1) }
     ensures refused { IfErr result (λ e. (w : Wrapping) (v : Envelope) →
         IsWrapped bytes.now w v → IsOutside e) }
 {
@@ -101,6 +103,7 @@ pub fn read_wrapped(alloc: Global, bytes: &[u8]) -> Result<(Wrapping, Envelope),
 // Opens a message whose tags were read.
 fn open(alloc: Global, message: Value) -> Result<Envelope, EnvelopeError>
     ensures ok { IfOk result (λ e. IsMessage (tree_of message) e) }
+    ensures kept { IfOk result (λ e. AreKept e.unprotected) }
     ensures refused { IfErr result
         (λ e. (v : Envelope) → IsMessage (tree_of message) v → IsOutside e) }
 {

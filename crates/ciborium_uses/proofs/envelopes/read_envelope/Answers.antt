@@ -1,6 +1,8 @@
 use Rattle.std.proofs.Common.{◌≡◌, ◌∙◌, Some, ap, rules, subst, sym}
-use Rattle.ciborium_uses.proofs.Exits.{exit_by, refused_by}
+use Rattle.ciborium.specs.View.{tree_of}
+use Rattle.ciborium_uses.proofs.Exits.{answered_by_both, exit_by, refused_by}
 use Rattle.ciborium_uses.proofs.Tagged.{with_tag}
+use Rattle.ciborium_uses.proofs.WholeMessages.{message-whole, nests-once}
 use Rattle.ciborium_uses.specs.Envelopes.{IsMessage}
 use Rattle.ciborium_uses.proofs.envelopes.read_envelope.Goals as goal
 
@@ -20,3 +22,10 @@ pub returns-clause-refused : goal.returns-clause-refused
 returns-clause-refused c = refused_by c.open.result c.open.ensures.refused (λ e refused v h.
     let same = c.in_ok-tag.ensures.only (Some 18, h.tree) (with_tag c.args.bytes.now h.tree h.item) in
     refused v (subst (λ t. IsMessage t v) (sym (ap (λ p. p.1) same)) h.message))
+
+pub returns-clause-whole : goal.returns-clause-whole
+returns-clause-whole c =
+    let read = c.in_ok-tag.ensures.ok in
+    let levels = nests-once read.0 c.in_ok-tag.field-0.0 (tree_of c.in_ok-tag.field-0.1) read.2 in
+    answered_by_both c.open.result c.open.ensures.kept c.open.ensures.ok
+    (λ e. message-whole 255 (tree_of c.in_ok-tag.field-0.1) e levels)
