@@ -57,8 +57,8 @@ both : (a b : Bool) → IsTrue (a && b) → IsTrue a × IsTrue b
 both true b h = (refl, h)
 both false b h = absurd cc
 
-insert-kept : (n : ℕ) (es : List (Tree × Tree)) (e : Tree × Tree) → IsKeptEntry n e → AllByRecursion (IsKeptEntry n) es →
-    AllByRecursion (IsKeptEntry n) (insert_entry tree_cmp es e.0 e.1)
+insert-kept : (n : ℕ) (es : List (Tree × Tree)) (e : Tree × Tree) → IsKeptEntry n e →
+    AllByRecursion (IsKeptEntry n) es → AllByRecursion (IsKeptEntry n) (insert_entry tree_cmp es e.0 e.1)
 insert-kept n [] e one all = (one, tt)
 insert-kept n (d ∷ es) e one all = by (tree_cmp e.0 d.0) (insert-kept n es e one all.1)
   where

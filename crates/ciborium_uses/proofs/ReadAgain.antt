@@ -23,7 +23,7 @@ use Rattle.ciborium.specs.Tree as trees
 use Rattle.ciborium.specs.Tree.{Tree}
 use Rattle.ciborium.specs.View.{pair_trees, tree_of, tree_pairs_of}
 use Rattle.ciborium.specs.Writes.{IsWrittenAs}
-use Rattle.ciborium.specs.lemmas.ReadsBackTags.{IsToldApart, captured-back}
+use Rattle.ciborium.specs.lemmas.ReadsBackTags.{IsToldApart, captured-back, required-back}
 use Rattle.ciborium_value.proofs.Orders.Derived.{value_cmp_total}
 use Rattle.ciborium_value.proofs.Trees.Views.{tree_pairs_count-tree_pairs_of}
 use Rattle.ciborium_value.specs.Places.{dictionary}
@@ -35,8 +35,9 @@ use Rattle.ciborium_value.specs.lemmas.ReadsBackMaps.{map-back}
 use Rattle.ciborium_value.specs.lemmas.ReadsBackValues.{value-back}
 use Rattle.ciborium_uses.proofs.WrittenMessages.{spelled, under-named}
 use Rattle.ciborium_uses.specs.Envelopes.{AreAlike, AreClaimBytes, AreKept, AreLabelBytes, AreLabels, IsAllOf, IsAsRead}
-use Rattle.ciborium_uses.specs.Envelopes.{IsHeader, IsMessage, IsWhole, IsWrapped, OneEnvelope, entry_trees}
-use Rattle.ciborium_uses.specs.Envelopes.{labels_tree, message_of, message_tree, tags_of, wrapped_tree}
+use Rattle.ciborium_uses.specs.Envelopes.{IsEnvelope, IsHeader, IsMessage, IsWhole, IsWholeWithin, IsWrapped, OneEnvelope}
+use Rattle.ciborium_uses.specs.Envelopes.{SpelledIsRead, entry_trees, labels_tree, message_of, message_tree}
+use Rattle.ciborium_uses.specs.Envelopes.{shortest_bytes, tags_of, wrapped_tree}
 use Rattle.ciborium_uses.specs.declared.envelopes.Envelope.{Envelope}
 use Rattle.ciborium_uses.specs.declared.envelopes.wrapping.Wrapping.{Wrapping}
 use Rattle.ciborium_uses.specs.declared.envelopes.wrapping.Wrapping.TheVariants.{Bare, Signed, Token}
@@ -89,6 +90,16 @@ header-again b m written h nests =
 message-folds : (e : Envelope) → AreKept e.unprotected → folded (message_of e) ≡ Some (message_of e)
 message-folds e h = rw (map-folds e.unprotected h) refl
 
+written-parts : (n : ℕ) (e : Envelope) → IsWholeWithin n e → IsMessage (message_of e) e
+written-parts n e h = record {
+  unprotected_tree = labels_tree e.unprotected;
+  parts = refl;
+  unprotected = kept e.unprotected h.unprotected;
+  header = h.header;
+  headers = h.headers;
+  claims = h.claims;
+}
+
 told : (w : Wrapping) (i : Item) → outer_tag i ≡ (None, i) →
     IsToldApart (tags_of w).0 (captured_of (tags_of w).1 (Ok i)) × IsToldApart (tags_of w).1 (Ok i)
 told Bare i h = (h, h)
@@ -108,15 +119,25 @@ written-wrapped bs w e h s =
         s,
         back.back by_bytes _ names (Some 256) (omega (arith, h.nests)),
       );
-      message = record {
-        unprotected_tree = labels_tree e.unprotected;
-        parts = refl;
-        unprotected = kept e.unprotected h.unprotected;
-        header = h.header;
-        headers = h.headers;
-        claims = h.claims;
-      };
+      message = written-parts 254 e h;
     }
+
+-- the same under the one tag that is required
+written-envelope : (bs : List ℕ) (e : Envelope) → IsWholeWithin 255 e →
+    Spells bs (item_of (wrapped_tree Signed (message_of e))) → IsEnvelope bs e
+written-envelope bs e h s = record {
+  tree = message_of e;
+  item = (
+    item_of (wrapped_tree Signed (message_of e)),
+    s,
+    (required-back 18 (value-back (message_of e) (message-folds e h.unprotected))).back by_bytes _ refl (Some 256)
+        (omega (arith, h.nests)),
+  );
+  message = written-parts 255 e h;
+}
+
+pub spelled-is-read : SpelledIsRead
+spelled-is-read = record { envelope = written-envelope; wrapped = written-wrapped }
 
 -- ---- no bytes are two
 
@@ -171,3 +192,7 @@ one-envelope bs w v e f a b =
       sym (wrapping_at-tags w) ∙ ap (λ p. wrapping_at p.0 p.1.0) same ∙ wrapping_at-tags v,
       one-message b.tree e f (subst (λ t. IsMessage t e) (ap (λ p. p.1.1) same) a.message) b.message,
     )
+
+-- envelopes that are alike have the same shortest bytes
+pub alike-shortest : (w v : Wrapping) (e f : Envelope) → (w ≡ v) × AreAlike e f → shortest_bytes w e ≡ shortest_bytes v f
+alike-shortest w v e f (same, alike) = rw (same, alike.protected, alike.unprotected, alike.payload, alike.signature) refl

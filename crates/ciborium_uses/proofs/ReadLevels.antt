@@ -132,8 +132,8 @@ tag-fits : (t : ℕ) (o : Option (List ℕ)) (l : Limit) (s : Steps Tree) (u : T
     Fits l (nesting (item_of u)) (tag_nesting o m)
 tag-fits t (Some b) l s u m short h rec = flat-fits l (bignum_meaning t b) u (flat-bignum t b short)
     (meaning_given kinds.TooLarge (bignum_meaning t b) u h)
-tag-fits t None l s u m short h rec = inside-fits l (trees.tag t) (outcome (deeper l) s) u (λ v. nesting (item_of v)) m h
-    (λ v. one-level (folding_bytes t (item_of v)) (nesting (item_of v))) rec
+tag-fits t None l s u m short h rec = inside-fits l (trees.tag t) (outcome (deeper l) s) u (λ v. nesting (item_of v))
+    m h (λ v. one-level (folding_bytes t (item_of v)) (nesting (item_of v))) rec
 
 mutual
   pub value-fits : (i : Item) (l : Limit) (t : Tree) → outcome l (taken_value i) ≡ gives t →

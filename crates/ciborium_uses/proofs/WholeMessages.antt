@@ -24,8 +24,8 @@ value-nests : (n : ℕ) (j : Item) (t : Tree) → outcome (Some n) (taken_value 
 value-nests n j t h = let fits = value-fits j (Some n) t h in omega (arith, fits.0, fits.1)
 
 -- the levels under one tag, and under two
-pub nests-once : (i : Item) (o : Option ℕ) (t : Tree) → outcome (Some 256) (taken_with_tag taken_value i) ≡ gives (o, t) →
-    nesting (item_of t) ≤ 255
+pub nests-once : (i : Item) (o : Option ℕ) (t : Tree) →
+    outcome (Some 256) (taken_with_tag taken_value i) ≡ gives (o, t) → nesting (item_of t) ≤ 255
 nests-once i o t h = let (j, is) = under-tag taken_value 255 i o t h in value-nests 255 j t is
 
 pub nests-twice : (i : Item) (o q : Option ℕ) (t : Tree) →
@@ -36,8 +36,8 @@ nests-twice i o q t h =
     value-nests 254 k t value
 
 -- what is written of the message takes no more levels
-pub message-whole : (n : ℕ) (t : Tree) (e : Envelope) → nesting (item_of t) ≤ n → AreKept e.unprotected → IsMessage t e →
-    IsWholeWithin n e
+pub message-whole : (n : ℕ) (t : Tree) (e : Envelope) → nesting (item_of t) ≤ n → AreKept e.unprotected →
+    IsMessage t e → IsWholeWithin n e
 message-whole n t e fits kept h =
     let fewer = read-nests h.unprotected_tree e.unprotected h.unprotected in
     let levels = ap (λ t. nesting (item_of t)) h.parts in record {

@@ -12,7 +12,7 @@ use Rattle.ciborium.specs.Item as item
 use Rattle.ciborium.specs.Item.{Item}
 use Rattle.ciborium.specs.Spells.{Spells}
 use Rattle.ciborium.specs.Derived.{value_cmp}
-use Rattle.ciborium.specs.Encoding.{encoding, item_of}
+use Rattle.ciborium.specs.Encoding.{encoding, item_of, written_bytes}
 use Rattle.ciborium.specs.Folded.{folded}
 use Rattle.ciborium.specs.Nesting.{nesting}
 use Rattle.ciborium.specs.Order.{tree_cmp}
@@ -259,6 +259,26 @@ pub record AreAlike (e f : Envelope) : Type 0 where
   pub signature : e.signature.0.items ≡ f.signature.0.items
   pub header : entry_trees e.header ≡ entry_trees f.header
   pub claims : entry_trees e.claims.every ≡ entry_trees f.claims.every
+
+-- the shortest bytes of an envelope under its tags, the labels of its unprotected header in their
+-- order
+abbrev pub shortest_bytes : Wrapping → Envelope → List ℕ
+shortest_bytes w e = written_bytes (item_of (wrapped_tree w (message_of e)))
+
+-- the bytes are an envelope, and these are the same one under the same tags
+pub record IsWrittenAgain (bs again : List ℕ) : Type 0 where
+  pub wrapping : Wrapping
+  pub envelope : Envelope
+  pub read : IsWrapped bs wrapping envelope
+  pub same : IsWrapped again wrapping envelope
+
+-- what is spelled of an envelope that is whole is read as that envelope: under tag 18 where one
+-- level is left, under any of the tags where two are
+pub record SpelledIsRead : Type 0 where
+  pub envelope : (bs : List ℕ) (e : Envelope) → IsWholeWithin 255 e →
+      Spells bs (item_of (wrapped_tree Signed (message_of e))) → IsEnvelope bs e
+  pub wrapped : (bs : List ℕ) (w : Wrapping) (e : Envelope) → IsWhole e →
+      Spells bs (item_of (wrapped_tree w (message_of e))) → IsWrapped bs w e
 
 -- no bytes are two envelopes, nor one under two kinds of tags
 abbrev pub OneEnvelope : Type 0

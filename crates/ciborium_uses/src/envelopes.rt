@@ -8,6 +8,7 @@ ghost use Rattle.ciborium.specs.Encoding.{written_bytes};
 ghost use Rattle.ciborium.specs.View.{tree_of};
 ghost use Rattle.ciborium_uses.specs.Envelopes.{AreKept, IsEnvelope, IsMessage, IsOutside};
 ghost use Rattle.ciborium_uses.specs.Envelopes.{IsWhole, IsWholeWithin, IsWrapped, OneEnvelope};
+ghost use Rattle.ciborium_uses.specs.Envelopes.{SpelledIsRead};
 ghost use Rattle.ciborium_uses.specs.Envelopes.{entry_trees, signed_header, signed_item, value_at};
 ghost use Rattle.ciborium_uses.specs.declared.envelopes.Envelope.{Envelope};
 ghost use Rattle.ciborium_uses.specs.declared.envelopes.wrapping.Wrapping.{Wrapping};
@@ -35,7 +36,7 @@ use labels::{labels_of, read_header, value_of};
 use std::alloc::Global;
 use std::io;
 pub use wrapping::{OtherMessage, Wrapping};
-pub use writing::{header_bytes, through_memory, write_envelope};
+pub use writing::{header_bytes, through_memory, write_again, write_envelope};
 
 /// A signed message whose payload is a set of claims.
 #[derive(Debug, Drop)]
@@ -135,6 +136,11 @@ pub fn algorithm<'a>(envelope: &'a Envelope) -> Option<&'a Value>
 /// No bytes are two envelopes: the tags around one are told by them, and so are its parts.
 pub fn one_envelope()
     ensures { OneEnvelope }
+{}
+
+/// What is written of an envelope that is whole is read as that envelope, by the call that read it.
+pub fn spelled_is_read()
+    ensures { SpelledIsRead }
 {}
 
 /// The bytes that the signature of an envelope signs, where the application adds these.

@@ -3,7 +3,7 @@
 use super::labels::{Labels, read_header};
 use super::{
     Envelope, Wrapping, algorithm, header_bytes, read_envelope, read_wrapped, signed_bytes,
-    through_memory, to_be_signed, write_envelope,
+    through_memory, to_be_signed, write_again,
 };
 use ciborium::ser;
 use ciborium::value::{ByteBuf, Value};
@@ -29,17 +29,22 @@ pub fn answer<W: Write>(alloc: Global, mode: &str, rest: &str, output: &mut W) -
             Err(error) => writeln!(output, "refused: {error}"),
         };
     }
+    if mode == "again" {
+        return match write_again(alloc, &bytes) {
+            Ok(bytes) => writeln!(output, "written: {}", hex::encode(alloc, bytes)?),
+            Err(error) => writeln!(output, "refused: {error}"),
+        };
+    }
     let (wrapping, envelope) = match read_wrapped(alloc, &bytes) {
         Ok(read) => read,
         Err(error) => return writeln!(output, "refused: {error}"),
     };
-    match mode {
-        "again" => rewrite(alloc, wrapping, &envelope, output),
-        "kept" => match through_memory(alloc, wrapping, &envelope) {
-            Ok((wrapping, envelope)) => show_wrapped(alloc, wrapping, &envelope, output),
-            Err(error) => writeln!(output, "refused: {error}"),
-        },
-        _ => show_wrapped(alloc, wrapping, &envelope, output),
+    if mode != "kept" {
+        return show_wrapped(alloc, wrapping, &envelope, output);
+    }
+    match through_memory(alloc, wrapping, &envelope) {
+        Ok((wrapping, envelope)) => show_wrapped(alloc, wrapping, &envelope, output),
+        Err(error) => writeln!(output, "refused: {error}"),
     }
 }
 
@@ -71,26 +76,6 @@ fn prepared(
     let external = ByteBuf(Vec::new(alloc));
     let bytes = to_be_signed(alloc, &protected, header, &external, payload)?;
     Ok((protected, bytes))
-}
-
-// Prints the message that is written of the parts of one.
-fn rewrite<W: Write>(
-    alloc: Global,
-    wrapping: Wrapping,
-    envelope: &Envelope,
-    output: &mut W,
-) -> io::Result<()> {
-    let Envelope {
-        protected,
-        unprotected,
-        payload,
-        signature,
-        ..
-    } = envelope;
-    match write_envelope(alloc, wrapping, protected, unprotected, payload, signature) {
-        Ok(bytes) => writeln!(output, "written: {}", hex::encode(alloc, bytes)?),
-        Err(error) => writeln!(output, "refused: {error}"),
-    }
 }
 
 // Prints the tags, and what stands under them.

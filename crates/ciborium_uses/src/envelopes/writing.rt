@@ -6,9 +6,11 @@ ghost use Rattle.ciborium.specs.Nesting.{nesting};
 ghost use Rattle.ciborium.specs.Spells.{Spells};
 ghost use Rattle.ciborium.specs.declared.ser.error.Error.TheVariants.{Memory};
 ghost use Rattle.ciborium_uses.specs.Envelopes.{AreAlike, AreKept, IsHeader, IsOutside, IsWhole};
-ghost use Rattle.ciborium_uses.specs.Envelopes.{entry_trees, header_bytes, labels_tree};
-ghost use Rattle.ciborium_uses.specs.Envelopes.{message_tree};
-ghost use Rattle.ciborium_uses.specs.Envelopes.{wrapped_tree};
+ghost use Rattle.ciborium_uses.specs.Envelopes.{IsWrapped, IsWrittenAgain, entry_trees};
+ghost use Rattle.ciborium_uses.specs.Envelopes.{header_bytes, labels_tree, message_of};
+ghost use Rattle.ciborium_uses.specs.Envelopes.{message_tree, shortest_bytes, wrapped_tree};
+ghost use Rattle.ciborium_uses.specs.declared.envelopes.Envelope.{Envelope};
+ghost use Rattle.ciborium_uses.specs.declared.envelopes.wrapping.Wrapping.{Wrapping};
 
 use super::error::EnvelopeError;
 use super::labels::Labels;
@@ -66,6 +68,47 @@ pub fn write_envelope(
     to_vec(alloc, &Captured(outer, Captured(inner, message)))
 }
 
+/// Reads all of the bytes as an envelope, and writes that one again under its tags, in its shortest
+/// bytes: bytes that are those stay as they are.
+///
+/// # Errors
+///
+/// Those of `read_wrapped`.
+pub fn write_again(alloc: Global, bytes: &[u8]) -> Result<Vec<u8>, EnvelopeError>
+    ensures again { IfOk result (λ again. IsWrittenAgain bytes.now again.items) }
+    ensures shortest { IfOk result (λ again. (w : Wrapping) (e : Envelope) →
+        IsWrapped bytes.now w e → again.items ≡ shortest_bytes w e) }
+    ensures refused { IfErr result (λ error. (w : Wrapping) (e : Envelope) →
+        IsWrapped bytes.now w e → IsOutside error) }
+{
+    let (wrapping, envelope) = read_wrapped(alloc, bytes)?;
+    write_under(alloc, wrapping, &envelope)
+}
+
+// Writes the message of an envelope under its tags.
+fn write_under(
+    alloc: Global,
+    wrapping: Wrapping,
+    envelope: &Envelope,
+) -> Result<Vec<u8>, EnvelopeError>
+    ensures bytes { IfOk result (λ bytes. bytes.items ≡ shortest_bytes wrapping envelope.now) }
+    ensures item { IfOk result (λ bytes. Spells bytes.items
+        (item_of (wrapped_tree wrapping (message_of envelope.now)))) }
+    ensures refused { IfErr result IsOutside }
+{
+    let Envelope {
+        protected,
+        unprotected,
+        payload,
+        signature,
+        ..
+    } = envelope;
+    match write_envelope(alloc, wrapping, protected, unprotected, payload, signature) {
+        Ok(bytes) => Ok(bytes),
+        Err(_) => Err(EnvelopeError::Memory),
+    }
+}
+
 /// Writes an envelope into memory, and reads it from there: it is the one that was written, under
 /// the same tags, and reading refuses it for no more than memory.
 ///
@@ -81,16 +124,6 @@ pub fn through_memory(
         (λ again. (again.0 ≡ wrapping) × AreAlike again.1 envelope.now) }
     ensures refused { IsWhole envelope.now → IfErr result IsOutside }
 {
-    let written = write_envelope(
-        alloc,
-        wrapping,
-        &envelope.protected,
-        &envelope.unprotected,
-        &envelope.payload,
-        &envelope.signature,
-    );
-    match written {
-        Ok(bytes) => read_wrapped(alloc, &bytes),
-        Err(_) => Err(EnvelopeError::Memory),
-    }
+    let bytes = write_under(alloc, wrapping, envelope)?;
+    read_wrapped(alloc, &bytes)
 }

@@ -1,0 +1,5 @@
+use Rattle.ciborium_uses.proofs.ReadAgain.{spelled-is-read}
+use Rattle.ciborium_uses.proofs.envelopes.spelled_is_read.Goals as goal
+
+pub returns : goal.returns
+returns c = spelled-is-read
