@@ -46,12 +46,7 @@ kept-tree n t w fits h =
 kept-label : (t w : Tree) → IsTrue (is_label t) → folded t ≡ Some w → IsTrue (is_label w)
 kept-label (trees.integer z) w is h = let same : trees.integer z ≡ w = cc in subst (λ t. IsTrue (is_label t)) same is
 kept-label (trees.text b) w is h = let same : trees.text b ≡ w = cc in subst (λ t. IsTrue (is_label t)) same is
-kept-label (trees.bytes b) w is h = absurd cc
-kept-label (trees.boolean b) w is h = absurd cc
-kept-label trees.null w is h = absurd cc
-kept-label (trees.tag t v) w is h = absurd cc
-kept-label (trees.array vs) w is h = absurd cc
-kept-label (trees.map ps) w is h = absurd cc
+kept-label _ w is h = absurd cc
 
 both : (a b : Bool) → IsTrue (a && b) → IsTrue a × IsTrue b
 both true b h = (refl, h)

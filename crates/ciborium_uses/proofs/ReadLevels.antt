@@ -1,7 +1,7 @@
 -- What is read as a `Value` nests no deeper than its item, which is within the levels.
 use Rattle.std.proofs.Common.{◌≡◌, ◌≤◌, ◌^◌, ◌==◌, ℕ, zero, suc, max, Bool, true, false, cond, eqb, ltb, leb, le-leb}
 use Rattle.std.proofs.Common.{leb-true, ◌||◌}
-use Rattle.std.proofs.Common.{List, [], ◌∷◌, length, Option, Some, None, pos, negsuc, ℤ, refl, ap, subst, ◌∙◌, arith}
+use Rattle.std.proofs.Common.{List, [], ◌∷◌, length, Option, Some, None, pos, negsuc, refl, ap, subst, ◌∙◌, arith}
 use Rattle.ciborium.specs.Encoding.{item_of, items_of, pairs_of}
 use Rattle.ciborium.specs.Item as items
 use Rattle.ciborium.specs.Item.{Item, Items, Pairs}
@@ -11,8 +11,8 @@ use Rattle.ciborium.specs.Taken.{taken_items, taken_tag, taken_tree_pairs, taken
 use Rattle.ciborium.specs.Tree as trees
 use Rattle.ciborium.specs.Tree.{Tree, Trees, TreePairs}
 use Rattle.ciborium_value.proofs.FoldedTrees.Bignums.{stays}
-use Rattle.ciborium_value.specs.Meaning.{big_endian, bignum_meaning, folding_bytes, is_bignum_tag, negative_bignum}
-use Rattle.ciborium_value.specs.Meaning.{short_string, simple_meaning, unsigned_bignum, without_zeros}
+use Rattle.ciborium_value.specs.Meaning.{big_endian, bignum_meaning, folding_bytes, is_bignum_tag}
+use Rattle.ciborium_value.specs.Meaning.{short_string, simple_meaning, without_zeros}
 use Rattle.ciborium_value.specs.declared.kind.Kind.TheVariants as kinds
 use Rattle.ciborium_value.specs.lemmas.GivenOutcomes.{mapped_gives, meaning_given, one_given, then_gives}
 
@@ -46,14 +46,6 @@ abbrev IsFlat : Option Tree → Type 0
 IsFlat None = Unit {0}
 IsFlat (Some t) = nesting (item_of t) ≡ 0
 
-flat-either : (c : Bool) (o p : Option Tree) → IsFlat o → IsFlat p → IsFlat (cond c o p)
-flat-either true o p h k = h
-flat-either false o p h k = k
-
-flat-integer : (z : ℤ) → nesting (item_of (trees.integer z)) ≡ 0
-flat-integer (pos n) = refl
-flat-integer (negsuc n) = refl
-
 flat-simple : (n : ℕ) → IsFlat (simple_meaning n)
 unfolding simple_meaning
 flat-simple n = by (n == 20) (n == 21) ((n == 22) || (n == 23))
@@ -79,15 +71,17 @@ flat-tag t b is short =
 
 flat-bignum : (t : ℕ) (b : List ℕ) → length b ≤ 16 → IsFlat (bignum_meaning t b)
 unfolding bignum_meaning
-flat-bignum t b short =
-    let n = big_endian b in
-    let c = without_zeros b in
-    flat-either (eqb t 2) (unsigned_bignum n c) (negative_bignum n c)
-    (flat-either (ltb n (2 ^ 64)) (Some (trees.integer (pos n))) (Some (trees.tag 2 (trees.bytes c)))
-    (flat-integer (pos n)) (flat-tag 2 b refl short))
-    (flat-either (ltb n (2 ^ 64)) (Some (trees.integer (negsuc n))) (cond (ltb n (2 ^ 127))
-    (Some (trees.tag 3 (trees.bytes c))) None) (flat-integer (negsuc n))
-    (flat-either (ltb n (2 ^ 127)) (Some (trees.tag 3 (trees.bytes c))) None (flat-tag 3 b refl short) tt))
+flat-bignum t b short = by (eqb t 2) (ltb (big_endian b) (2 ^ 64)) (ltb (big_endian b) (2 ^ 127))
+  where
+    by : (is_positive small fits : Bool) → IsFlat (cond is_positive
+        (cond small (Some (trees.integer (pos (big_endian b)))) (Some (trees.tag 2 (trees.bytes (without_zeros b)))))
+        (cond small (Some (trees.integer (negsuc (big_endian b))))
+        (cond fits (Some (trees.tag 3 (trees.bytes (without_zeros b)))) None)))
+    by true true fits = refl
+    by true false fits = flat-tag 2 b refl short
+    by false true fits = refl
+    by false false true = flat-tag 3 b refl short
+    by false false false = tt
 
 -- the bytes over which a tag folds are few
 abbrev IsShort : Option (List ℕ) → Type 0

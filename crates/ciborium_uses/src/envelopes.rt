@@ -55,7 +55,8 @@ pub struct Envelope {
     pub claims: Claims,
 }
 
-/// Reads all of the bytes as an envelope, under its tag 18.
+/// Reads all of the bytes as an envelope, under its tag 18. It is whole, within the levels that one
+/// tag leaves: one level more than `read_wrapped` has, which takes two, tags or none.
 ///
 /// # Errors
 ///
@@ -78,7 +79,7 @@ pub fn read_envelope(alloc: Global, bytes: &[u8]) -> Result<Envelope, EnvelopeEr
 }
 
 /// Reads all of the bytes as an envelope, and says which tags stand around it: none, 18, or 18
-/// under 61.
+/// under 61. It is whole, so what is written of it is read as this envelope again.
 ///
 /// # Errors
 ///
