@@ -34,10 +34,10 @@ use Rattle.ciborium_value.specs.lemmas.DerivedOrder.{value_cmp-is}
 use Rattle.ciborium_value.specs.lemmas.ReadsBackMaps.{map-back}
 use Rattle.ciborium_value.specs.lemmas.ReadsBackValues.{value-back}
 use Rattle.ciborium_uses.proofs.WrittenMessages.{spelled, under-named}
-use Rattle.ciborium_uses.specs.Envelopes.{AreAlike, AreClaimBytes, AreKept, AreLabelBytes, AreLabels, IsAllOf, IsAsRead}
-use Rattle.ciborium_uses.specs.Envelopes.{IsEnvelope, IsHeader, IsMessage, IsWhole, IsWholeWithin, IsWrapped, OneEnvelope}
-use Rattle.ciborium_uses.specs.Envelopes.{SpelledIsRead, entry_trees, labels_tree, message_of, message_tree}
-use Rattle.ciborium_uses.specs.Envelopes.{shortest_bytes, tags_of, wrapped_tree}
+use Rattle.ciborium_uses.specs.Envelopes.{AreAlike, AreClaimBytes, AreKept, AreLabelBytes, AreLabels, IsAllOf}
+use Rattle.ciborium_uses.specs.Envelopes.{IsAsRead, IsEnvelope, IsHeader, IsMessage, IsWhole, IsWholeWithin}
+use Rattle.ciborium_uses.specs.Envelopes.{IsWrapped, OneEnvelope, SpelledIsRead, entry_trees, labels_tree, message_of}
+use Rattle.ciborium_uses.specs.Envelopes.{message_tree, shortest_bytes, tags_of, wrapped_tree}
 use Rattle.ciborium_uses.specs.declared.envelopes.Envelope.{Envelope}
 use Rattle.ciborium_uses.specs.declared.envelopes.wrapping.Wrapping.{Wrapping}
 use Rattle.ciborium_uses.specs.declared.envelopes.wrapping.Wrapping.TheVariants.{Bare, Signed, Token}
@@ -194,5 +194,7 @@ one-envelope bs w v e f a b =
     )
 
 -- envelopes that are alike have the same shortest bytes
-pub alike-shortest : (w v : Wrapping) (e f : Envelope) → (w ≡ v) × AreAlike e f → shortest_bytes w e ≡ shortest_bytes v f
-alike-shortest w v e f (same, alike) = rw (same, alike.protected, alike.unprotected, alike.payload, alike.signature) refl
+pub alike-shortest : (w v : Wrapping) (e f : Envelope) → (w ≡ v) × AreAlike e f →
+    shortest_bytes w e ≡ shortest_bytes v f
+alike-shortest w v e f (same, alike) =
+    rw (same, alike.protected, alike.unprotected, alike.payload, alike.signature) refl

@@ -7,7 +7,8 @@ ghost use Rattle.ciborium.specs.TakenParts.{has_key};
 ghost use Rattle.ciborium.specs.Tree.{Tree};
 ghost use Rattle.ciborium.specs.View.{tree_of, tree_pairs_of};
 ghost use Rattle.ciborium_uses.specs.Envelopes.{AreKept, AreLabelBytes, AreLabels, IsHeader};
-ghost use Rattle.ciborium_uses.specs.Envelopes.{IsOutside, are_labels, entry_trees, is_label, value_at};
+ghost use Rattle.ciborium_uses.specs.Envelopes.{IsOutside, are_labels, entry_trees, is_label};
+ghost use Rattle.ciborium_uses.specs.Envelopes.{value_at};
 
 use super::error::{EnvelopeError, Part};
 use super::items::read_all;
