@@ -1,5 +1,5 @@
 -- What a line means, or why it is refused, as the program answers it, and the text of a refusal.
-use Rattle.std.specs.Prelude.{◌≡◌, ℕ, ◌<◌, Bool, true, false, IsTrue, List, [], length, Option}
+use Rattle.std.specs.Prelude.{◌≡◌, ℕ, ◌+◌, ◌<◌, Bool, true, false, IsTrue, List, [], length, Option}
 use Rattle.std.specs.Prelude.{Some, Ok, IsErr, MatchResult, codes}
 use Rattle.hex.specs.Hex.{decode_of}
 use Rattle.ciborium_ll.specs.Refusal as refusal
@@ -79,6 +79,18 @@ refused_text (Semantic p reason) = refusal_text (refusal.semantic p (kind_of_rea
 refused_text Nesting = refusal_text refusal.recursion_limit_exceeded
 refused_text TooLong = refusal_text refusal.too_long
 refused_text Memory = codes "memory"
+
+-- the offset of a refusal, or 0 where it has none
+abbrev pub refusal_offset : Refusal → ℕ
+refusal_offset (Syntax p) = p
+refusal_offset (Semantic p reason) = p
+refusal_offset other = 0
+
+-- a refusal of bytes behind so many others, with its offset counted from the first of those
+abbrev pub refusal_behind : ℕ → Refusal → Refusal
+refusal_behind skipped (Syntax p) = Syntax (skipped + p)
+refusal_behind skipped (Semantic p reason) = Semantic (skipped + p) reason
+refusal_behind skipped other = other
 
 -- whether memory was refused
 abbrev pub wants_memory : Refusal → Bool

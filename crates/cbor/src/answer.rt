@@ -1,8 +1,10 @@
 //! Why a line is no item, and its text.
 
-ghost use Rattle.std.specs.Prelude.{◌≡◌, ◌⊎◌, Some};
+ghost use Rattle.std.specs.Prelude.{◌≡◌, ◌⊎◌, ◌+◌, ◌<◌, IfNone, IfSome, Some};
 ghost use Rattle.ciborium_value.specs.declared.kind.Kind.TheVariants.{DuplicateKey, TooLarge};
-ghost use Rattle.cbor.specs.Answer.{kind_of_reason, refused_text, wants_memory};
+ghost use Rattle.ciborium_ll.specs.Bytes.{greatest_offset};
+ghost use Rattle.cbor.specs.Answer.{kind_of_reason, refusal_behind, refusal_offset, refused_text};
+ghost use Rattle.cbor.specs.Answer.{wants_memory};
 ghost use Rattle.cbor.specs.Forms.{formless_text};
 ghost use Rattle.cbor.specs.Line.{kind_text};
 ghost use Rattle.cbor.specs.declared.answer.Refusal.TheVariants.{Memory};
@@ -59,6 +61,21 @@ impl Refusal {
         ensures { result ≡ wants_memory self.now }
     {
         matches!(self, Refusal::Memory)
+    }
+
+    /// This refusal of an item behind `skipped` bytes, with its offset counted from the first of
+    /// them. There is none where that would pass `usize::MAX`.
+    pub fn behind(self, skipped: usize) -> Option<Refusal>
+        ensures moved { IfSome result (λ refusal. refusal ≡ refusal_behind skipped self) }
+        ensures none { IfNone result (greatest_offset < skipped + refusal_offset self) }
+    {
+        match self {
+            Refusal::Syntax(at) => Some(Refusal::Syntax(skipped.checked_add(at)?)),
+            Refusal::Semantic(at, reason) => {
+                Some(Refusal::Semantic(skipped.checked_add(at)?, reason))
+            }
+            other => Some(other),
+        }
     }
 }
 

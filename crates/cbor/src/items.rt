@@ -142,13 +142,13 @@ pub fn name_refusal(error: Error<io::Error>, is_at_end: bool) -> Option<Refusal>
     }
 }
 
-/// Reads the value of the item at the front by the reader of these spellings, and leaves what
-/// follows it.
-///
-/// # Errors
-///
-/// Those of that reader.
-pub fn read_spelled<R: BufRead>(
+// Reads the value of the item at the front by the reader of these spellings, and leaves what
+// follows it.
+//
+// # Errors
+//
+// Those of that reader.
+fn read_spelled<R: BufRead>(
     alloc: Global,
     reader: &mut R,
     spelling: Spelling,

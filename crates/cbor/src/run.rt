@@ -61,8 +61,8 @@ cbor --help tells of the other commands
 /// the items of a sequence in bytes. They show each as soon as it is read, by its notation, its
 /// encoding in hex or its deterministic encoding in hex, until the end or the first item that is
 /// refused, or that has no deterministic encoding where that is shown: for this one they write
-/// `item`, its number, counted from 1, a colon and the reason, with the offset counted inside that
-/// item.
+/// `item`, its number, counted from 1, a colon and the reason, with the offset counted from the
+/// first byte of the input.
 /// `dump --binary` takes all of the input as the bytes of one item, reads it whole, and then writes
 /// its dump, with a line feed behind the reason where it is none. Behind the words of a command
 /// with `--binary`, and its limit, files may be named, which are shown one after the other; `-` is

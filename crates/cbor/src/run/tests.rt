@@ -397,7 +397,7 @@ const BYTE_RUNS: &[(&[&str], &[u8], &str, u8)] = &[
     (
         &["diag", "--binary"],
         b"\xa2\x61a\x01\x61b\x82\x42\x01\x02\xf5\x1a\x51\x4b\x67\xb0\x82\x1e",
-        "{\"a\": 1, \"b\": [h'0102', true]}\n1363896240\nitem 3: syntax 1\n",
+        "{\"a\": 1, \"b\": [h'0102', true]}\n1363896240\nitem 3: syntax 17\n",
         1,
     ),
     (&["read", "--binary"], b"", "", 0),
@@ -405,25 +405,25 @@ const BYTE_RUNS: &[(&[&str], &[u8], &str, u8)] = &[
     (
         &["read", "--binary", "--det"],
         b"\x01\xa2\x61a\x01\x19\x03\xe8\x00\xa2\x19\x03\xe8\x00\x61a\x01",
-        "01\na26161011903e800\nitem 3: semantic 5 keyorder\n",
+        "01\na26161011903e800\nitem 3: semantic 14 keyorder\n",
         1,
     ),
     (
         &["read", "--binary", "--det", "--core"],
         b"\x01\xa2\x19\x03\xe8\x00\x61a\x01\xa2\x61a\x01\x19\x03\xe8\x00",
-        "01\na21903e800616101\nitem 3: semantic 4 keyorder\n",
+        "01\na21903e800616101\nitem 3: semantic 13 keyorder\n",
         1,
     ),
     (
         &["read", "--binary", "--det", "1"],
         b"\x81\x00\x18\x00",
-        "8100\nitem 2: semantic 0 notshortest\n",
+        "8100\nitem 2: semantic 2 notshortest\n",
         1,
     ),
     (
         &["read", "--binary", "--det"],
         b"\x00\x9f\xff",
-        "00\nitem 2: semantic 0 open\n",
+        "00\nitem 2: semantic 1 open\n",
         1,
     ),
     (
@@ -438,11 +438,17 @@ const BYTE_RUNS: &[(&[&str], &[u8], &str, u8)] = &[
         "00\nitem 2: io\n",
         1,
     ),
-    // The third item is refused at its own second byte, and nothing behind it is shown.
+    (
+        &["canon", "--binary"],
+        b"\x18\x01\x7f\x61a\xff\x9f\x1a\0\0\0\x02\x1e",
+        "01\n6161\nitem 3: syntax 12\n",
+        1,
+    ),
+    // The third item is refused at its second byte, and nothing behind it is shown.
     (
         &["read", "--binary"],
         b"\x01\x61a\x82\x1e\x00\x00",
-        "01\n6161\nitem 3: syntax 1\n",
+        "01\n6161\nitem 3: syntax 4\n",
         1,
     ),
     (&["diag", "--binary"], b"\x01\x18", "1\nitem 2: io\n", 1),
@@ -561,7 +567,14 @@ const FILE_RUNS: &[(&[&str], &str, &str, u8)] = &[
     // A file that is refused does not keep the next one from being shown.
     (
         &["read", "--binary", "b.cbor", "a.cbor"],
-        "03\nb.cbor: item 2: semantic 1 break\n01\n8102\n",
+        "03\nb.cbor: item 2: semantic 3 break\n01\n8102\n",
+        "",
+        1,
+    ),
+    // In each file offsets are counted from its first byte.
+    (
+        &["diag", "--binary", "b.cbor", "b.cbor"],
+        "3\nb.cbor: item 2: semantic 3 break\n3\nb.cbor: item 2: semantic 3 break\n",
         "",
         1,
     ),
@@ -573,7 +586,7 @@ const FILE_RUNS: &[(&[&str], &str, &str, u8)] = &[
     ),
     (
         &["read", "--binary", "--det", "a.cbor", "300"],
-        "01\na.cbor: item 2: semantic 0 open\na16161f5\n6162\n",
+        "01\na.cbor: item 2: semantic 1 open\na16161f5\n6162\n",
         "",
         1,
     ),

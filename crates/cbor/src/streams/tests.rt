@@ -4,6 +4,7 @@ use crate::fault::Fault;
 use crate::reading::{Layout, Showing, Spelling};
 use crate::test_devices::{Asker, Device, Mended, Source, Tally, Viewer};
 use ciborium::de::RECURSION_LIMIT;
+use ciborium_value::KeyOrder;
 use std::alloc::Global;
 use std::cell::Cell;
 use std::io::{ErrorKind, Read, Write};
@@ -129,12 +130,18 @@ fn tells_the_end_from_a_cut(rt: HostRuntime) -> Result<(), Fail> {
 
 // A sequence, a limit, and what is shown of the items before the first that is refused, and of it.
 const REFUSED: &[(&[u8], usize, &str)] = &[
-    (b"\x01\x61a\x1e\x02", 256, "1\n\"a\"\nitem 3: syntax 0\n"),
-    (b"\x01\x82\x02\x1e", 256, "1\nitem 2: syntax 2\n"),
+    (b"\x01\x61a\x1e\x02", 256, "1\n\"a\"\nitem 3: syntax 3\n"),
+    (b"\x01\x82\x02\x1e", 256, "1\nitem 2: syntax 3\n"),
+    // The offset counts the bytes of the items as they are spelled.
+    (
+        b"\x5f\x41\x01\x41\xab\xff\x9f\x02\xff\x82\x01\x1e",
+        256,
+        "h'01ab'\n[2]\nitem 3: syntax 11\n",
+    ),
     (b"\x62\xc3\x28", 256, "item 1: syntax 0\n"),
-    (b"\x00\xff\x00", 256, "0\nitem 2: semantic 0 break\n"),
+    (b"\x00\xff\x00", 256, "0\nitem 2: semantic 1 break\n"),
     (b"\x81\xf9\x3c\x00", 256, "item 1: semantic 1 float\n"),
-    (b"\x00\xe0", 256, "0\nitem 2: semantic 0 simple\n"),
+    (b"\x00\xe0", 256, "0\nitem 2: semantic 1 simple\n"),
     (
         b"\xc3\x50\x80\0\0\0\0\0\0\0\0\0\0\0\0\0\0\0",
         256,
@@ -159,6 +166,36 @@ fn names_the_item_that_is_refused(rt: HostRuntime) {
             expect_shown(&rt, rt.alloc(), &mut source, showing, limit, expected);
         }
     }
+}
+
+// Two items of 5,000 bytes stand before the one that is refused, so that no buffer holds all three,
+// whatever spellings are taken.
+#[test]
+fn counts_offsets_past_the_buffer(rt: HostRuntime) -> Result<(), Fail> {
+    let mut bytes = Vec::new(rt.alloc());
+    for _ in 0..2 {
+        bytes.extend_from_slice(b"\x59\x13\x85")?;
+        bytes.extend_from_slice(&[0; 4997])?;
+    }
+    bytes.extend_from_slice(b"\x82\x01\x1e")?;
+    for showing in [
+        Showing::Encoding(Spelling::Any),
+        Showing::Encoding(Spelling::Deterministic(KeyOrder::LengthFirst)),
+        Showing::Encoding(Spelling::Deterministic(KeyOrder::Bytewise)),
+        Showing::Form(KeyOrder::Bytewise),
+    ] {
+        for most in [1, 3000, usize::MAX] {
+            let mut source = Source::new(&bytes, most, None);
+            let mut output = Vec::new(rt.alloc());
+            let shown = show_items(rt.alloc(), &mut source, b"", showing, 256, &mut output);
+            assert!(rt; matches!(shown, Ok(false)));
+            assert!(rt;
+                output.as_slice().ends_with(b"00\nitem 3: syntax 10002\n"),
+                "{most}"
+            );
+        }
+    }
+    Ok(())
 }
 
 // Each item is shown, and its line flushed, before the device is asked for the next; and behind the
@@ -296,7 +333,7 @@ fn tells_a_fault_of_the_input(rt: HostRuntime) {
 // Wherever the output has no more room, and where it is flushed.
 #[test]
 fn tells_a_fault_of_the_output(rt: HostRuntime) {
-    let text = b"01\n6161\nitem 3: syntax 0\n";
+    let text = b"01\n6161\nitem 3: syntax 3\n";
     for room in 0..=text.len() {
         let mut input = Source::new(b"\x01\x61a\x1e", usize::MAX, None);
         let mut output = Device::new(rt.alloc(), room, room == text.len());
