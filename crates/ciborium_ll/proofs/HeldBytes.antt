@@ -66,16 +66,3 @@ keeps-first None b o x k t = tt
 keeps-first (Some xs) None o x k t = absurd k
 keeps-first (Some xs) (Some ys) None x k t = absurd t
 keeps-first (Some xs) (Some ys) (Some zs) x k t = sym k ∙ t
-
--- it is taken from what was there before nothing was taken
-pub behind-kept : (a b o : Option (List ℕ)) (p q : ℕ) (P : List ℕ → Type 0) → Keeps a b → Advances b o p q P →
-    Advances a o p q P
-behind-kept a b o p q P kept (x, taken, count, h, bytes) = (x, keeps-first a b o x kept taken, count, h, bytes)
-
--- an error that is not the reader's says nothing of its end
-pub none-ended : {E : Type 0} (can_fail : Bool) (left : Option (List ℕ)) (e : Error E) → (IsHeadIo e → ⊥) →
-    HasEnded can_fail left e
-none-ended can_fail left (Io e) not = absurd (not tt)
-none-ended can_fail left (Syntax p) not = tt
-none-ended can_fail left TooLong not = tt
-none-ended can_fail left Memory not = tt

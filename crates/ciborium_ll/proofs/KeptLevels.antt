@@ -28,12 +28,6 @@ top-within k [] level e = absurd (none k e)
 top-within zero (x ∷ room) level e = omega arith
 top-within (suc k) (x ∷ room) level e = let less = top-within k room level e in omega (arith, less)
 
-pub none-within : (k : ℕ) (room : List Level) → top_of (drop k room) ≡ None → drop k room ≡ []
-none-within zero [] e = refl
-none-within zero (x ∷ room) e = absurd cc
-none-within (suc k) [] e = refl
-none-within (suc k) (x ∷ room) e = none-within k room e
-
 one-more : (n : ℕ) → suc n ≡ n + 1
 one-more n = omega arith
 

@@ -158,7 +158,3 @@ module _ {A C : Type 0} (name : Label) {a b : A} {r s : Named} {c d : C}
     alike = λ same. ap (λ t. named_field name t ∷ fs) (first (ap (λ p. p.0) same)) ∙
         ap (λ ts. named_field name s ∷ ts) (behind.alike (ap (λ p. p.1) same));
   }
-
-pub fields_alike : {C : Type 0} {c d : C} {fs gs : List (Label × Named)} →
-    AreFieldsAlike c d fs gs → c ≡ d → fields_of fs ≡ fields_of gs
-fields_alike law same = ap fields_of (law.alike same)

@@ -41,31 +41,3 @@ same-within (then_read s f) l = same-then (outcome (Some l) s) (outcome None s) 
     (λ v. same-within (f v) l)
 same-within (then_inside test s f) l = same-then (outcome (Some l) s) (outcome None s) _ _ (same-within s l)
     (λ v. same-inside (test v) (f v) (λ m. same-within (f v) m) l)
-
--- and without a limit nothing nests too deep
-never-map : {A B : Type 0} (f : A → B) (o : Outcome A) → (o ≡ nests → ⊥) → outcome_map f o ≡ nests → ⊥
-never-map f (gives v) h e = cc
-never-map f (refuses k) h e = cc
-never-map f nests h e = h refl
-
-never-then : {A B : Type 0} (o : Outcome A) (f : A → Outcome B) → (o ≡ nests → ⊥) → ((v : A) → f v ≡ nests → ⊥) →
-    then_take o f ≡ nests → ⊥
-never-then (gives v) f h k e = k v e
-never-then (refuses j) f h k e = cc
-never-then nests f h k e = h refl
-
-never-inside : {A : Type 0} (b : Bool) (s : Steps A) → (outcome None s ≡ nests → ⊥) →
-    outcome (deeper_if b None) s ≡ nests → ⊥
-never-inside false s h = h
-never-inside true s h = h
-
-pub never-nests : {A : Type 0} (s : Steps A) → outcome None s ≡ nests → ⊥
-never-nests (decided (Ok v)) e = cc
-never-nests (decided (Err k)) e = cc
-never-nests (leveled s) e = never-nests s e
-never-nests (mapped f s) e = never-map f (outcome None s) (never-nests s) e
-never-nests (chosen true s t) e = never-nests s e
-never-nests (chosen false s t) e = never-nests t e
-never-nests (then_read s f) e = never-then (outcome None s) _ (never-nests s) (λ v. never-nests (f v)) e
-never-nests (then_inside test s f) e = never-then (outcome None s) _ (never-nests s)
-    (λ v. never-inside (test v) (f v) (never-nests (f v))) e

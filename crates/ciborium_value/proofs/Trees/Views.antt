@@ -51,29 +51,3 @@ fits : {A : Type 0} (v : Vec A Global) → length v.items ≤ greatest_offset
 fits v = let ok = v.ok in let small = v.small in omega arith
 
 -- ---- equal trees
-
-same-item : (v w : Tree) (vs ws : Trees) → trees.tree v vs ≡ trees.tree w ws → (v ≡ w) × (vs ≡ ws)
-same-item v w vs ws e = (cc, cc)
-
-same-pair : (k v l w : Tree) (ps qs : TreePairs) → trees.tree_pair k v ps ≡ trees.tree_pair l w qs → (k ≡ l) × (v ≡ w) ×
-    (ps ≡ qs)
-same-pair k v l w ps qs e = (cc, cc, cc)
-
--- arrays of equal trees have equal lists of trees
-pub trees_of-equal : (vs ws : List Value) → trees_of vs ≡ trees_of ws → map tree_of vs ≡ map tree_of ws
-trees_of-equal [] [] e = refl
-trees_of-equal [] (w ∷ ws) e = absurd cc
-trees_of-equal (v ∷ vs) [] e = absurd cc
-trees_of-equal (v ∷ vs) (w ∷ ws) e = let s = same-item (tree_of v) (tree_of w) (trees_of vs) (trees_of ws) e in
-    ap (λ t. t ∷ map tree_of vs) s.0 ∙ ap (λ ts. tree_of w ∷ ts) (trees_of-equal vs ws s.1)
-
--- maps of equal trees have equal lists of pairs
-pub tree_pairs_of-equal : (ps qs : List (Value × Value)) → tree_pairs_of ps ≡ tree_pairs_of qs →
-    map pair_trees ps ≡ map pair_trees qs
-tree_pairs_of-equal [] [] e = refl
-tree_pairs_of-equal [] (q ∷ qs) e = absurd cc
-tree_pairs_of-equal (p ∷ ps) [] e = absurd cc
-tree_pairs_of-equal (p ∷ ps) (q ∷ qs) e =
-    let s = same-pair (tree_of p.0) (tree_of p.1) (tree_of q.0) (tree_of q.1) (tree_pairs_of ps) (tree_pairs_of qs) e in
-    ap (λ t. (t, tree_of p.1) ∷ map pair_trees ps) s.0 ∙ ap (λ t. (tree_of q.0, t) ∷ map pair_trees ps) s.1 ∙
-    ap (λ ts. pair_trees q ∷ ts) (tree_pairs_of-equal ps qs s.2)
