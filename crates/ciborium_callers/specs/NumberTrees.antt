@@ -14,6 +14,7 @@ use Rattle.ciborium.specs.View.{trees_from}
 use Rattle.ciborium_value.specs.declared.key_order.KeyOrder.{KeyOrder}
 use Rattle.ciborium_callers.specs.declared.tree_types.NumberTree.{NumberTree, fold-NumberTree}
 use Rattle.ciborium_callers.specs.declared.tree_types.NumberTree.TheOpen.{NumberTree-F}
+use Rattle.ciborium_value.specs.lemmas.Descriptions.{both}
 
 -- one level, where each value inside is its tree already
 abbrev pub number_level_tree : NumberTree-F Tree → Tree
@@ -40,11 +41,6 @@ abbrev mutual
   pub are_number_trees : Trees → Bool
   are_number_trees trees.no_trees = true
   are_number_trees (trees.tree v vs) = is_number_tree v && are_number_trees vs
-
--- no bignum stands in such a tree, so folding changes nothing
-both : (s t : Bool) → (s && t) ≡ true → (s ≡ true) × (t ≡ true)
-both true t h = (refl, h)
-both false t h = cc
 
 mutual
   pub folded-number_tree : (t : Tree) → is_number_tree t ≡ true → folded t ≡ Some t

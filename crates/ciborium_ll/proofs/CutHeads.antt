@@ -28,6 +28,7 @@ use Rattle.ciborium_ll.proofs.LevelEnds.{can-end}
 use Rattle.ciborium_ll.proofs.LevelFronts.{AreOpen, are-open, front-of-end}
 use Rattle.ciborium_ll.proofs.LevelHeads.{ends-behind}
 use Rattle.ciborium_ll.proofs.UsableHeads.{EachIsByte, byte_at}
+use Rattle.ciborium_ll.proofs.Advancing.{single}
 
 -- ---- a head with its argument filled
 
@@ -48,7 +49,7 @@ IsMajorOf m (header.Simple n) = m ≡ 7
 IsMajorOf m (header.Float size) = m ≡ 7
 IsMajorOf m header.Break = ⊥
 
-each-byte : (b : List ℕ) → AreBytes b → EachIsByte b
+pub each-byte : (b : List ℕ) → AreBytes b → EachIsByte b
 each-byte [] h = tt
 each-byte (x ∷ b) h = (h 0 0 (omega arith), each-byte b (λ k d lt. h (suc k) d (omega arith)))
 
@@ -75,11 +76,6 @@ long-information a h = by (order a 24) (order a 25) (order a 26) (order a 27) (o
     by (inr p) (inr q) (inr r) (inr s) (inl t) = inr (inr (inr (omega arith)))
     by (inr p) (inr q) (inr r) (inr s) (inr t) = let z = none-above a t in absurd (omega arith)
 
-alone : (b : List ℕ) → length b ≡ 1 → b ≡ get_or b 0 0 ∷ []
-alone [] h = absurd (omega arith)
-alone (x ∷ []) h = refl
-alone (x ∷ y ∷ b) h = absurd (omega arith)
-
 same-head : (m a k : ℕ) (b c : List ℕ) → a ≡ k → b ≡ c → (m * 32 + a) ∷ b ≡ (m * 32 + k) ∷ c
 same-head m a k b c e f = ap (λ j. (m * 32 + j) ∷ b) e ∙ ap (λ (l : List ℕ). (m * 32 + k) ∷ l) f
 
@@ -89,7 +85,7 @@ whole-head : (m a : ℕ) (b : List ℕ) → EachIsByte b → length b ≡ argume
 unfolding IsLong
 whole-head m a b h len (inl e) =
     let one : length b ≡ 1 = len ∙ ap argument_length e in
-    (get_or b 0 0, (one_byte, byte_at b h 0, same-head m a 24 b _ e (alone b one)))
+    (get_or b 0 0, (one_byte, byte_at b h 0, same-head m a 24 b _ e (single b one)))
 whole-head m a b h len (inr (inl e)) =
     let g = byte_at b h in
     let n : ℕ = from_be_bytes w16 b in

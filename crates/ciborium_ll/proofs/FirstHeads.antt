@@ -64,7 +64,7 @@ pulls-first {E} old new last count b q p (Ok (Some h)) front here taken end =
 pulls-first {E} old new last count b q p (Err e) front here taken end =
     pulls-head {E = E} old new last count b q p (Err e) front here taken
 
-nothing-in : (x r : List ℕ) → [] ≡ x ++ r → x ≡ []
+pub nothing-in : (x r : List ℕ) → [] ≡ x ++ r → x ≡ []
 nothing-in [] r e = refl
 nothing-in (y ∷ x) r e = absurd cc
 

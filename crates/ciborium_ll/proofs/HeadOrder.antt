@@ -78,7 +78,7 @@ first_bytes_in_order : (b c : Bool) (n m : ℕ) → n < 32 → m < 32 →
 first_bytes_in_order b c n m h l = sym (places (major b) (major c) n m 32 h l) ∙
     ap (λ o. ordering_then o (nat_cmp n m)) (majors_in_order b c)
 
-then_equal : (o : Ordering) → ordering_then o Equal ≡ o
+pub then_equal : (o : Ordering) → ordering_then o Equal ≡ o
 then_equal Less = refl
 then_equal Equal = refl
 then_equal Greater = refl

@@ -1,17 +1,14 @@
 -- Bytes that a reader holds, and how they are taken from there.
 use Rattle.std.proofs.Common.{◌≡◌, ℕ, suc, ◌+◌, ◌-◌, ◌<◌, ◌≤◌, List, [], ◌∷◌, ◌++◌, length, length-take-le, get_or}
 use Rattle.std.proofs.Common.{take, drop}
-use Rattle.std.proofs.Common.{slice_range, Option, Some, None, Bool, IfSome}
+use Rattle.std.proofs.Common.{slice_range, Option, Some, None, IfSome}
 use Rattle.std.proofs.Common.{sym, ap, ◌∙◌, subst, arith, take-append-drop}
 use Rattle.std.proofs.Math.Seq.{take-take}
 use Rattle.std.proofs.lemmas.List.Elements.{All-take}
 use Rattle.std.specs.Io.{StartsWith}
 use Rattle.std.specs.Io.KnownBytes.{Consumes, Keeps}
-use Rattle.ciborium_ll.specs.declared.header.Error.{Error}
-use Rattle.ciborium_ll.specs.declared.header.Error.TheVariants.{Io, Syntax, TooLong, Memory}
-use Rattle.ciborium_ll.specs.Accesses.{HasEnded, TakesSome}
+use Rattle.ciborium_ll.specs.Accesses.{TakesSome}
 use Rattle.ciborium_ll.specs.Bytes.{AreBytes}
-use Rattle.ciborium_ll.specs.FirstHeads.{IsHeadIo}
 use Rattle.ciborium_ll.specs.ReaderSteps.{Advances}
 
 -- the bytes of a head: the initial byte, and those behind it

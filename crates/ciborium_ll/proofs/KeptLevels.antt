@@ -1,5 +1,5 @@
 -- The levels that are kept: those of a room from a place on.
-use Rattle.std.proofs.Common.{◌≡◌, ℕ, zero, suc, ◌+◌, ◌-◌, ◌<◌, List, [], ◌∷◌, length, Some, None, refl, sym, ap}
+use Rattle.std.proofs.Common.{◌≡◌, ℕ, zero, suc, ◌+◌, ◌-◌, ◌<◌, List, [], ◌∷◌, length, Some, refl, sym, ap}
 use Rattle.std.proofs.Common.{◌∙◌, arith, drop, set}
 use Rattle.std.proofs.lemmas.List.{drop-set, length-drop, length-set}
 use Rattle.ciborium_ll.specs.declared.header.Header.{Header}

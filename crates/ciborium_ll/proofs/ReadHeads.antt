@@ -4,7 +4,7 @@ use Rattle.std.proofs.Common.{List, [], ◌∷◌, ◌++◌, length, get_or, tak
 use Rattle.std.proofs.Common.{arith, inl, inr, ltb-true, ltb-false, lt-ltb, eqb-true, eq-eqb, take-append-drop}
 use Rattle.std.proofs.Common.{div-add-mod'}
 use Rattle.std.specs.Int.{from_be_bytes, w16, w32, w64}
-use Rattle.std.proofs.lemmas.Bool.{cond_both, eqb-false}
+use Rattle.std.proofs.lemmas.Bool.{cond_both, eqb-false, cond-true}
 use Rattle.std.proofs.lemmas.Bool.Decides.{nat_tests}
 use Rattle.std.proofs.lemmas.List.{length-take-le}
 use Rattle.std.proofs.lemmas.Nat.{be_bytes_2, be_bytes_4, be_bytes_8}
@@ -73,11 +73,8 @@ argument_length-at a k e = ap argument_length e
 information-27 : (a : ℕ) → a < 28 → (a < 24 → ⊥) → (a ≡ 24 → ⊥) → (a ≡ 25 → ⊥) → (a ≡ 26 → ⊥) → a ≡ 27
 information-27 a h i j k l = omega arith
 
-first_of_two : {A : Type 0} (t : Bool) (x y : A) → t ≡ true → cond t x y ≡ x
-first_of_two t x y e = ap (λ z. cond z x y) e
-
 number-inside : (a : ℕ) (b : List ℕ) → ltb a 24 ≡ true → argument a b ≡ a
-number-inside a b t = first_of_two _ _ _ t
+number-inside a b t = cond-true _ _ _ t
 
 module _ (m a p : ℕ) (b : List ℕ) (bytes : EachIsByte b) (u : HeadFits m a b p) (small : a < 31) where
   below : a < 28

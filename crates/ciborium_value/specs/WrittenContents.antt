@@ -5,7 +5,7 @@ use Rattle.std.specs.Prelude.{◌≡◌, List, [], ◌∷◌, map, pos, Option, 
 use Rattle.std.specs.Prelude.{string_bytes, refl}
 use Rattle.std.specs.declared.alloc.Global.{Global}
 use Rattle.ciborium_value.specs.Places.{dictionary, sequence}
-use Rattle.ciborium_value.specs.Labels.{Label, fields_of}
+use Rattle.ciborium_value.specs.Labels.{Label}
 use Rattle.ciborium_value.specs.Sinks.{Named, container_of, in_turn, named_text}
 use Rattle.ciborium_value.specs.Sinks.{number_item, or_null}
 

@@ -2,7 +2,7 @@
 use Rattle.std.proofs.Common.{◌≡◌, ◌≢◌, ℕ, Bool, true, false, List, [], ◌∷◌, ◌++◌, Option, Some, None, refl, sym, ap}
 use Rattle.std.proofs.Common.{◌∙◌, subst, append_assoc, append-nil, arith, inl, length-append}
 use Rattle.std.specs.Str.{is_utf8, IsUtf8}
-use Rattle.std.proofs.lemmas.Str.{IsUtf8-from_is_utf8, is_utf8-from_IsUtf8}
+use Rattle.std.proofs.lemmas.Str.{is_utf8-from_IsUtf8}
 use Rattle.ciborium_ll.specs.declared.header.Header.{Header}
 use Rattle.ciborium_ll.specs.declared.header.Header.TheVariants as header
 use Rattle.ciborium_ll.specs.declared.decoder.Decoder.{Decoder}
@@ -20,6 +20,7 @@ use Rattle.ciborium_value.specs.Taken.{gives, refuses, nests, deeper, untagged, 
 use Rattle.ciborium_value.specs.Taken.{taken_variant, bare_variant, outcome, settled}
 use Rattle.ciborium_value.specs.declared.kind.Kind.TheVariants as kinds
 use Rattle.ciborium_value.proofs.Sources.Sequences.{fault_map}
+use Rattle.ciborium_value.proofs.Sources.TreeLevels.{utf8_not}
 use Rattle.ciborium.specs.inner.ByteSources.{IsUnreadBy}
 use Rattle.ciborium.specs.inner.FrontItems.{Reads, Denies}
 use Rattle.ciborium.specs.inner.Skips.{under, AreSkipped, IsBare, TakesBare, EntersLevelUnread}
@@ -37,17 +38,13 @@ pub bytes-name : (ts : List ℕ) (l : Limit) (open_ : Bool) (b : List ℕ) → I
 bytes-name ts l open_ b u = let t = is_utf8-from_IsUtf8 b u in
     ap (λ j. settled (bare_name j)) (untagged-under ts (bytes open_ b)) ∙ (rw t refl)
 
-utf8-not : (b : List ℕ) → (IsUtf8 b → ⊥) → (t : Bool) → is_utf8 b ≡ t → is_utf8 b ≡ false
-utf8-not b n true e = absurd (n (IsUtf8-from_is_utf8 b e))
-utf8-not b n false e = e
-
 -- another one is none
 pub bytes-no-name : {S : Type 0} (IsUnread : S → List ℕ → Type 0) (End : S → ℕ) (old mid new : S) (len : Option ℕ)
     (l : Limit) (payload : List ℕ) → (IsUtf8 payload → ⊥) → TakesBare IsUnread old mid false (header.Bytes len) →
     TakesContent (IsUnread mid) (IsUnread new) of_bytes len payload →
     Denies IsUnread End old l taken_name (of_kind kinds.Name)
 bytes-no-name IsUnread End old mid new len l payload not bare content b s z j end u sp e fits =
-    let bad = utf8-not payload not (is_utf8 payload) refl in
+    let bad = utf8_not payload not (is_utf8 payload) refl in
     let (ts, w, x, y, tagged, all, hd, g, un) = bare b u in
     let (c, r, make, f, un') = content y un in
     let (i, t, io, sq, k) = tagged.inward j s z sp e in

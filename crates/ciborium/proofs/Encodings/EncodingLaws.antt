@@ -1,7 +1,7 @@
 -- The encoding of a tree is its own alone, and the shortest spelling.
 use Rattle.std.proofs.Common.{◌≡◌, ℕ, ◌<◌, ◌⊎◌, inl, inr, List, [], ◌++◌, length, true, false, pos, negsuc, IsUtf8}
-use Rattle.std.proofs.Common.{refl, sym, ap, ◌∙◌, subst, arith, length-append, append-nil, Ordering, Less, Equal}
-use Rattle.std.proofs.Common.{Greater, nat_cmp}
+use Rattle.std.proofs.Common.{refl, sym, ap, ◌∙◌, subst, arith, length-append, append-nil}
+use Rattle.std.proofs.Common.{nat_cmp}
 use Rattle.std.proofs.lemmas.Cmp.{tied_itself, nat_cmp_total}
 use Rattle.std.proofs.lemmas.Bool.Decides.{nat_tests}
 use Rattle.std.proofs.Math.Nat.{eq-or-lt_of_le}
@@ -13,6 +13,7 @@ use Rattle.ciborium_ll.specs.Item.{items_count, pairs_count}
 use Rattle.ciborium_ll.specs.Spells.{IsDefiniteString, IsContainer, Spells, SpellsItems, SpellsPairs}
 use Rattle.ciborium_ll.proofs.ShortestHead.{none_is_shorter, no_other_is_as_short}
 use Rattle.ciborium_ll.proofs.UniqueSpelling.{one_item}
+use Rattle.ciborium_ll.proofs.HeadOrder.{then_equal}
 use Rattle.ciborium_value.specs.Encoding.{item_of, items_of, pairs_of, encoding, items_bytes, pairs_bytes, written_tree}
 use Rattle.ciborium_value.specs.lemmas.ItemsOfTrees.{tree_is_written_as_itself}
 use Rattle.ciborium_value.specs.Tree.{Tree, integer, bytes, text, boolean, null, tag, array, map, Trees, no_trees, tree}
@@ -106,9 +107,6 @@ pub others_are_longer : OthersAreLonger
 others_are_longer v s h spelled = others_longer v s spelled
 
 -- ---- heads
-
-then_equal : (o : Ordering) → ordering_then o Equal ≡ o
-then_equal o = elim o as (λ p. ordering_then p Equal ≡ p) [ Less ↦ refl | Equal ↦ refl | Greater ↦ refl ]
 
 pub heads_rise : HeadsRise
 heads_rise major n k h l =

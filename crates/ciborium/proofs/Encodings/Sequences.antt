@@ -4,6 +4,7 @@ use Rattle.ciborium_ll.specs.Item as items
 use Rattle.ciborium_ll.specs.Item.{Item, Items}
 use Rattle.ciborium_ll.specs.Spells.{Spells, SpellsItems}
 use Rattle.ciborium_ll.proofs.UniqueSpelling.{none_begins_another, one_at_front}
+use Rattle.ciborium_ll.proofs.FirstHeads.{nothing-in}
 use Rattle.ciborium.specs.ItemSequences.{OneSequence}
 
 apart : (x : ℕ) → x ∷ [] ≡ [] → ⊥
@@ -13,12 +14,8 @@ apart x e = cc
 no-item : (i : Item) → Spells [] i → ⊥
 no-item i h = apart 224 (none_begins_another [] (224 ∷ []) i (items.simple 0) h (inl (omega arith, refl)))
 
-nothing-before : (s r : List ℕ) → [] ≡ s ++ r → s ≡ []
-nothing-before [] r e = refl
-nothing-before (x ∷ s) r e = absurd cc
-
 pub never-empty : (b s r : List ℕ) (i : Item) → Spells s i → b ≡ [] → b ≡ s ++ r → ⊥
-never-empty b s r i spelled none e = no-item i (subst (λ z. Spells z i) (nothing-before s r (sym none ∙ e)) spelled)
+never-empty b s r i spelled none e = no-item i (subst (λ z. Spells z i) (nothing-in s r (sym none ∙ e)) spelled)
 
 pub one_sequence : OneSequence
 one_sequence b items.no_items items.no_items h k = refl

@@ -234,7 +234,7 @@ weight-most (header.Simple n) = omega arith
 weight-most (header.Float n) = omega arith
 weight-most header.Break = omega arith
 
-head-some : (b : List ℕ) (h : Header) → SpellsHeader b h → 0 < length b
+pub head-some : (b : List ℕ) (h : Header) → SpellsHeader b h → 0 < length b
 head-some b h s = by (header-begins b h s)
   where
     by : Begins b (announced_length h) → 0 < length b

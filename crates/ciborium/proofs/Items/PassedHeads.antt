@@ -17,8 +17,9 @@ use Rattle.ciborium_ll.specs.StringRefusal.{IsAllowed, StringKind, of_bytes, of_
 use Rattle.ciborium_value.specs.Nesting.{Limit, IsWithin, nesting, items_nesting, pairs_nesting}
 use Rattle.ciborium.specs.inner.PassedOver.{left_inside, takes_one, ItemTo, ItemsTo, LevelTo, LevelsTo, ChunksTo}
 use Rattle.ciborium.specs.inner.PassedOver.{HasRoom}
-use Rattle.ciborium.proofs.Items.PassedItems.{within-nothing, within-around, tag-within, to-items, to-pairs}
+use Rattle.ciborium.proofs.Items.PassedItems.{within-around, tag-within, to-items, to-pairs}
 use Rattle.ciborium.proofs.Items.PassedItems.{around, behind-around, item-to}
+use Rattle.ciborium_value.proofs.GoodItems.Parts.{within-zero}
 
 -- a payload is as long as its head announces
 pub announced : (header : Header) (p : List ℕ) → IsPayloadOf header p → announced_length header ≡ length p
@@ -138,7 +139,7 @@ module _ (l : Limit) where
         h ++ p,
         (h, head, allowed, refl),
         sym (append_assoc h p y),
-        within-nothing (left_inside l (around levels)),
+        within-zero (left_inside l (around levels)),
       ) ends
 
   text-to : (h p y z : List ℕ) (levels more : List Level) → IsHead h 3 (length p) → IsAllowed of_text p →
@@ -153,7 +154,7 @@ module _ (l : Limit) where
         h ++ p,
         (h, head, allowed, refl),
         sym (append_assoc h p y),
-        within-nothing (left_inside l (around levels)),
+        within-zero (left_inside l (around levels)),
       ) ends
 
   break-to : (y z : List ℕ) (levels more : List Level) → behind_break levels ≡ Some more → LevelsTo l more y z →
@@ -179,7 +180,7 @@ module _ (l : Limit) where
         h,
         spelled,
         ap (λ (x : List ℕ). h ++ (x ++ y)) none,
-        subst (IsWithin (left_inside l (around levels))) (sym flat) (within-nothing (left_inside l (around levels))),
+        subst (IsWithin (left_inside l (around levels))) (sym flat) (within-zero (left_inside l (around levels))),
       ) ends
 
   room-left : (header : Header) (levels : List Level) → takes_one header ≡ true → HasRoom l header levels →
@@ -201,7 +202,7 @@ module _ (l : Limit) where
         open_byte 2 ∷ (here.1 ++ (255 ∷ [])),
         (here.0, here.1, here.2, refl, refl),
         open-whole 2 h here.1 y c hd here.3,
-        within-nothing (left_inside l (around levels)),
+        within-zero (left_inside l (around levels)),
       )) behind ends
   to-behind (heads.Text (Some n)) h p y z levels more hd content behind room ends =
       text-to h p y z levels more (subst (IsHead h 3) (sym content.0) hd) content.1 behind ends
@@ -211,7 +212,7 @@ module _ (l : Limit) where
         open_byte 3 ∷ (here.1 ++ (255 ∷ [])),
         (here.0, here.1, here.2, refl, refl),
         open-whole 3 h here.1 y c hd here.3,
-        within-nothing (left_inside l (around levels)),
+        within-zero (left_inside l (around levels)),
       )) behind ends
   to-behind (heads.Array (Some n)) h p y z levels more hd none behind room ends =
       opens-to (Items n) h p y z levels more none (λ c long here. array-closed (around levels) n h y c hd

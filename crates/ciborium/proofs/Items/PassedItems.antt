@@ -15,20 +15,13 @@ use Rattle.ciborium_ll.specs.StringRefusal.{StringKind, of_bytes, of_text}
 use Rattle.ciborium_value.specs.Meaning.{folding_bytes, short_string, is_bignum_tag}
 use Rattle.ciborium_value.specs.Nesting.{Limit, IsWithin, nesting, items_nesting, pairs_nesting, tag_nesting}
 use Rattle.ciborium.specs.inner.PassedOver.{left_inside, ItemTo, ItemsTo, LevelTo, LevelsTo, ChunksTo}
+use Rattle.ciborium_value.proofs.GoodItems.Parts.{within-max, within-zero}
 
 -- ---- nesting within the levels that are left
-
-pub within-nothing : (l : Limit) → IsWithin l 0
-within-nothing None = tt
-within-nothing (Some m) = omega arith
 
 pub within-less : (l : Limit) (j k : ℕ) → j ≤ k → IsWithin l k → IsWithin l j
 within-less None j k le w = tt
 within-less (Some m) j k le w = omega arith
-
-pub within-both : (l : Limit) (j k : ℕ) → IsWithin l j → IsWithin l k → IsWithin l (max j k)
-within-both None j k v w = tt
-within-both (Some m) j k v w = omega arith
 
 pub within-inside : (l : Limit) (n k : ℕ) → IsWithin (left_inside l n) (suc k) → IsWithin (left_inside l (suc n)) k
 within-inside None n k w = tt
@@ -65,7 +58,7 @@ tag-within l t i w = by (folding_bytes t i)
   where
     by : (o : Option (List ℕ)) → IsWithin l (tag_nesting o (nesting i))
     by None = w
-    by (Some b) = within-nothing l
+    by (Some b) = within-zero l
 
 pub tag-inside : (l : Limit) (n t : ℕ) (i : Item) → IsWithin (left_inside l n) (nesting (tag t i)) →
     IsWithin (left_inside l (suc n)) (nesting i)
@@ -75,7 +68,7 @@ tag-inside l n t i w = by (folding_bytes t i) refl w
         IsWithin (left_inside l (suc n)) (nesting i)
     by None e w = within-inside l n (nesting i) w
     by (Some b) e w = subst (IsWithin (left_inside l (suc n))) (sym (ap nesting (folds-over t i b e).1))
-        (within-nothing (left_inside l (suc n)))
+        (within-zero (left_inside l (suc n)))
 
 -- ---- items in a row
 
@@ -121,7 +114,7 @@ module _ (l : Limit) where
 
   pub to-items : (n k : ℕ) (b z : List ℕ) → ItemsTo l n k b z → (is : items.Items) × (s : List ℕ) ×
       (items_count is ≡ k) × SpellsItems s is × (b ≡ s ++ z) × IsWithin (left_inside l n) (items_nesting is)
-  to-items n zero b z e = (no_items, [], refl, refl, e, within-nothing (left_inside l n))
+  to-items n zero b z e = (no_items, [], refl, refl, e, within-zero (left_inside l n))
   to-items n (suc k) b z (c, (i, s, one, e, w), others) =
       let (is, r, count, spelled, f, v) = to-items n k c z others in (
         item i is,
@@ -129,12 +122,12 @@ module _ (l : Limit) where
         ap suc count,
         (s, r, one, spelled, refl),
         e ∙ ap (λ (x : List ℕ). s ++ x) f ∙ sym (append_assoc s r z),
-        within-both (left_inside l n) (nesting i) (items_nesting is) w v,
+        within-max (left_inside l n) (nesting i) (items_nesting is) w v,
       )
 
   pub to-pairs : (n k : ℕ) (b z : List ℕ) → ItemsTo l n (k + k) b z → (ps : items.Pairs) × (s : List ℕ) ×
       (pairs_count ps ≡ k) × SpellsPairs s ps × (b ≡ s ++ z) × IsWithin (left_inside l n) (pairs_nesting ps)
-  to-pairs n zero b z e = (no_pairs, [], refl, refl, e, within-nothing (left_inside l n))
+  to-pairs n zero b z e = (no_pairs, [], refl, refl, e, within-zero (left_inside l n))
   to-pairs n (suc k) b z h =
       let twice : suc k + suc k ≡ suc (suc (k + k)) = omega arith in
       let (c, (i, s, key, e, v), (d, (j, t, value, f, w), others)) = subst (λ m. ItemsTo l n m b z) twice h in
@@ -144,8 +137,8 @@ module _ (l : Limit) where
         ap suc count,
         (s, t, r, key, value, spelled, refl),
         e ∙ ap (λ (x : List ℕ). s ++ x) (f ∙ ap (λ (x : List ℕ). t ++ x) g) ∙ simp append_assoc,
-        within-both (left_inside l n) (max (nesting i) (nesting j)) (pairs_nesting ps)
-            (within-both (left_inside l n) (nesting i) (nesting j) v w) u,
+        within-max (left_inside l n) (max (nesting i) (nesting j)) (pairs_nesting ps)
+            (within-max (left_inside l n) (nesting i) (nesting j) v w) u,
       )
 
 -- ---- an item where it may stand

@@ -23,7 +23,8 @@ use Rattle.ciborium_value.specs.Meaning.{is_bignum_tag}
 use Rattle.ciborium_value.specs.Nesting.{Limit, IsWithin, nesting, items_nesting, pairs_nesting, tag_nesting}
 use Rattle.ciborium.specs.inner.PassedOver.{left_inside, ItemTo, ItemsTo, LevelTo, LevelsTo}
 use Rattle.ciborium.proofs.Items.PassedItems.{within-inside, tag-inside, items-to, pairs-to, around, item-to}
-use Rattle.ciborium.proofs.Items.PassedItems.{behind-around, done, within-nothing}
+use Rattle.ciborium.proofs.Items.PassedItems.{behind-around, done}
+use Rattle.ciborium_value.proofs.GoodItems.Parts.{within-zero}
 
 -- the level of parts of a string
 abbrev pub parts_of : StringKind → Level
@@ -274,7 +275,7 @@ module _ (l : Limit) where
         (h, x ++ p, hd, (x, subst (IsHead x 2) (sym content.0) xd, content.1, refl), refl),
         simp append_assoc,
         subst (IsWithin (left_inside l (around levels))) (sym (folded-flat t p big short))
-            (within-nothing (left_inside l (around levels))),
+            (within-zero (left_inside l (around levels))),
       ) ends
 
   pub folded : (t k : ℕ) (h x p y z : List ℕ) (levels next : List Level) → SpellsHeader h (heads.Tag t) →

@@ -12,7 +12,9 @@ use Rattle.ciborium_value.specs.Tree as trees
 use Rattle.ciborium_value.specs.Tree.{Tree, Trees, TreePairs}
 use Rattle.ciborium_value.specs.declared.kind.Kind.TheVariants as kinds
 use Rattle.ciborium_value.specs.lemmas.GivenOutcomes.{pair_first, tree_first}
-use Rattle.ciborium_value.proofs.GoodItems.Parts.{within-left, within-right, lower}
+use Rattle.ciborium_value.specs.lemmas.ReadsBackParts.{within-left, within-right}
+use Rattle.ciborium_value.proofs.GoodItems.Parts.{lower}
+use Rattle.ciborium_value.proofs.Forms.OwnForms.{mapped_same}
 
 -- with a level, what is inside decides
 pub level-taken : {A : Type 0} (l m : Limit) (s : Steps A) → IsOneLess l m → outcome l (leveled s) ≡ outcome m s
@@ -21,11 +23,6 @@ level-taken None (Some m) s h = absurd h
 level-taken (Some l) None s h = absurd h
 level-taken (Some zero) (Some m) s h = cc
 level-taken (Some (suc l)) (Some m) s h = let e : l ≡ m = omega arith in ap (λ k. outcome (Some k) s) e
-
-mapped-some : {A B : Type 0} (f : A → B) (o : Option A) (v : B) → option_map f o ≡ Some v → (a : A) × (o ≡ Some a) ×
-    (f a ≡ v)
-mapped-some f None v h = cc
-mapped-some f (Some a) v h = (a, refl, cc)
 
 more : (o : Option Tree) (os : Option Trees) (vs : Trees) → trees_more o os ≡ Some vs → (w : Tree) × (ws : Trees) ×
     (o ≡ Some w) × (os ≡ Some ws) × (trees.tree w ws ≡ vs)
@@ -46,7 +43,7 @@ container-gives : {A : Type 0} (f : A → Tree) (o : Option A) (n : ℕ) (l : Li
     ((m : Limit) (a : A) → o ≡ Some a → IsWithin m n → outcome m s ≡ gives a) →
     outcome l (leveled (mapped f s)) ≡ gives v
 container-gives f o n l s v h k rec =
-    let (a, e, g) = mapped-some f o v h in
+    let (a, e, g) = mapped_same f o v h in
     let (m, within, one) = lower l n k in
     level-taken l m (mapped f s) one ∙ ap (outcome_map f) (rec m a e within) ∙ ap gives g
 

@@ -1,9 +1,10 @@
 -- Texts of one character.
-use Rattle.std.proofs.Common.{◌≡◌, ℕ, suc, ◌<◌, true, false, List, [], ◌∷◌, ◌++◌, length, take, chars, IsUtf8, Option}
+use Rattle.std.proofs.Common.{◌≡◌, ℕ, ◌<◌, true, false, List, [], ◌∷◌, ◌++◌, length, take, chars, IsUtf8, Option}
 use Rattle.std.proofs.Common.{Some, None, Ok, Err, refl, sym, ap, ◌∙◌, subst, length-append, arith, Bool, ◌+◌, ◌≤◌}
 use Rattle.std.proofs.Math.Utf8.{encode, encodes}
 use Rattle.std.proofs.Math.Seq.{take-append_seam}
 use Rattle.std.proofs.lemmas.Str.{cons_from_encodes, encodes-chars, length-encode, len_utf8_bounds, length-le-encodes}
+use Rattle.std.proofs.lemmas.List.{nil_from_length}
 use Rattle.ciborium_ll.specs.declared.decoder.Decoder.{Decoder}
 use Rattle.ciborium_ll.specs.declared.header.Header.{Header}
 use Rattle.ciborium_ll.specs.declared.header.Header.TheVariants as header
@@ -30,13 +31,9 @@ use Rattle.ciborium.proofs.Payloads.StringPayloads.{string-only}
 
 -- ---- the characters of a text
 
-none-left : (rest : List ℕ) → length rest ≡ 0 → rest ≡ []
-none-left [] e = refl
-none-left (x ∷ rest) e = absurd (let k : suc (length rest) ≡ 0 = e in omega (arith, k))
-
 no-characters : (es : List ℕ) → encodes es ≡ [] → es ≡ []
-no-characters es e = none-left es (let k = length-le-encodes es in let m : length (encodes es) ≡ 0 = ap length e in
-    omega (arith, k, m))
+no-characters es e = nil_from_length es (let k = length-le-encodes es in
+    let m : length (encodes es) ≡ 0 = ap length e in omega (arith, k, m))
 
 -- the first character, and those behind it
 behind-first : (bs rest : List ℕ) (c : ℕ) → IsUtf8 bs → bs ≡ encode c ++ rest → (es : List ℕ) × (chars bs ≡ c ∷ es) ×
@@ -47,7 +44,7 @@ pub one-character : (bs rest : List ℕ) (c : ℕ) → IsUtf8 bs → bs ≡ enco
     lone_character (chars bs) ≡ Ok c
 one-character bs rest c u e z =
     let (es, f, g) = behind-first bs rest c u e in
-    ap lone_character (f ∙ ap (λ (k : List ℕ). c ∷ k) (no-characters es (g ∙ none-left rest z)))
+    ap lone_character (f ∙ ap (λ (k : List ℕ). c ∷ k) (no-characters es (g ∙ nil_from_length rest z)))
 
 pub more-characters : (bs rest more : List ℕ) (c d : ℕ) → IsUtf8 bs → bs ≡ encode c ++ rest → rest ≡ encode d ++ more →
     lone_character (chars bs) ≡ Err kinds.Char

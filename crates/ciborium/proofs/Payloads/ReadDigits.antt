@@ -21,6 +21,7 @@ use Rattle.ciborium.specs.inner.ByteSources.{known_end, reader_of}
 use Rattle.ciborium.specs.Errors.{fault_of, from_ll}
 use Rattle.ciborium.specs.inner.StringContents.{one_digit_more, digits_of}
 use Rattle.ciborium.proofs.Items.FrontReads.{failed-end, io-outside}
+use Rattle.ciborium_value.proofs.FoldedTrees.BigEndian.{bound-more}
 
 pub digits-append : (o : Option ℕ) (c d : List ℕ) → digits_of o (c ++ d) ≡ digits_of (digits_of o c) d
 digits-append o [] d = refl
@@ -31,11 +32,6 @@ none-more [] = refl
 none-more (b ∷ bs) = none-more bs
 
 -- ---- what the digits make
-
-bound-more : (n b i : ℕ) → n < 256 ^ i → b < 256 → n * 256 + b < 256 ^ (i + 1)
-bound-more n b i h k =
-    let e : 256 ^ (i + 1) ≡ 256 ^ i * 256 = ap (λ k. 256 ^ k) (add-one i) ∙ pow-suc 256 i in
-    omega arith
 
 bound-least : (n b i : ℕ) → 256 ^ i ≤ n → 256 ^ (i + 1) ≤ n * 256 + b
 bound-least n b i h =
@@ -85,15 +81,12 @@ step k n b bs small low high lt rec = by (ltb k 15) refl
 first-byte : (x : ℕ) (bs : List ℕ) → AreBytes (x ∷ bs) → x < 256
 first-byte x bs h = All-head (λ n. n < 256) x bs h
 
-other-bytes : (x : ℕ) (bs : List ℕ) → AreBytes (x ∷ bs) → AreBytes bs
-other-bytes x bs h = All-tail (λ n. n < 256) x bs h
-
 -- k + 1 digits, the first of which is not 0, have made n
 significant : (k n : ℕ) (bs : List ℕ) → AreBytes bs → 256 ^ k ≤ n → n < 256 ^ (k + 1) → k < 16 → AreMade k n bs
 unfolding big_endian_behind
 significant k n [] h low high lt = (λ fits. refl, λ over. absurd (omega (arith, over, lt)))
 significant k n (b ∷ bs) h low high lt = step k n b bs (first-byte b bs h) low high lt
-    (λ l m r. significant (k + 1) (n * 256 + b) bs (other-bytes b bs h) l m r)
+    (λ l m r. significant (k + 1) (n * 256 + b) bs (All-tail (λ n. n < 256) b bs h) l m r)
 
 without-some : (x : ℕ) (bs : List ℕ) → x ≢ 0 → without_zeros (x ∷ bs) ≡ x ∷ bs
 without-some x bs p = let e = ne_eqb x 0 p in rw e refl
@@ -107,7 +100,7 @@ unfolding big_endian_behind
 number-some x bs h p =
     let size : length (without_zeros (x ∷ bs)) ≡ suc (length bs) = ap length (without-some x bs p) in
     let small = first-byte x bs h in
-    let made = significant 0 x bs (other-bytes x bs h) (omega (arith, p)) (omega (arith, small)) (omega arith) in
+    let made = significant 0 x bs (All-tail (λ n. n < 256) x bs h) (omega arith) (omega (arith, small)) (omega arith) in
     let first : one_digit_more (Some 0) x ≡ Some x = room-more 0 x (omega arith) ∙ ap Some (omega arith) in
     let same : x ≡ 256 * 0 + x = omega arith in (
       λ fits. ap (λ o. digits_of o bs) first ∙ made.0 (omega (arith, fits, size)) ∙
@@ -118,7 +111,7 @@ number-some x bs h p =
 number-of : (bs : List ℕ) → AreBytes bs → AreNumber bs
 unfolding big_endian_behind
 number-of [] h = (λ fits. refl, λ over. absurd (omega (arith, over)))
-number-of (zero ∷ bs) h = number-of bs (other-bytes 0 bs h)
+number-of (zero ∷ bs) h = number-of bs (All-tail (λ n. n < 256) 0 bs h)
 number-of (suc x ∷ bs) h = number-some (suc x) bs h (λ e. omega (arith, e))
 
 pub digits-some : (bs : List ℕ) (v : ℕ) → AreBytes bs → Some v ≡ digits_of (Some 0) bs → magnitude bs ≡ Ok v

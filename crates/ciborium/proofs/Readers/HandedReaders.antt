@@ -152,10 +152,6 @@ handed-ended E can_fail remaining reading old new x back r h =
     (sym (handed-back E can_fail remaining reading old new x back r h))
     (err-read (λ v. tree (reading.content v)) (λ e. HasEndedBy can_fail (left_of remaining new.decoder) e) r reads.1))
 
-pub err-map : {T E : Type 0} {P Q : E → Type 0} (r : Result T E) → IfErr r P → ((v : E) → P v → Q v) → IfErr r Q
-err-map (Ok v) p f = tt
-err-map (Err e) p f = f e p
-
 -- all that a call says that reads one value from a source of its own
 pub handed-all : {S W T A : Type 0} (E : Type 0) (can_fail : Bool) (remaining : S →
     Option (List ℕ)) (reading : Reading T A)

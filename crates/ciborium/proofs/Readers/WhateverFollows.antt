@@ -213,9 +213,6 @@ begun-stands (deterministic order) d xs none at = (
   subst (λ o. MatchOption o (Unit {0}) (λ head. d.counter.count ≡ head.1 + d.head_len)) (sym none) tt,
 )
 
-same-rest : (u v : List ℕ) → Some u ≡ Some v → u ≡ v
-same-rest u v e = cc
-
 -- what was taken, where that is said whatever follows it
 pub taken-tree : (E : Type 0) {S W : Type 0} (spelling : Spelling) (d : Decoder S W) (l p : ℕ) (s : List ℕ)
     (r : Result Tree (Error E)) → OnOk r (d.pushed ≡ None) →
@@ -223,7 +220,7 @@ pub taken-tree : (E : Type 0) {S W : Type 0} (spelling : Spelling) (d : Decoder 
     IsTakenFrom {E = E} spelling p s l r
 taken-tree E spelling d l p s (Ok v) none f =
     let (zs, q, item, at) = f [] in
-    let left : [] ≡ zs = same-rest [] zs (left-at Some (with_left d []) q zs none at) in
+    let left : [] ≡ zs = cc (left-at Some (with_left d []) q zs none at) in
     let whole : item.taken ≡ s = sym (append-nil item.taken) ∙ ap (λ (z : List ℕ). item.taken ++ z) left ∙
     sym item.split ∙ append-nil s in
     subst (λ z. IsReadAs spelling z p (Some l) v) whole item.read

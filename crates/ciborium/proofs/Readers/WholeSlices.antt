@@ -1,5 +1,5 @@
 -- From the item at the front of a slice to all of its bytes.
-use Rattle.std.proofs.Common.{◌≡◌, ◌≢◌, ℕ, ◌+◌, ◌-◌, ◌≤◌, inl, inr, false, List, [], ◌∷◌, ◌++◌, length, Option}
+use Rattle.std.proofs.Common.{◌≡◌, ◌≢◌, ℕ, ◌+◌, ◌-◌, ◌≤◌, inl, inr, false, List, [], ◌++◌, length, Option}
 use Rattle.std.proofs.Common.{Some, None, Ok, Err, IfSome, refl, sym, ap, ◌∙◌, subst, arith, append-nil, length-append}
 use Rattle.ciborium_ll.specs.Bytes.{greatest_offset}
 use Rattle.ciborium_ll.specs.Refusal.{Refusal}
@@ -7,7 +7,7 @@ use Rattle.ciborium_ll.specs.Spells.{Spells}
 use Rattle.ciborium_ll.proofs.UniqueSpelling.{one_at_front, one_item}
 use Rattle.ciborium_value.specs.Readings.{Reading}
 use Rattle.ciborium_value.specs.Sources.{IsFaultOf, IsOutsideFault}
-use Rattle.ciborium_value.specs.Taken.{gives, outcome}
+use Rattle.ciborium_value.specs.Taken.{outcome}
 use Rattle.ciborium_value.specs.declared.kind.Kind.TheVariants.{TrailingData}
 use Rattle.ciborium.specs.Errors.{HasEndedBy, fault_of}
 use Rattle.ciborium.specs.ValueAnswers.{IsRefusedBy, IsFailed}
@@ -18,6 +18,9 @@ use Rattle.ciborium.specs.ValueClauses.{ReadsWhole}
 use Rattle.ciborium.specs.declared.de.error.Error.{Error}
 use Rattle.ciborium.specs.declared.de.error.Error.TheVariants as errors
 use Rattle.ciborium.proofs.ReadBack.RoundTrips.{not-blamed}
+use Rattle.ciborium_value.specs.lemmas.GivenOutcomes.{one_given}
+use Rattle.ciborium.proofs.Readers.KnownReaders.{inside}
+use Rattle.std.proofs.lemmas.List.{nil_from_length}
 
 both : {A : Type 0} {P Q R : A → Type 0} (o : Option A) → IfSome o P → IfSome o Q → ((v : A) → P v → Q v → R v) →
     IfSome o R
@@ -27,16 +30,6 @@ both (Some v) p q f = f v p q
 each : {A : Type 0} {P R : A → Type 0} (o : Option A) → IfSome o P → ((v : A) → P v → R v) → IfSome o R
 each None p f = tt
 each (Some v) p f = f v p
-
-same-rest : (u v : List ℕ) → Some u ≡ Some v → u ≡ v
-same-rest u v e = cc
-
-same-given : {A : Type 0} (v w : A) → gives v ≡ gives w → v ≡ w
-same-given v w e = cc
-
-nothing-in : (xs : List ℕ) → length xs ≡ 0 → xs ≡ []
-nothing-in [] h = refl
-nothing-in (x ∷ xs) h = absurd (omega (arith, h))
 
 whole-of : (b s left : List ℕ) → b ≡ s ++ left → left ≡ [] → s ≡ b
 whole-of b s left split none = sym (split ∙ ap (λ (z : List ℕ). s ++ z) none ∙ append-nil s)
@@ -105,19 +98,19 @@ module _ {T A : Type 0} (E : Type 0) (l : ℕ) (reading : Reading T A) (b rest :
     -- it is all
     pub all-given : length rest ≡ 0 → ReadsAll {E = E} l reading b (Ok v)
     all-given zero =
-        let none = nothing-in rest zero in
+        let none = nil_from_length rest zero in
         let (i, s, left, sp, split, give, after) = front in
-        let empty : left ≡ [] = sym (same-rest rest left after) ∙ none in
+        let empty : left ≡ [] = sym (inside rest left after) ∙ none in
         let spells : Spells b i = subst (λ z. Spells z i) (whole-of b s left split empty) sp in record {
           ok = (i, spells, give);
-          exact = λ j w sq taken. inl (ap Ok (same-given (reading.content v) w (sym give ∙
+          exact = λ j w sq taken. inl (ap Ok (one_given (reading.content v) w (sym give ∙
               ap (λ j. outcome (Some l) (reading.taken j)) (one_item b i j spells sq) ∙ taken)));
           refused = tt;
           memory = tt;
           value = each reading.whole reads.value (λ tree h.
               let (t, u, good, parts, rests) = h.ok b refl in
               subst (λ z. IsReadAs any z 0 (Some l) (tree (reading.content v)))
-              (whole-of b t u parts (sym (same-rest rest u rests) ∙ none)) good);
+              (whole-of b t u parts (sym (inside rest u rests) ∙ none)) good);
           whole = each reading.whole reads.value (λ tree h w good.
               inl (ap Ok (sym (h.exact b b [] w refl good (sym (append-nil b))).0)));
         }
@@ -127,7 +120,7 @@ module _ {T A : Type 0} (E : Type 0) (l : ℕ) (reading : Reading T A) (b rest :
         ReadsAll {E = E} l reading b (Err (errors.Semantic (Some n) TrailingData))
     all-trailing n some at =
         let (i, s, left, sp, split, give, after) = front in
-        let same : rest ≡ left = same-rest rest left after in
+        let same : rest ≡ left = inside rest left after in
         let size : n ≡ length s = trailing s left split same in record {
           ok = tt;
           exact = λ j w sq taken. absurd (some (same ∙ sym (one_at_front b s [] left j i sq sp
@@ -140,7 +133,7 @@ module _ {T A : Type 0} (E : Type 0) (l : ℕ) (reading : Reading T A) (b rest :
           memory = tt;
           value = each reading.whole reads.value (λ tree h.
               let (t, u, good, parts, rests) = h.ok b refl in
-              let kept = same-rest rest u rests in
+              let kept = inside rest u rests in
               inr (
                 tree (reading.content v),
                 t,
@@ -151,7 +144,7 @@ module _ {T A : Type 0} (E : Type 0) (l : ℕ) (reading : Reading T A) (b rest :
                 ap (λ k. errors.Semantic (Some k) TrailingData) (trailing t u parts kept),
               ));
           whole = each reading.whole reads.value (λ tree h w good.
-              absurd (some (same-rest rest [] (h.exact b b [] w refl good (sym (append-nil b))).1)));
+              absurd (some (inside rest [] (h.exact b b [] w refl good (sym (append-nil b))).1)));
         }
       where
         trailing : (s left : List ℕ) → b ≡ s ++ left → rest ≡ left → n ≡ length s

@@ -1,23 +1,24 @@
 -- Heads that are pulled.
 use Rattle.ciborium_ll.proofs.Decoders.{unread-count}
-use Rattle.std.proofs.Common.{◌≡◌, ℕ, suc, ◌+◌, ◌-◌, ◌<◌, List, ◌++◌, length, Option, Some, None, Result, Ok, IfSome}
-use Rattle.std.proofs.Common.{IfNone, sym, ap, subst, arith}
+use Rattle.std.proofs.Common.{◌≡◌, ℕ, ◌+◌, ◌-◌, ◌<◌, List, ◌++◌, length, Option, Some, None, Result, Ok, IfSome}
+use Rattle.std.proofs.Common.{IfNone, sym, subst, arith}
 use Rattle.ciborium_ll.specs.declared.header.Header.{Header}
 use Rattle.ciborium_ll.specs.declared.header.Error.{Error as LlError}
 use Rattle.ciborium_ll.specs.declared.header.Error.TheVariants as ll
 use Rattle.ciborium_ll.specs.declared.decoder.Decoder.{Decoder}
 use Rattle.ciborium_ll.specs.Bytes.{greatest_offset}
 use Rattle.ciborium_ll.specs.Decoding.{ReadsNothing, Takes, left_of}
-use Rattle.ciborium_ll.specs.Header.{SpellsHeader, announced_length}
+use Rattle.ciborium_ll.specs.Header.{SpellsHeader}
 use Rattle.ciborium_ll.specs.ReaderSteps as reading
 use Rattle.ciborium_ll.specs.ReaderSteps.{IsHeadTaken}
 use Rattle.ciborium_ll.specs.Refusal.{Refusal, HeadRefuses, IsUsable, IsAtFront, argument_length}
-use Rattle.ciborium_ll.proofs.HeadAnswers.{header-fits, header-begins}
+use Rattle.ciborium_ll.proofs.HeadAnswers.{header-fits}
 use Rattle.ciborium.specs.declared.de.error.Error.{Error}
 use Rattle.ciborium.specs.declared.de.error.Error.TheVariants as errors
 use Rattle.ciborium.specs.Errors.{from_ll}
 use Rattle.ciborium.specs.ValueAnswers.{IsRefusedBy, IsNamed, refusal_kind_of}
 use Rattle.ciborium.specs.inner.ValuesInBytes.{IsPulled, heads_by, heads_left}
+use Rattle.ciborium.proofs.Items.FrontReads.{head-some}
 
 -- the error that an error of the lowest layer becomes refuses as it does
 pub refused-from : {E : Type 0} (left : Option (List ℕ)) (e : LlError E) (P : Refusal → Type 0) →
@@ -46,13 +47,6 @@ pub head-read : {S W : Type 0} (remaining : S → Option (List ℕ)) (d : Decode
     (d.counter.count ≡ p + length x) × (left_of remaining d ≡ Some r)) → IsPulled remaining d h xs p
 head-read remaining d xs p h (x, r, spelled, usable, split, last, count, left) =
     (x, r, spelled, usable, split, last, (count, left))
-
--- a head has a byte at least
-head-some : (b : List ℕ) (h : Header) → SpellsHeader b h → 0 < length b
-head-some b h s = by (header-begins b h s)
-  where
-    by : Rattle.ciborium_ll.proofs.HeadAnswers.Begins b (announced_length h) → 0 < length b
-    by (m, a, c, e, f) = let len : length b ≡ suc (length c) = ap length e in omega (arith, len)
 
 abbrev pub answered : (E : Type 0) → Header → Result Header (LlError E)
 answered E h = Ok h

@@ -8,7 +8,7 @@ use Rattle.ciborium_value.specs.Places.{top, within, tagged, added, IsFull, Fits
 use Rattle.ciborium_value.specs.WrittenItems.{IsWritten, AreWritten, PairsAreWritten}
 use Rattle.ciborium_value.proofs.Writing.Standing.{items_count-from, pairs-from}
 
-AreWritten-more : (is : List Item) (i : Item) → AreWritten (items_from is) → IsWritten i →
+pub AreWritten-more : (is : List Item) (i : Item) → AreWritten (items_from is) → IsWritten i →
     AreWritten (items_from (is ++ i ∷ []))
 AreWritten-more [] i h w = (w, tt)
 AreWritten-more (j ∷ is) i h w = (h.0, AreWritten-more is i h.1 w)

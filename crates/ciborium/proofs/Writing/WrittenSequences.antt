@@ -11,10 +11,11 @@ use Rattle.ciborium_value.specs.Encoding.{items_bytes, written_bytes}
 use Rattle.ciborium_value.specs.Places.{items_from}
 use Rattle.ciborium_value.specs.Progress.{IsOwedAmong}
 use Rattle.ciborium_value.specs.Sinks.{Named, Cause, value, memory, device, IsOwed, all_named, and_then}
-use Rattle.ciborium_value.specs.WrittenItems.{AreWritten, IsWritten}
+use Rattle.ciborium_value.specs.WrittenItems.{AreWritten}
 use Rattle.ciborium_value.proofs.Writing.Standing.{items_bytes-append}
 use Rattle.ciborium.specs.SequenceWrites.{AllNamed, AreNamedWritten, WritesInTurn}
 use Rattle.ciborium.specs.Writes.{IsNamedWritten, WritesNamed}
+use Rattle.ciborium.proofs.Writing.WrittenPlaces.{AreWritten-more}
 
 -- these items, and then what the others name
 abbrev pub named_behind : List Item → AllNamed → AllNamed
@@ -36,11 +37,6 @@ behind-more : (done : List Item) (i : Item) (r : AllNamed) →
     named_behind done (and_then (Ok i) r) ≡ named_behind (done ++ i ∷ []) r
 behind-more done i (Ok is) = ap Ok (sym (append_assoc done (i ∷ []) is))
 behind-more done i (Err k) = refl
-
-are-written-more : (is : List Item) (i : Item) → AreWritten (items_from is) → IsWritten i →
-    AreWritten (items_from (is ++ i ∷ []))
-are-written-more [] i all one = (one, tt)
-are-written-more (x ∷ is) i (first, all) one = (first, are-written-more is i all one)
 
 -- a beginning of the bytes of one item is one of all behind the others
 part-of-all : (E : Type 0) (old mid new : Option (List ℕ)) (e : E) (done js : List Item) (i : Item) →
@@ -70,7 +66,7 @@ module _ (parts : List Named) (old : Option (List ℕ)) where
   one-more-written E mid new u (Ok i) rest w out fits = record {
     done = w.done ++ i ∷ [];
     split = w.split ∙ behind-more w.done i (all_named rest);
-    written = are-written-more w.done i w.written fits;
+    written = AreWritten-more w.done i w.written fits;
     out = subst (Appends old new) (ap (λ z. items_bytes (items_from w.done) ++ z) (sym (append-nil (written_bytes i))) ∙
         sym (items_bytes-append w.done (i ∷ []))) (Appends-trans old mid new (items_bytes (items_from w.done))
         (written_bytes i) w.out out);

@@ -1,6 +1,6 @@
 -- The item of a tree means the folded tree, and what is folded folds no further.
-use Rattle.std.proofs.Common.{le-leb, leb-true, subst, ◌≡◌, ℕ, zero, suc, ◌^◌, ◌≤◌, cond, ltb, leb, eqb, Bool, true}
-use Rattle.std.proofs.Common.{false, List, [], ◌∷◌, length, Option, Some, None, refl, ap, ◌∙◌, arith, pos, negsuc}
+use Rattle.std.proofs.Common.{le-leb, leb-true, subst, ◌≡◌, ℕ, ◌^◌, ◌≤◌, cond, ltb, leb, eqb, Bool, true}
+use Rattle.std.proofs.Common.{false, List, length, Option, Some, None, refl, ap, ◌∙◌, arith, pos, negsuc}
 use Rattle.std.proofs.Common.{option_map}
 use Rattle.ciborium_value.specs.Encoding.{item_of, items_of, pairs_of}
 use Rattle.ciborium_value.specs.Folded.{short_bytes, tree_folding_bytes, folded, trees_folded, tree_pairs_folded}
@@ -9,9 +9,10 @@ use Rattle.ciborium_value.specs.Meaning.{big_endian, without_zeros, bignum_meani
 use Rattle.ciborium_value.specs.Meaning.{is_bignum_tag, tag_meaning, simple_meaning, trees_more, tree_pairs_more}
 use Rattle.ciborium_value.specs.Meaning.{meaning, items_meaning, pairs_meaning}
 use Rattle.ciborium_value.specs.lemmas.ItemsOfTrees.{short_string-item_of}
+use Rattle.ciborium_value.specs.lemmas.ReadsBackBignums.{zeros_hold_nothing, no_zeros_twice}
+use Rattle.ciborium_value.specs.lemmas.ReadsBackBignums.{length-without_zeros}
 use Rattle.ciborium_value.specs.Tree.{Tree, integer, bytes, text, boolean, null, tag, array, map, Trees, no_trees, tree}
 use Rattle.ciborium_value.specs.Tree.{TreePairs, no_tree_pairs, tree_pair}
-use Rattle.ciborium_value.proofs.FoldedTrees.Bignums.{stays, zeros_hold_nothing, no_zeros_twice}
 
 -- ---- what is written means the folded tree
 
@@ -55,12 +56,6 @@ bignum_meaning-without_zeros t b =
     (negative_bignum n (without_zeros (without_zeros b)))) (zeros_hold_nothing b) ∙
     ap (λ c. cond (eqb t 2) (unsigned_bignum (big_endian b) c) (negative_bignum (big_endian b) c)) (no_zeros_twice b)
 
--- no bytes are left in front of those that are no leading zeros
-without_zeros-length : (b : List ℕ) → length (without_zeros b) ≤ length b
-without_zeros-length [] = omega arith
-without_zeros-length (zero ∷ b) = let e = without_zeros-length b in omega (arith, e)
-without_zeros-length (suc x ∷ b) = rw (stays x b) (omega arith)
-
 -- of what folding answers, that folding changes nothing more
 abbrev IsFolded : Option Tree → Type 0
 IsFolded None = Unit {0}
@@ -96,7 +91,7 @@ bignum_stays : (t : ℕ) (b : List ℕ) → is_bignum_tag t ≡ true → length 
     bignum_meaning t b ≡ Some (tag t (bytes (without_zeros b))) →
     folded (tag t (bytes (without_zeros b))) ≡ Some (tag t (bytes (without_zeros b)))
 bignum_stays t b is h e =
-    let short : length (without_zeros b) ≤ 16 = omega (arith, without_zeros-length b) in
+    let short : length (without_zeros b) ≤ 16 = omega (arith, length-without_zeros b) in
     folded-bignum t (without_zeros b) is short ∙ bignum_meaning-without_zeros t b ∙ e
 
 IsFolded-unsigned : (b : List ℕ) → length b ≤ 16 → (c : Bool) → ltb (big_endian b) (2 ^ 64) ≡ c →

@@ -59,7 +59,7 @@ mutual
 -- ---- formed is folded, with rising keys
 
 -- the content of a mapping that is there
-mapped_same : {A B : Type 0} (f : A → B) (m : Option A) (y : B) → option_map f m ≡ Some y → (x : A) × (m ≡ Some x) ×
+pub mapped_same : {A B : Type 0} (f : A → B) (m : Option A) (y : B) → option_map f m ≡ Some y → (x : A) × (m ≡ Some x) ×
     (f x ≡ y)
 mapped_same f (Some x) y e = (x, refl, cc)
 mapped_same f None y e = absurd cc

@@ -16,6 +16,7 @@ use Rattle.ciborium_value.specs.Tree.{Tree, TreePairs, no_tree_pairs, tree_pair}
 use Rattle.ciborium_value.specs.declared.key_order.KeyOrder.{KeyOrder}
 use Rattle.ciborium_value.specs.declared.kind.Kind.TheVariants as kinds
 use Rattle.ciborium_value.proofs.Orders.TotalOrders.{key_order_total}
+use Rattle.ciborium_value.specs.lemmas.ReadsBackMaps.{not-at}
 
 -- ---- one pair among others
 
@@ -286,17 +287,12 @@ eq_where_equal Less e h = absurd cc
 eq_where_equal Equal e h = absurd cc
 eq_where_equal Greater e h = absurd cc
 
-not_eq : (a : Ordering) → (a ≡ Equal → ⊥) → is_eq a ≡ false
-not_eq Less h = refl
-not_eq Equal h = absurd (h refl)
-not_eq Greater h = refl
-
 -- keys that rise differ
 pub rising_apart : (o : KeyOrder) (ps : TreePairs) → AreRising o (keys_of ps) → AreApart (keys_of ps)
 rising_apart o no_tree_pairs h = tt
 rising_apart o (tree_pair k v no_tree_pairs) h = tt
 rising_apart o (tree_pair k v (tree_pair l w ps)) h = (
-  not_eq (bytewise_order k l) (λ e. let no : Less ≡ Equal = sym h.0 ∙ bytewise_tied o k l e in cc),
+  not-at (bytewise_order k l) (λ e. let no : Less ≡ Equal = sym h.0 ∙ bytewise_tied o k l e in cc),
   rising_apart o (tree_pair l w ps) h.1,
 )
 

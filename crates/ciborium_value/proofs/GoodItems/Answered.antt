@@ -26,9 +26,9 @@ use Rattle.ciborium_value.specs.Tree as trees
 use Rattle.ciborium_value.specs.Tree.{Tree}
 use Rattle.ciborium_value.specs.inner.ReadItems.{ReadsItem, string_tree, IsComplete, container_of}
 use Rattle.ciborium_value.proofs.GoodItems.Bignums.{foldable-is, is-foldable, none-large}
-use Rattle.ciborium_value.proofs.GoodItems.Found.{kind_allowed, kind_major, kind_below}
+use Rattle.ciborium_value.proofs.GoodItems.Found.{kind_allowed, kind_major}
 use Rattle.ciborium_value.proofs.GoodItems.Accepted.{anyway}
-use Rattle.ciborium_value.proofs.GoodItems.Introduced.{reads-positive, reads-negative, reads-string}
+use Rattle.ciborium_value.proofs.GoodItems.Introduced.{reads-positive, reads-negative, reads-string, kind-below}
 use Rattle.ciborium_value.proofs.GoodItems.Introduced.{reads-open_string, reads-simple, inside-begun, inside-more}
 use Rattle.ciborium_value.proofs.GoodItems.Introduced.{reads-container, reads-tag, folding-reads, reads-folded}
 use Rattle.ciborium_value.proofs.GoodItems.Parts.{in_order-is, is-in_order}
@@ -36,7 +36,8 @@ use Rattle.ciborium_value.proofs.GoodItems.Reader.{Answer, ends, refused, checke
 use Rattle.ciborium_value.proofs.GoodItems.Reader.{string, chunk, piece, pieces, levels, break_at, end_at, or_end}
 use Rattle.ciborium_value.proofs.GoodItems.Reader.{in_order, folding, is_unwanted, bignum, counted_item, opened_item}
 use Rattle.ciborium_value.proofs.GoodItems.Reader.{item_at, next_part, read, parts}
-use Rattle.ciborium_value.proofs.GoodItems.Spelled.{folds-front, seen-folds, and_true, are_bytes, spells-pos}
+use Rattle.ciborium_value.proofs.GoodItems.Spelled.{folds-front, seen-folds, are_bytes, spells-pos}
+use Rattle.ciborium_value.specs.lemmas.Descriptions.{both}
 
 checked-meets : {A : Type 0} (P : Answer A → Type 0) (o : Option Refusal) (a : Answer A) →
     ((e : Refusal) → o ≡ Some e → P (refused e)) → (o ≡ None → P a) → P (checked o a)
@@ -96,7 +97,7 @@ PiecesMeet c b q (refused e) = (s : List ℕ) × (ps : List (List ℕ)) × (r : 
 
 string-begins : (c : StringKind) (b : List ℕ) (f : Front) → front b ≡ f →
     ((n : ℕ) (r : List ℕ) → f ≡ counted (string_major c) n r → ⊥) → HasStringHead c b → ⊥
-string-begins c b f e h s = h s.0 s.2 (sym e ∙ stands-front b (string_major c) s.0 s.1 s.2 (kind_below c) s.3)
+string-begins c b f e h s = h s.0 s.2 (sym e ∙ stands-front b (string_major c) s.0 s.1 s.2 (kind-below c) s.3)
 
 break-begins : (b : List ℕ) (f : Front) → front b ≡ f → ((r : List ℕ) → f ≡ opened 7 r → ⊥) → IsAtFront 255 b → ⊥
 break-begins b f e h s = h s.0 (sym e ∙ ap front s.1 ∙ front_open 7 s.0)
@@ -211,7 +212,7 @@ break-meets : (now : Due) (b : List ℕ) (p : ℕ) →
 break-meets now [] p f g = f (λ h k. let z = k.1 in absurd cc)
 break-meets now (x ∷ b) p f g =
     cond_both (ltb p greatest_offset && eqb x 255) _ _ (EndMeets now (x ∷ b) p)
-    (λ t. let a = and_true _ _ t in g b (ap (λ y. y ∷ b) (eqb-true x 255 a.1)) (ltb-true _ _ a.0))
+    (λ t. let a = both _ _ t in g b (ap (λ y. y ∷ b) (eqb-true x 255 a.1)) (ltb-true _ _ a.0))
     (λ t. f (λ h k. not_both _ _ t (lt-ltb p greatest_offset h) (eq-eqb x 255 (first _ _ _ _ k.1))))
   where
     not_both : (t u : Bool) → (t && u) ≡ false → t ≡ true → u ≡ true → ⊥

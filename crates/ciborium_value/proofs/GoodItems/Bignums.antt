@@ -7,9 +7,8 @@ use Rattle.ciborium_ll.proofs.UsableHeads.{EachIsByte, pass}
 use Rattle.ciborium_value.specs.Meaning.{big_endian_behind, big_endian, without_zeros, bignum_meaning, is_bignum_tag}
 use Rattle.ciborium_value.specs.Spelling.{IsFoldable}
 use Rattle.ciborium_value.specs.Tree.{Tree, integer, bytes, tag}
-use Rattle.ciborium_value.proofs.FoldedTrees.Bignums.{stays}
-use Rattle.ciborium_value.proofs.GoodItems.Bounded.{zeros-shorter}
 use Rattle.ciborium_value.proofs.GoodItems.Reader.{begins_zero, is_foldable}
+use Rattle.ciborium_value.specs.lemmas.ReadsBackBignums.{stays, length-without_zeros}
 
 -- ---- the bounds of a number
 
@@ -107,7 +106,7 @@ great-whole y h g (inr (s, is)) =
     let l : length y ≡ suc (length s) = ap length is in
     let e : length (without_zeros s) ≡ length y = ap (λ (c : List ℕ). length (without_zeros c)) (sym is) ∙
     ap length g.0 in
-    omega (arith, l, e, zeros-shorter s)
+    omega (arith, l, e, length-without_zeros s)
 
 great-first : (x : ℕ) (s : List ℕ) → 8 ≤ length s → 2 ^ 64 ≤ big_endian (suc x ∷ s)
 unfolding big_endian_behind

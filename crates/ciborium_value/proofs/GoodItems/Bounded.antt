@@ -15,6 +15,7 @@ use Rattle.ciborium_value.specs.Counts.{node_count, payload_size, trees_node_cou
 use Rattle.ciborium_value.specs.Counts.{tree_pairs_node_count, tree_pairs_payload_size}
 use Rattle.ciborium_ll.proofs.FrontHeads.{head-length}
 use Rattle.ciborium_value.proofs.GoodItems.Spelled.{spells-pos}
+use Rattle.ciborium_value.specs.lemmas.ReadsBackBignums.{length-without_zeros}
 
 -- ---- what fits into n bytes: a tree, trees, pairs of trees, and the payload of a string with its head
 
@@ -103,12 +104,6 @@ either-short : (t : Bool) (a b : List ℕ) (n : ℕ) → length a ≤ n → leng
 either-short true a b n h k = h
 either-short false a b n h k = k
 
-pub zeros-shorter : (b : List ℕ) → length (without_zeros b) ≤ length b
-zeros-shorter [] = omega arith
-zeros-shorter (b ∷ bs) =
-    let rest = zeros-shorter bs in
-    either-short (eqb b 0) (without_zeros bs) (b ∷ bs) (suc (length bs)) (omega (arith, rest)) (omega arith)
-
 unsigned-fits : (k : ℕ) (b : List ℕ) (n : ℕ) → 2 + length b ≤ n → Fits n (unsigned_bignum k b)
 unsigned-fits k b n h =
     either-fits (ltb k (2 ^ 64)) (Some (trees.integer (pos k))) (Some (trees.tag 2 (trees.bytes b))) n
@@ -124,7 +119,7 @@ negative-fits k b n h =
 bignum-fits : (t : ℕ) (b : List ℕ) (n : ℕ) → 2 + length b ≤ n → Fits n (bignum_meaning t b)
 unfolding bignum_meaning
 bignum-fits t b n h =
-    let z = zeros-shorter b in
+    let z = length-without_zeros b in
     let room : 2 + length (without_zeros b) ≤ n = omega (arith, h, z) in
     either-fits (eqb t 2) (unsigned_bignum (big_endian b) (without_zeros b))
     (negative_bignum (big_endian b) (without_zeros b)) n

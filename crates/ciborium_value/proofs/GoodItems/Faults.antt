@@ -8,6 +8,7 @@ use Rattle.ciborium_ll.specs.Head.{IsSimple, information, argument_bytes, shorte
 use Rattle.ciborium_ll.specs.Refusal.{Kind, NotShortest, Open, argument, argument_length, HasHead}
 use Rattle.ciborium_ll.proofs.ShortestHead.{no_other_is_as_short}
 use Rattle.ciborium_ll.proofs.UsableHeads.{argument-information, argument_length-information, information-below, pass}
+use Rattle.ciborium_ll.proofs.UsableHeads.{and_false}
 use Rattle.ciborium_value.specs.Spelling.{Spelling, any, deterministic, deterministic_fault, spelling_fault}
 use Rattle.ciborium_value.specs.declared.key_order.KeyOrder.{KeyOrder}
 
@@ -15,21 +16,13 @@ use Rattle.ciborium_value.specs.declared.key_order.KeyOrder.{KeyOrder}
 abbrev pub long_fault : ℕ → ℕ → ℕ → Option Kind
 long_fault m n size = cond (ltb (length (shortest_head m n)) size) (Some NotShortest) None
 
-pub and_false-left : (t u : Bool) → t ≡ false → (t && u) ≡ false
-and_false-left true u e = absurd cc
-and_false-left false u e = refl
-
-pub and_false-right : (t u : Bool) → u ≡ false → (t && u) ≡ false
-and_false-right true u e = e
-and_false-right false u e = refl
-
 fault-number : (m a n k : ℕ) (b : List ℕ) → m < 7 → a < 28 → argument a b ≡ n → 1 + argument_length a ≡ k →
     deterministic_fault m a b ≡ long_fault m n k
 fault-number m a n k b lt low e f =
-    pass _ _ _ (and_false-right (leb 2 m && leb m 5) (eqb a 31) (ne_eqb a 31 (λ z. omega (arith, low, z)))) ∙
+    pass _ _ _ (and_false (leb 2 m && leb m 5) (eqb a 31) (ne_eqb a 31 (λ z. omega (arith, low, z)))) ∙
     ap (λ t. cond t (Some NotShortest) (cond (eqb m 7 && eqb a 23) (Some NotShortest) None)) long ∙
     ap (λ t. cond (ltb (length (shortest_head m n)) k) (Some NotShortest) (cond t (Some NotShortest) None))
-    (and_false-left (eqb m 7) (eqb a 23) (ne_eqb m 7 (λ z. omega (arith, lt, z))))
+    (ap (λ t. t && eqb a 23) (ne_eqb m 7 (λ z. omega (arith, lt, z))))
   where
     long : (ltb m 7 && (ltb a 28 && ltb (length (shortest_head m (argument a b))) (1 + argument_length a))) ≡ ltb
         (length (shortest_head m n)) k

@@ -4,6 +4,7 @@ use Rattle.std.proofs.Common.{List, [], ◌∷◌, ◌++◌, length, Option, Som
 use Rattle.std.proofs.Common.{◌∙◌, subst, arith, inl, inr, length-append, append_assoc, append-nil, lt-ltb, eqb-true}
 use Rattle.std.proofs.lemmas.Bool.Decides.{nat_tests}
 use Rattle.std.proofs.lemmas.Str.{is_utf8-from_IsUtf8}
+use Rattle.std.proofs.lemmas.Bool.{cond-true}
 use Rattle.ciborium_ll.specs.Bytes.{greatest_offset}
 use Rattle.ciborium_ll.specs.Head.{IsHead, IsSimple, shortest_head}
 use Rattle.ciborium_ll.specs.Item as item
@@ -19,6 +20,7 @@ use Rattle.ciborium_value.specs.ProperTrees.{IsProperTree}
 use Rattle.ciborium_value.specs.lemmas.ItemsOfTrees.{short_string-item_of, tree_is_written_as_itself}
 use Rattle.ciborium_ll.specs.ProperItems.{IsArgument}
 use Rattle.ciborium_ll.proofs.ShortestHead.{shortest_is_head}
+use Rattle.ciborium_ll.proofs.CutHeads.{each-byte}
 use Rattle.ciborium_value.proofs.Writing.Written.{written_spells, IsProperItem-item_of, items_count-items_of}
 use Rattle.ciborium_value.proofs.Writing.Written.{pairs_count-pairs_of}
 use Rattle.ciborium_value.specs.Encoding.{written_tree, encoding, item_of, items_of, pairs_of, items_bytes, pairs_bytes}
@@ -46,9 +48,9 @@ use Rattle.ciborium_value.proofs.GoodItems.Reader.{Answer, ends, refused, and_th
 use Rattle.ciborium_value.proofs.GoodItems.Reader.{pieces, break_at, end_at, or_end, is_unwanted, bignum, counted_item}
 use Rattle.ciborium_value.proofs.GoodItems.Reader.{opened_item, next_part, read, parts}
 use Rattle.ciborium_value.proofs.GoodItems.Spelled.{spells-pos, folds-front, folds-some, none-folds, not_so}
-use Rattle.ciborium_value.proofs.GoodItems.Spelled.{each_is_byte}
-use Rattle.ciborium_value.proofs.GoodItems.Steps.{hold, opened-has, simple-has, read-head, read-counted, read-opened}
+use Rattle.ciborium_value.proofs.GoodItems.Steps.{opened-has, simple-has, read-head, read-counted, read-opened}
 use Rattle.ciborium_value.proofs.GoodItems.Steps.{ended-has, opens-read, tag-at, string-good, pieces-run, pieces-break}
+use Rattle.ciborium_value.proofs.GoodItems.Introduced.{kind-below}
 
 pub kind_allowed : (c : StringKind) (t : List ℕ) → IsAllowed c t → allowed (string_major c) t ≡ true
 kind_allowed of_bytes t h = refl
@@ -57,10 +59,6 @@ kind_allowed of_text t h = is_utf8-from_IsUtf8 t h
 pub kind_major : (c : StringKind) → IsStringMajor (string_major c)
 kind_major of_bytes = inl refl
 kind_major of_text = inr refl
-
-pub kind_below : (c : StringKind) → string_major c < 7
-kind_below of_bytes = omega arith
-kind_below of_text = omega arith
 
 pub simple-front : (s : List ℕ) (n : ℕ) (r : List ℕ) → IsSimple s n → front (s ++ r) ≡ plain n r
 simple-front s n r (inl h) = ap (λ (c : List ℕ). front (c ++ r)) h.1 ∙ front-simple n r h.0
@@ -182,8 +180,8 @@ module _ (spelling : Spelling) where
       let st : HasHead b m n (length h) (y ++ x) = (h, is, refl, e ∙ append_assoc h y x) in
       let both : length (h ++ y) ≡ length h + n = length-append h y in
       let u : ℕ = p + length h in
-      read-counted spelling d p u b l m n (length h) (y ++ x) (kind_below kind) st
-      (good-head b m n (length h) p (y ++ x) (kind_below kind) st fine (omega (arith, both, k, room))
+      read-counted spelling d p u b l m n (length h) (y ++ x) (kind-below kind) st
+      (good-head b m n (length h) p (y ++ x) (kind-below kind) st fine (omega (arith, both, k, room))
       (λ z. omega (arith, both, k, room))) refl ∙
       chosen kind u ∙ ap (made (string_tree kind)) (string-good m n p u y (y ++ x) x refl refl (kind_allowed kind y ok))
       ∙
@@ -208,7 +206,7 @@ module _ (spelling : Spelling) where
       let has : IsUsable b p = subst (λ z. IsUsable z p) (sym is) (opened-has m p r (free kind)
       (omega (arith, k, room))) in
       read-opened spelling d p b l m r is (has, fine) ∙ chosen kind ∙
-      ap (made (string_tree kind)) (pieces-run m (IsAllowed kind) (kind_below kind) (kind_allowed kind) d ys c (255 ∷ x)
+      ap (made (string_tree kind)) (pieces-run m (IsAllowed kind) (kind-below kind) (kind_allowed kind) d ys c (255 ∷ x)
       r
       (p + 1) (p + 1 + length c) (ends [] x q) chunks refl refl (omega (arith, k, room)) (omega (arith, lb, fuel))
       (λ z lt. pieces-break m z (p + 1 + length c) q x (omega (arith, lt)) (omega (arith, k, room))
@@ -287,7 +285,7 @@ module _ (spelling : Spelling) where
         bignum_meaning t y ≡ Some v → read spelling (suc d) b p l ≡ ends v x q
     folded-read y v some item fold means =
         tag-at spelling d p t b (r ++ x) (p + length h) l (begun l (trees.bytes y) item) ∙
-        hold _ _ _ (folds-front t (r ++ x) (folds-some t i r x (r ++ x) y spelled refl some).0) ∙
+        cond-true _ _ _ (folds-front t (r ++ x) (folds-some t i r x (r ++ x) y spelled refl some).0) ∙
         ap (and_then (bignum spelling t p)) (content l (trees.bytes y) item) ∙
         pass _ _ _ (wanted spelling y fold) ∙ ap (λ o. given (semantic p TooLarge) o x q) means
 
@@ -368,7 +366,7 @@ module _ (spelling : Spelling) where
       (and_then (next_part spelling (parts spelling d start) start now vs p l) (read spelling d b p l)))
       (open-on d p (p + length c) now one.0 b (t ++ x) v l one.1 done) ∙
       ap (and_then (next_part spelling (parts spelling d start) start now vs p l)) done ∙
-      hold _ _ _ (is-in_order spelling (keys_among start (vs ++ (v ∷ [])))
+      cond-true _ _ _ (is-in_order spelling (keys_among start (vs ++ (v ∷ [])))
       (order-before spelling start (vs ++ (v ∷ [])) ws more)) ∙
       ap (λ o. parts spelling d start o (vs ++ (v ∷ [])) (t ++ x) (p + length c) l) one.1 ∙
       run start one.0 next (vs ++ (v ∷ [])) ws t x (t ++ x) (p + length c) q l a rest one.2 more refl
@@ -595,7 +593,7 @@ module _ (order : KeyOrder) (d : ℕ) (rd : ReadsAt (deterministic order) d) (ru
   det-string kind y ok few f k room =
       let m : ℕ = string_major kind in
       let h : List ℕ = shortest_head m (length y) in
-      let st = short m (length y) (y ++ x) (kind_below kind) (omega (arith, few)) (f ∙ append_assoc h y x) in
+      let st = short m (length y) (y ++ x) (kind-below kind) (omega (arith, few)) (f ∙ append_assoc h y x) in
       string-read det kind d p q h y x b l (shortest_is_head m (length y) (omega (arith, few))) ok st.1 f k room
 
   det-simple : (n : ℕ) (v : Tree) → n < 23 → simple_meaning n ≡ Some v → b ≡ ((224 + n) ∷ []) ++ x → q ≡ p + 1 →
@@ -649,7 +647,7 @@ module _ (order : KeyOrder) (d : ℕ) (rd : ReadsAt (deterministic order) d) (ru
           folded-read det d rd h (encoding w) x b p t q l (item_of w) (shortest_is_head 6 t c.proper.0) split fine
           spelled (omega (arith, k, len)) fuel y (trees.tag t w) z (accepted order (encoding w) (p + length h) l
           (trees.bytes y) (ap encoding same, record { proper = proper; folds = refl; rises = tt }) (within-zero l)
-          (omega (arith, k, len, room))) (kept-whole t y a.0.0 (each_is_byte y proper.0) keeps) means
+          (omega (arith, k, len, room))) (kept-whole t y a.0.0 (each-byte y proper.0) keeps) means
       by None z n =
           let below = lower l (nesting (item_of w)) n in
           tag-read det d rd h (encoding w) x b p t q l (item_of w) (shortest_is_head 6 t c.proper.0) split fine spelled

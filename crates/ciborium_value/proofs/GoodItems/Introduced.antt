@@ -3,11 +3,10 @@ use Rattle.std.proofs.Common.{◌≡◌, ℕ, zero, suc, ◌+◌, ◌*◌, ◌<�
 use Rattle.std.proofs.Common.{◌∷◌, ◌++◌, length, Option, Some, None, option_map, pos, negsuc, refl, sym, ap, ◌∙◌, subst}
 use Rattle.std.proofs.Common.{arith, inl, inr, length-append, append_assoc, eqb-true}
 use Rattle.ciborium_ll.specs.Bytes.{AreBytes, greatest_offset}
-use Rattle.ciborium_ll.specs.Head.{within, one_byte, two_bytes, four_bytes, eight_bytes, IsHead, IsSimple}
+use Rattle.ciborium_ll.specs.Head.{IsHead, IsSimple}
 use Rattle.ciborium_ll.specs.Head.{shortest_head, open_byte, break_byte}
 use Rattle.ciborium_ll.specs.Item as item
 use Rattle.ciborium_ll.specs.Item.{Item}
-use Rattle.ciborium_ll.specs.ProperItems.{IsArgument}
 use Rattle.ciborium_ll.specs.Refusal.{NotShortest, HasHead, Open}
 use Rattle.ciborium_ll.specs.Spells.{AreChunks, joined, Spells}
 use Rattle.ciborium_ll.specs.StringRefusal.{StringKind, of_bytes, of_text, string_major, IsAllowed}
@@ -31,13 +30,6 @@ use Rattle.ciborium_value.proofs.GoodItems.Parts.{within-zero, raise, due-more, 
 use Rattle.ciborium_value.proofs.GoodItems.Parts.{counted-pairs, keys-paired, keys-value, read-more, items-read}
 use Rattle.ciborium_value.proofs.GoodItems.Parts.{pairs-read, trees-written, pairs-written, ArePaired}
 use Rattle.ciborium_value.proofs.GoodItems.Spelled.{folds-none, folding-string, folding-over}
-
-pub head-argument : (b : List ℕ) (m n : ℕ) → IsHead b m n → IsArgument n
-head-argument b m n (within, lt, e) = omega (arith, lt)
-head-argument b m n (one_byte, lt, e) = omega (arith, lt)
-head-argument b m n (two_bytes, lt, e) = omega (arith, lt)
-head-argument b m n (four_bytes, lt, e) = omega (arith, lt)
-head-argument b m n (eight_bytes, lt, e) = lt
 
 -- ---- what a spelling asks, by its parts
 
@@ -140,7 +132,7 @@ reads-negative spelling b p n k l r (h, is, len, split) none fits =
       at = omega (arith, len);
     }
 
-kind-below : (kind : StringKind) → string_major kind < 7
+pub kind-below : (kind : StringKind) → string_major kind < 7
 kind-below of_bytes = omega arith
 kind-below of_text = omega arith
 

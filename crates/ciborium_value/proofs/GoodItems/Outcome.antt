@@ -3,6 +3,7 @@ use Rattle.std.proofs.Common.{◌≡◌, ℕ, ◌+◌, ◌*◌, List, length, So
 use Rattle.ciborium_ll.specs.Bytes.{AreBytes}
 use Rattle.ciborium_ll.specs.Refusal.{Refusal}
 use Rattle.ciborium_ll.proofs.UniqueSpelling.{one_at_front}
+use Rattle.ciborium_ll.proofs.CutHeads.{each-byte}
 use Rattle.ciborium_value.specs.Meaning.{meaning}
 use Rattle.ciborium_value.specs.Nesting.{Limit}
 use Rattle.ciborium_value.specs.Refuses.{Refuses}
@@ -15,7 +16,6 @@ use Rattle.ciborium_value.proofs.GoodItems.GoodBytes.{item_bytes}
 use Rattle.ciborium_value.proofs.GoodItems.Accepted.{anyway}
 use Rattle.ciborium_value.proofs.GoodItems.Reader.{Answer, ends, refused, read}
 use Rattle.ciborium_value.proofs.GoodItems.Refused.{refusal-read}
-use Rattle.ciborium_value.proofs.GoodItems.Spelled.{each_is_byte}
 
 -- turns that are enough for the bytes
 abbrev pub enough : List ℕ → ℕ
@@ -28,7 +28,7 @@ good-answer spelling b p l (s, v, r, h, e) =
 
 refusal-answer : (spelling : Spelling) (b : List ℕ) (p : ℕ) (l : Limit) (e : Refusal) → AreBytes b →
     Refuses spelling b p l e → read spelling (enough b) b p l ≡ refused e
-refusal-answer spelling b p l e h f = refusal-read spelling (enough b) f (each_is_byte b h) (omega arith)
+refusal-answer spelling b p l e h f = refusal-read spelling (enough b) f (each-byte b h) (omega arith)
 
 one_of : (spelling : Spelling) (b : List ℕ) (p : ℕ) (l : Limit) (a : Answer Tree) → Meets spelling b p l a →
     HasGoodItem spelling b p l ⊎ ((e : Refusal) × Refuses spelling b p l e)
@@ -43,7 +43,7 @@ same e f h = cc
 
 pub good_or_refused : GoodOrRefused
 good_or_refused spelling b p l h = one_of spelling b p l (read spelling (enough b) b p l)
-    (read-meets spelling (enough b) b p l (each_is_byte b h) (omega arith))
+    (read-meets spelling (enough b) b p l (each-byte b h) (omega arith))
 
 pub never_both : NeverBoth
 never_both spelling b p l e h g f = let a = good-answer spelling b p l g in

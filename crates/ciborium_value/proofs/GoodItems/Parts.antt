@@ -23,17 +23,10 @@ use Rattle.ciborium_value.specs.inner.ReadItems.{pairs_in}
 use Rattle.ciborium_value.specs.declared.key_order.KeyOrder.{KeyOrder}
 use Rattle.ciborium_value.proofs.GoodItems.Accepted.{accepted}
 use Rattle.ciborium_value.proofs.GoodItems.Reader.{Answer, levels, is_less, rising, in_order}
-use Rattle.ciborium_value.proofs.GoodItems.Spelled.{and_true}
+use Rattle.ciborium_value.specs.lemmas.Descriptions.{both}
+use Rattle.ciborium_value.specs.lemmas.ReadsBackParts.{within-left, within-right}
 
 -- ---- limits
-
-pub within-left : (l : Limit) (m n : ℕ) → IsWithin l (max m n) → IsWithin l m
-within-left None m n h = tt
-within-left (Some l) m n h = omega arith
-
-pub within-right : (l : Limit) (m n : ℕ) → IsWithin l (max m n) → IsWithin l n
-within-right None m n h = tt
-within-right (Some l) m n h = omega arith
 
 pub within-max : (l : Limit) (m n : ℕ) → IsWithin l m → IsWithin l n → IsWithin l (max m n)
 within-max None m n h k = tt
@@ -181,7 +174,7 @@ pub in_order-is : (spelling : Spelling) (ks : List Tree) → in_order spelling k
 in_order-is any ks h = tt
 in_order-is (deterministic order) [] h = tt
 in_order-is (deterministic order) (k ∷ []) h = tt
-in_order-is (deterministic order) (k ∷ (j ∷ ks)) h = let a = and_true _ _ h in
+in_order-is (deterministic order) (k ∷ (j ∷ ks)) h = let a = both _ _ h in
     (less-is (key_order order k j) a.0, in_order-is (deterministic order) (j ∷ ks) a.1)
 
 pub is-in_order : (spelling : Spelling) (ks : List Tree) → AreInOrder spelling ks → in_order spelling ks ≡ true

@@ -3,7 +3,7 @@ use Rattle.std.proofs.Common.{◌≡◌, ℕ, ◌+◌, ◌*◌, ◌^◌, ◌<◌
 use Rattle.std.proofs.Common.{◌∷◌, ◌++◌, length, Option, Some, None, refl, ap, ◌∙◌, subst, sym, arith, length-append}
 use Rattle.std.proofs.Common.{IsUtf8, option_map, pos, negsuc, ltb-true}
 use Rattle.std.proofs.lemmas.Str.{IsUtf8-append, IsUtf8-nil}
-use Rattle.std.proofs.lemmas.List.Elements.{All-append, All-nil, All-from_recursion, recursion_from_All}
+use Rattle.std.proofs.lemmas.List.Elements.{All-append, All-nil, All-from_recursion, recursion_from_All, All-tail}
 use Rattle.ciborium_ll.specs.Bytes.{AreBytes, greatest_offset}
 use Rattle.ciborium_ll.specs.Head.{within, one_byte, two_bytes, four_bytes, eight_bytes, IsHead}
 use Rattle.ciborium_ll.specs.Item.{Item, unsigned, negative, bytes, text, array, map, tag, simple, float, Items}
@@ -16,8 +16,9 @@ use Rattle.ciborium_value.specs.Meaning.{negative_bignum, without_zeros, folding
 use Rattle.ciborium_value.specs.ProperTrees.{IsProperTree, AreProperTrees, AreProperTreePairs}
 use Rattle.ciborium_value.specs.Tree as trees
 use Rattle.ciborium_value.specs.Tree.{Tree, Trees, TreePairs, trees_count, tree_pairs_count}
-use Rattle.ciborium_value.proofs.GoodItems.Bounded.{enclosed-shorter, string-longer, zeros-shorter}
+use Rattle.ciborium_value.proofs.GoodItems.Bounded.{enclosed-shorter, string-longer}
 use Rattle.ciborium_value.proofs.GoodItems.Spelled.{spells-pos}
+use Rattle.ciborium_value.specs.lemmas.ReadsBackBignums.{length-without_zeros}
 
 -- ---- proper, where there is one
 
@@ -80,10 +81,7 @@ parts-bytes (n ∷ x) y h =
 pub split-bytes : (b x y : List ℕ) → b ≡ x ++ y → AreBytes b → AreBytes x × AreBytes y
 split-bytes b x y e h = parts-bytes x y (subst AreBytes e h)
 
-tail-bytes : (n : ℕ) (x : List ℕ) → AreBytes (n ∷ x) → AreBytes x
-tail-bytes n x h = All-from_recursion (λ n. n < 256) x (recursion_from_All (λ n. n < 256) (n ∷ x) h).1
-
-head-argument : (b : List ℕ) (m n : ℕ) → IsHead b m n → IsArgument n
+pub head-argument : (b : List ℕ) (m n : ℕ) → IsHead b m n → IsArgument n
 head-argument b m n (within, lt, e) = omega (arith, lt)
 head-argument b m n (one_byte, lt, e) = omega (arith, lt)
 head-argument b m n (two_bytes, lt, e) = omega (arith, lt)
@@ -103,7 +101,7 @@ string-bytes : (o : Bool) (m : ℕ) (IsAllowed : List ℕ → Type 0) (s y : Lis
     AreBytes s → AreBytes y
 string-bytes false m IsAllowed s y (h, head, ok, is) k = (split-bytes s h y is k).1
 string-bytes true m IsAllowed s y (ys, r, parts, same, is) k =
-    let inner = tail-bytes (m * 32 + 31) (r ++ 255 ∷ []) (subst AreBytes is k) in
+    let inner = All-tail (λ n. n < 256) (m * 32 + 31) (r ++ 255 ∷ []) (subst AreBytes is k) in
     subst AreBytes (sym same) (joined-bytes m IsAllowed ys r parts (parts-bytes r (255 ∷ []) inner).0)
 
 string-proper : (o : Bool) (m : ℕ) (IsAllowed : List ℕ → Type 0) (s y : List ℕ) → IsString o m IsAllowed s y →
@@ -137,14 +135,15 @@ either-bytes false a b h k = k
 
 zeros-bytes : (b : List ℕ) → AreBytes b → AreBytes (without_zeros b)
 zeros-bytes [] h = h
-zeros-bytes (b ∷ bs) h = either-bytes (eqb b 0) (without_zeros bs) (b ∷ bs) (zeros-bytes bs (tail-bytes b bs h)) h
+zeros-bytes (b ∷ bs) h =
+    either-bytes (eqb b 0) (without_zeros bs) (b ∷ bs) (zeros-bytes bs (All-tail (λ n. n < 256) b bs h)) h
 
 bignum-proper : (t : ℕ) (b : List ℕ) → IsProperBytes b → Proper (bignum_meaning t b)
 unfolding bignum_meaning
 bignum-proper t b h =
     let n : ℕ = big_endian b in
     let fits = h.1 in
-    let shorter = zeros-shorter b in
+    let shorter = length-without_zeros b in
     let rest : IsProperBytes (without_zeros b) = (zeros-bytes b h.0, omega (arith, shorter, fits)) in
     let tag2 : Option Tree = Some (trees.tag 2 (trees.bytes (without_zeros b))) in
     let tag3 : Option Tree = Some (trees.tag 3 (trees.bytes (without_zeros b))) in
@@ -177,7 +176,7 @@ simple-proper n =
 enclosed-bytes : (o : Bool) (m n : ℕ) (s r : List ℕ) → IsContainer o m n s r → AreBytes s → AreBytes r
 enclosed-bytes false m n s r (h, head, is) k = (split-bytes s h r is k).1
 enclosed-bytes true m n s r is k = (parts-bytes r (255 ∷ [])
-    (tail-bytes (m * 32 + 31) (r ++ 255 ∷ []) (subst AreBytes is k))).0
+    (All-tail (λ n. n < 256) (m * 32 + 31) (r ++ 255 ∷ []) (subst AreBytes is k))).0
 
 mutual
   item-proper : (i : Item) (s : List ℕ) → Spells s i → AreBytes s → length s ≤ greatest_offset → Proper (meaning i)

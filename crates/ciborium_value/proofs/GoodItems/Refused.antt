@@ -13,6 +13,7 @@ use Rattle.ciborium_ll.specs.StringRefusal.{StringRefuses, ChunkRefuses, OpenStr
 use Rattle.ciborium_ll.proofs.FrontHeads.{Front, nothing, counted, opened, plain, raw, front}
 use Rattle.ciborium_ll.proofs.ReadHeads.{Face, faces}
 use Rattle.ciborium_ll.proofs.UsableHeads.{EachIsByte, bytes_after, stands-front, stands-length, pass}
+use Rattle.ciborium_ll.proofs.CutHeads.{each-byte}
 use Rattle.ciborium_value.specs.Meaning.{simple_meaning, big_endian}
 use Rattle.ciborium_value.specs.Nesting.{Limit}
 use Rattle.ciborium_value.specs.Refuses.{HasGoodHead, Due, items, keys, values, keys_among, IsDue}
@@ -24,15 +25,16 @@ use Rattle.ciborium_value.specs.inner.ReadItems.{string_tree, container_of}
 use Rattle.ciborium_value.proofs.GoodItems.Answered.{kind_ok, rest-bytes}
 use Rattle.ciborium_value.proofs.GoodItems.Bignums.{foldable-small, foldable-is, is-foldable, large-none}
 use Rattle.ciborium_value.proofs.GoodItems.Faults.{fault-break, fault-float, fault-simple}
-use Rattle.ciborium_value.proofs.GoodItems.Found.{kind_allowed, kind_below, simple-front, read-good, parts-run}
-use Rattle.ciborium_value.proofs.GoodItems.Introduced.{folding-reads}
+use Rattle.ciborium_value.proofs.GoodItems.Found.{kind_allowed, simple-front, read-good, parts-run}
+use Rattle.ciborium_value.proofs.GoodItems.Introduced.{folding-reads, kind-below}
 use Rattle.ciborium_value.proofs.GoodItems.Parts.{levels-below, in_order-is}
 use Rattle.ciborium_value.proofs.GoodItems.Reader.{Answer, ends, refused, and_then, made, given, past, allowed, string}
 use Rattle.ciborium_value.proofs.GoodItems.Reader.{chunk, piece, pieces, levels, break_at, end_at, or_end, is_unwanted}
 use Rattle.ciborium_value.proofs.GoodItems.Reader.{bignum, counted_item, opened_item, next_part, read, parts}
-use Rattle.ciborium_value.proofs.GoodItems.Spelled.{folds-front, seen-folds, not_so, each_is_byte}
-use Rattle.ciborium_value.proofs.GoodItems.Steps.{hold, checked-none, checked-some, read-head, read-fault, read-counted}
+use Rattle.ciborium_value.proofs.GoodItems.Spelled.{folds-front, seen-folds, not_so}
+use Rattle.ciborium_value.proofs.GoodItems.Steps.{checked-none, checked-some, read-head, read-fault, read-counted}
 use Rattle.ciborium_value.proofs.GoodItems.Steps.{read-opened, opens-read, tag-at, pieces-run}
+use Rattle.std.proofs.lemmas.Bool.{cond-true}
 
 front_bytes : (s r : List ℕ) → EachIsByte (s ++ r) → EachIsByte s
 front_bytes [] r h = tt
@@ -42,7 +44,7 @@ front_bytes (x ∷ s) r h = (h.0, front_bytes s r h.1)
 
 payload-refused : (c : StringKind) {n p : ℕ} {r : List ℕ} {e : Refusal} → PayloadRefuses c n p r e → EachIsByte r →
     (u : ℕ) → string (string_major c) n r p u ≡ refused e
-payload-refused c {n} {r = r} (PayloadRefuses.ends_early h) bytes u = hold _ _ _ (lt-ltb (length r) n h)
+payload-refused c {n} {r = r} (PayloadRefuses.ends_early h) bytes u = cond-true _ _ _ (lt-ltb (length r) n h)
 payload-refused c {n} {p} (PayloadRefuses.not_allowed y r l h) bytes u =
     pass _ _ _ (le-ltb (length (y ++ r)) n (let k : length (y ++ r) ≡ length y + length r = length-append y r in
     omega (arith, l, k))) ∙
@@ -66,8 +68,8 @@ part-refused k zero pos f bytes = let never : ⊥ = omega (arith, pos) in absurd
 part-refused k (suc c) pos {b} {q} {e} (ChunkRefuses.no_head h) bytes = checked-some b q _ e h
 part-refused k (suc c) pos {b} {q} {e} (ChunkRefuses.chunk h (n, j, r, st, f)) bytes =
     checked-none b q _ h ∙ ap (piece (pieces c (string_major k)) (string_major k) b q)
-    (stands-front b (string_major k) n j r (kind_below k) st) ∙
-    hold _ _ _ (eq-eqb (string_major k) (string_major k) refl) ∙
+    (stands-front b (string_major k) n j r (kind-below k) st) ∙
+    cond-true _ _ _ (eq-eqb (string_major k) (string_major k) refl) ∙
     ap (and_then (chunk (pieces c (string_major k)))) (payload-refused k f (rest-bytes b st.0 r st.3 bytes)
     (past q b r))
 part-refused k (suc c) pos {b} {q} {e} (ChunkRefuses.other h x y) bytes =
@@ -110,7 +112,7 @@ module _ (spelling : Spelling) where
   string-refused : (d p : ℕ) (b : List ℕ) (l : Limit) (kind : StringKind) (e : Refusal) → HasGoodHead spelling b p →
       StringRefuses kind b p e → EachIsByte b → read spelling (suc d) b p l ≡ refused e
   string-refused d p b l kind e h (n, k, r, st, f) bytes =
-      read-counted spelling d p (p + k) b l (string_major kind) n k r (kind_below kind) st h refl ∙ chosen kind ∙
+      read-counted spelling d p (p + k) b l (string_major kind) n k r (kind-below kind) st h refl ∙ chosen kind ∙
       ap (made (λ z. string_tree kind z)) (payload-refused kind f (rest-bytes b st.0 r st.3 bytes) (p + k))
     where
       chosen : (c : StringKind) → counted_item spelling (read spelling d) (λ w. parts spelling d w (Some w) [])
@@ -126,7 +128,7 @@ module _ (spelling : Spelling) where
       let lb : length b ≡ suc (length (good ++ r)) = ap length wh in
       let br : EachIsByte (((m * 32 + 31) ∷ good) ++ r) = subst EachIsByte wh bytes in
       read-opened spelling d p b l m (good ++ r) wh h ∙ chosen k ∙
-      ap (made (string_tree k)) (pieces-run m (IsAllowed k) (kind_below k) (kind_allowed k) d payloads good r
+      ap (made (string_tree k)) (pieces-run m (IsAllowed k) (kind-below k) (kind_allowed k) d payloads good r
       (good ++ r)
       (p + 1) (p + 1 + length good) (refused e) parts_of refl refl room (omega (arith, lb, fuel))
       (λ c lc. part-refused k c (omega (arith, lc)) f (bytes_after ((m * 32 + 31) ∷ good) r br)))
@@ -196,7 +198,7 @@ module _ (spelling : Spelling) where
 
     folding-at : IsFoldingAt t r → (c : Answer Tree) → read spelling d r q l ≡ c →
         read spelling (suc d) b p l ≡ and_then (bignum spelling t p) c
-    folding-at f c e = tag-at spelling d p t b r q l a ∙ hold _ _ _ (folds-front t r f) ∙
+    folding-at f c e = tag-at spelling d p t b r q l a ∙ cond-true _ _ _ (folds-front t r f) ∙
         ap (and_then (bignum spelling t p)) e
 
     opening-at : (IsFoldingAt t r → ⊥) → EachIsByte b →
@@ -264,10 +266,10 @@ module _ (spelling : Spelling) where
       (refusal-read d f (tag-bytes d b r p t q l a bytes) (omega (arith, z.0, z.1, fuel)))
   refusal-read (suc d) {b} {p} {l} (Refuses.too_large r s x y q a g item at large) bytes fuel =
       let z = over-string d b r s x y p 3 q l a g item at fuel in
-      z.0 ∙ pass _ _ _ (small-wanted spelling y (each_is_byte y z.2) z.1 large) ∙
+      z.0 ∙ pass _ _ _ (small-wanted spelling y (each-byte y z.2) z.1 large) ∙
       ap (λ o. given (semantic p TooLarge) o x (q + length s)) (large-none y large)
   refusal-read (suc d) {b} {p} {l} (Refuses.not_folded n r s x y q a g item at bad) bytes fuel =
-      (over-string d b r s x y p n q l a g item at fuel).0 ∙ hold _ _ _ (unwanted-is spelling y bad)
+      (over-string d b r s x y p n q l a g item at fuel).0 ∙ cond-true _ _ _ (unwanted-is spelling y bad)
   refusal-read (suc d) {b} {p} {l} (Refuses.no_tag_level t r q a never) bytes fuel =
       opening-at d b r p t q (Some 0) a never bytes
   refusal-read (suc d) {b} {p} {l} {e} (Refuses.tagged t r q below a never level f) bytes fuel =

@@ -3,7 +3,7 @@ use Rattle.std.proofs.Common.{◌≡◌, ℕ, suc, ◌+◌, ◌*◌, ◌<◌, �
 use Rattle.std.proofs.Common.{◌++◌, length, Option, Some, None, refl, ap, ◌∙◌, subst, arith, inl, inr}
 use Rattle.std.proofs.Common.{length-append, append_assoc, le-leb, leb-true, eqb-true, IsUtf8}
 use Rattle.std.specs.List.{AllByRecursion}
-use Rattle.std.proofs.lemmas.List.Elements.{All-from_recursion, recursion_from_All}
+use Rattle.std.proofs.lemmas.List.Elements.{All-from_recursion}
 use Rattle.ciborium_ll.specs.Bytes.{AreBytes}
 use Rattle.ciborium_ll.specs.Head.{IsHead}
 use Rattle.ciborium_ll.specs.Item.{Item, unsigned, negative, bytes, text, array, map, tag, simple, float, items_count}
@@ -17,6 +17,7 @@ use Rattle.ciborium_ll.proofs.FrontHeads.{front-head, head-length}
 use Rattle.ciborium_ll.proofs.ReadHeads.{Face, faces}
 use Rattle.ciborium_ll.proofs.UsableHeads.{EachIsByte, stands-front}
 use Rattle.ciborium_value.proofs.GoodItems.Reader.{short, folding}
+use Rattle.ciborium_value.specs.lemmas.Descriptions.{both}
 
 string_of-pos : (o : Bool) (m : ℕ) (IsAllowed : List ℕ → Type 0) (s y : List ℕ) → IsString o m IsAllowed s y →
     0 < length s
@@ -103,18 +104,14 @@ pub not_so : (t : Bool) → (t ≡ true → ⊥) → t ≡ false
 not_so true h = absurd (h refl)
 not_so false h = refl
 
-pub and_true : (t u : Bool) → (t && u) ≡ true → (t ≡ true) × (u ≡ true)
-and_true true u h = (refl, h)
-and_true false u h = absurd cc
-
 pub seen-folds : (t : ℕ) (r : List ℕ) (p : ℕ) → EachIsByte r → IsUsable r p → folding t (front r) ≡ true →
     IsFoldingAt t r
-seen-folds t r p each h e = let a = and_true _ _ e in of (front r) (faces r p each h) a.1
+seen-folds t r p each h e = let a = both _ _ e in of (front r) (faces r p each h) a.1
   where
     of : (f : Front) → Face r p f → short f ≡ true → IsFoldingAt t r
     of nothing f s = absurd f
-    of (counted m n z) f s = let a = and_true _ _ s in
-        ((and_true _ _ e).0, n, f.1, z, subst (λ j. HasHead r j n f.1 z) (eqb-true m 2 a.0) f.2, leb-true n 16 a.1)
+    of (counted m n z) f s = let a = both _ _ s in
+        ((both _ _ e).0, n, f.1, z, subst (λ j. HasHead r j n f.1 z) (eqb-true m 2 a.0) f.2, leb-true n 16 a.1)
     of (opened m z) f s = absurd cc
     of (plain n z) f s = absurd cc
     of (raw w z) f s = absurd cc
@@ -205,9 +202,6 @@ none-folds t i s x r h e f = by (is_bignum_tag t) (short_string i) refl f
 by_recursion : (b : List ℕ) → AllByRecursion (λ x. x < 256) b → EachIsByte b
 by_recursion [] h = tt
 by_recursion (x ∷ b) h = (h.0, by_recursion b h.1)
-
-pub each_is_byte : (b : List ℕ) → AreBytes b → EachIsByte b
-each_is_byte b h = by_recursion b (recursion_from_All (λ x. x < 256) b h)
 
 pub bytes_again : (b : List ℕ) → EachIsByte b → AllByRecursion (λ n. n < 256) b
 bytes_again [] h = tt

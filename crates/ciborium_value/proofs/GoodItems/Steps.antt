@@ -1,16 +1,18 @@
 -- One step of the reader, by the head at the front.
-use Rattle.std.proofs.Common.{◌≡◌, ℕ, zero, suc, ◌+◌, ◌*◌, ◌%◌, ◌<◌, ◌≤◌, cond, ltb, eqb, Bool, true, false, ◌&&◌}
+use Rattle.std.proofs.Common.{◌≡◌, ℕ, zero, suc, ◌+◌, ◌*◌, ◌%◌, ◌<◌, ◌≤◌, cond, ltb, eqb, true, false, ◌&&◌}
 use Rattle.std.proofs.Common.{◌||◌, List, [], ◌∷◌, ◌++◌, length, take, drop, Option, Some, None, option_map, refl, sym}
 use Rattle.std.proofs.Common.{ap, ◌∙◌, subst, arith, length-append, append_assoc, le-ltb, eq-eqb, ne_eqb}
 use Rattle.std.proofs.Math.Seq.{take-append_seam, drop-append_seam}
 use Rattle.std.proofs.lemmas.Nat.{div-mul-add, mod-mul-add}
 use Rattle.std.proofs.lemmas.Bool.Decides.{nat_tests}
+use Rattle.std.proofs.lemmas.Bool.{cond-true}
 use Rattle.ciborium_ll.specs.Spells.{AreChunks, joined}
 use Rattle.ciborium_ll.specs.Refusal.{Kind, Refusal, semantic, head_refusal, IsUsable, HeadRefuses, HasHead}
 use Rattle.ciborium_ll.specs.Refusal.{argument_length, is_reserved, is_low_simple, payload_length}
 use Rattle.ciborium_ll.specs.Bytes.{greatest_offset}
 use Rattle.ciborium_ll.proofs.FrontHeads.{Front, counted, opened, front, front_open}
 use Rattle.ciborium_ll.proofs.UsableHeads.{HeadFits, low, fits-usable, stands-usable, stands-front, stands-length, pass}
+use Rattle.ciborium_ll.proofs.UsableHeads.{and_false}
 use Rattle.ciborium_value.specs.Nesting.{Limit}
 use Rattle.ciborium_value.specs.Refuses.{HasGoodHead, Due, items, keys, BeginsContainer, IsTagAt}
 use Rattle.ciborium_value.specs.Spelling.{Spelling, spelling_fault}
@@ -20,27 +22,16 @@ use Rattle.ciborium_value.proofs.GoodItems.Reader.{Answer, ends, refused, checke
 use Rattle.ciborium_value.proofs.GoodItems.Reader.{string, chunk, piece, pieces, levels, folding, bignum, counted_item}
 use Rattle.ciborium_value.proofs.GoodItems.Reader.{opened_item, item_at, read, parts}
 
-pub hold : {A : Type 0} (t : Bool) (x y : A) → t ≡ true → cond t x y ≡ x
-hold t x y e = ap (λ u. cond u x y) e
-
 pub not_low : (x : ℕ) (b : List ℕ) → (x ≡ 248 → ⊥) → is_low_simple x b ≡ false
 not_low x [] h = refl
 not_low x (y ∷ b) h = ap (λ t. t && ltb y 32) (ne_eqb x 248 h)
-
-pub and_false : (t u : Bool) → u ≡ false → (t && u) ≡ false
-and_false true u e = e
-and_false false u e = refl
 
 payload_length-open : (m a : ℕ) (b : List ℕ) → 28 ≤ a → payload_length m a b ≡ 0
 payload_length-open m a b h = pass _ _ _ (and_false _ _ (le-ltb a 28 h))
 
 pub payload_length-other : (m a : ℕ) (b : List ℕ) → 4 ≤ m → payload_length m a b ≡ 0
-payload_length-other m a b h = pass _ _ _ (left_false _ _
-    (let e : (eqb m 2 || eqb m 3) ≡ false = grind (arith, nat_tests) in e))
-  where
-    left_false : (t u : Bool) → t ≡ false → (t && u) ≡ false
-    left_false true u e = absurd cc
-    left_false false u e = refl
+payload_length-other m a b h = let e : (eqb m 2 || eqb m 3) ≡ false = grind (arith, nat_tests) in
+    pass _ _ _ (ap (λ t. t && ltb a 28) e)
 
 -- an initial byte of major type m with additional information a is usable
 pub byte-has : (m a : ℕ) (b : List ℕ) (p : ℕ) → a < 32 → p < greatest_offset → low (m * 32 + a) b p ≡ false →
@@ -165,7 +156,7 @@ string-good m n p q y r x e k h =
     let room : length r ≡ length y + length x = ap length e ∙ length-append y x in
     let t : take n r ≡ y = ap (λ j. take j r) k ∙ ap (take (length y)) e ∙ take-append_seam y x in
     let u : drop n r ≡ x = ap (λ j. drop j r) k ∙ ap (drop (length y)) e ∙ drop-append_seam y x in
-    pass _ _ _ (le-ltb (length r) n (omega arith)) ∙ hold _ _ _ (ap (allowed m) t ∙ h) ∙
+    pass _ _ _ (le-ltb (length r) n (omega arith)) ∙ cond-true _ _ _ (ap (allowed m) t ∙ h) ∙
     ap (λ (c : List ℕ). ends c (drop n r) (q + n)) t ∙ ap (λ (c : List ℕ). ends y c (q + n)) u
 
 -- the good parts of an open string, and what is answered after them
@@ -200,7 +191,7 @@ pieces-run m IsAllowed lt ok (suc d) (y ∷ ps) s x b q u a g e k room fuel then
     (omega (arith, l1, l2, k, room)) (λ z. omega (arith, l1, l2, k, room)) in
     let at : past q b r ≡ q + length h = omega (arith, l3.0) in
     checked-none b q _ has ∙ ap (piece (pieces d m) m b q) (stands-front b m (length y) (length h) r lt st) ∙
-    hold _ _ _ (eq-eqb m m refl) ∙
+    cond-true _ _ _ (eq-eqb m m refl) ∙
     ap (and_then (chunk (pieces d m))) (string-good m (length y) q (past q b r) y r (g.1 ++ x) refl refl (ok y w.2)) ∙
     ap (made (λ (z : List ℕ). y ++ z)) (pieces-run m IsAllowed lt ok d ps g.1 x (g.1 ++ x) (past q b r + length y) u a
     g.3 refl (omega (arith, at, l1, l2, k)) room (omega (arith, l3.0, l3.1, l4, fuel)) then) ∙ both a

@@ -1,5 +1,5 @@
 -- Shortest heads are ordered bytewise: by the major type, and then by the argument.
-use Rattle.std.proofs.Common.{◌≡◌, ℕ, zero, suc, ◌^◌, ◌<◌, ◌≤◌, List, [], ◌∷◌, ◌++◌, length, refl, sym, ap, ◌∙◌, lit<}
+use Rattle.std.proofs.Common.{◌≡◌, ℕ, ◌^◌, ◌<◌, ◌≤◌, List, [], ◌∷◌, ◌++◌, length, refl, sym, ap, ◌∙◌, lit<}
 use Rattle.std.proofs.Common.{arith, length-append, Ordering, Less, Equal, Greater, nat_cmp}
 use Rattle.std.proofs.lemmas.Bool.Decides.{nat_tests}
 use Rattle.std.specs.Cmp.Lexicographic.{slice_cmp}
@@ -10,6 +10,7 @@ use Rattle.ciborium_ll.specs.Head.{Width, within, one_byte, two_bytes, four_byte
 use Rattle.ciborium_ll.specs.Head.{argument_bytes, narrowest, shortest_head}
 use Rattle.ciborium_ll.proofs.ShortestHead.{narrowest-holds}
 use Rattle.ciborium_ll.proofs.HeadOrder.{places, arguments_in_order}
+use Rattle.ciborium_value.specs.lemmas.ReadsBackBignums.{length-bytes_high_first}
 
 -- ---- lists of which none is a proper beginning of the other
 
@@ -68,10 +69,6 @@ behind_major f n x g k y = ordering_then (nat_cmp (information f n) (information
 -- the arguments decide, and then what stands behind the heads
 abbrev by_arguments : ℕ → List ℕ → ℕ → List ℕ → Ordering
 by_arguments n x k y = ordering_then (nat_cmp n k) (slice_cmp nat_cmp x y)
-
-length-bytes_high_first : (size n : ℕ) → length (bytes_high_first size n) ≡ size
-length-bytes_high_first zero n = refl
-length-bytes_high_first (suc size) n = ap suc (length-bytes_high_first size n)
 
 -- arguments of one width behind the initial byte
 one_width : (size n k : ℕ) (x y : List ℕ) → n < 256 ^ size → k < 256 ^ size

@@ -12,12 +12,8 @@ use Rattle.ciborium_value.specs.laws.OrderLaws.{TiedWhereEqual, EqualAsTrees, Or
 use Rattle.ciborium_value.specs.Derived.{value_eq}
 use Rattle.ciborium_value.specs.View.{tree_of}
 use Rattle.ciborium_value.proofs.Orders.Derived.{value_eq-is, value_partial_cmp-is}
+use Rattle.ciborium_value.proofs.Orders.SideBySide.{both_tied}
 use Rattle.ciborium_value.specs.lemmas.DerivedOrder.{value_cmp-is}
-
-both_tied : (o p : Ordering) → ordering_then o p ≡ Equal → (o ≡ Equal) × (p ≡ Equal)
-both_tied Less p e = absurd cc
-both_tied Equal p e = (refl, e)
-both_tied Greater p e = absurd cc
 
 same_boolean : (x y : Bool) → bool_cmp x y ≡ Equal → x ≡ y
 same_boolean true true e = refl

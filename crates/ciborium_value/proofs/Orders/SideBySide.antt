@@ -26,6 +26,7 @@ use Rattle.ciborium_value.proofs.Trees.Elements.{one_more}
 use Rattle.ciborium_value.proofs.Orders.Encodings.{encodings-around, pair_encodings-around}
 use Rattle.ciborium_value.proofs.Orders.HeadsInOrder.{fronts_decide, heads_decide, one_length}
 use Rattle.ciborium_value.proofs.Orders.TreeEncodings.{encoding-is, argument_of-Array, argument_of-Map}
+use Rattle.ciborium_ll.proofs.HeadOrder.{then_equal}
 
 -- ---- orders that decide
 
@@ -34,12 +35,7 @@ tied Less b e f = absurd (let no : true ≡ false = sym e ∙ f in cc)
 tied Equal b e f = refl
 tied Greater b e f = absurd (let no : true ≡ false = sym e ∙ f in cc)
 
-then_equal : (o : Ordering) → ordering_then o Equal ≡ o
-then_equal Less = refl
-then_equal Equal = refl
-then_equal Greater = refl
-
-both_tied : (o p : Ordering) → ordering_then o p ≡ Equal → (o ≡ Equal) × (p ≡ Equal)
+pub both_tied : (o p : Ordering) → ordering_then o p ≡ Equal → (o ≡ Equal) × (p ≡ Equal)
 both_tied Less p e = absurd cc
 both_tied Equal p e = (refl, e)
 both_tied Greater p e = absurd cc

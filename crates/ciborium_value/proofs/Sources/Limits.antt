@@ -1,5 +1,5 @@
 -- A limit decides nothing but nesting: what is read, or refused, does not depend on it.
-use Rattle.std.proofs.Common.{◌≡◌, ℕ, zero, suc, Bool, true, false, Ok, Err, Some, None, refl, sym, ap, subst, ◌⊎◌}
+use Rattle.std.proofs.Common.{◌≡◌, ℕ, zero, suc, Bool, true, false, Some, None, refl, sym, ap, subst, ◌⊎◌}
 use Rattle.std.proofs.Common.{inl, inr}
 use Rattle.ciborium_value.specs.Taken.{Outcome, gives, refuses, nests, Steps, decided, leveled, mapped, chosen}
 use Rattle.ciborium_value.specs.Taken.{deeper_if, outcome, outcome_map, then_inside, then_read, then_take}

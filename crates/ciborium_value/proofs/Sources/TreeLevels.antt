@@ -27,7 +27,7 @@ name_of_bytes v bs i b is h e u =
     let t = is_utf8-from_IsUtf8 b u in
     ap (λ j. settled (bare_name j)) (sym h ∙ ap item_of (ap tree_of is ∙ tree_of-Bytes bs)) ∙ (rw (sym e, t) refl)
 
-utf8_not : (b : List ℕ) → (IsUtf8 b → ⊥) → (t : Bool) → is_utf8 b ≡ t → is_utf8 b ≡ false
+pub utf8_not : (b : List ℕ) → (IsUtf8 b → ⊥) → (t : Bool) → is_utf8 b ≡ t → is_utf8 b ≡ false
 utf8_not b n true e = absurd (n (IsUtf8-from_is_utf8 b e))
 utf8_not b n false e = e
 

@@ -7,6 +7,9 @@ use Rattle.ciborium_value.specs.Tree as trees
 use Rattle.ciborium_value.specs.Tree.{Tree, Trees}
 use Rattle.ciborium_value.specs.View.{tree_of, trees_of}
 use Rattle.ciborium_value.specs.declared.tree.Value.{Value}
+use Rattle.ciborium_value.specs.lemmas.Descriptions.{both}
+use Rattle.ciborium_ll.proofs.UsableHeads.{and_false}
+use Rattle.std.specs.Cmp.Derive.{both_true}
 
 -- the next element
 one_more : {A : Type 0} (i : ℕ) (xs : List A) (x : A) → i < length xs → x ≡ get_or xs i x →
@@ -26,32 +29,15 @@ one_made f i vs v ts us t h e before more same =
     ap (λ x. map tree_of (take i vs) ++ x ∷ []) same ∙ sym (map-append tree_of (take i vs) v) ∙
     ap (map tree_of) (sym (one_more i vs v h e))
 
-both : (a b : Bool) → a ≡ true → b ≡ true → (a && b) ≡ true
-both true b h k = k
-both false b h k = absurd cc
-
-first_and_rest : (a b : Bool) → (a && b) ≡ true → (a ≡ true) × (b ≡ true)
-first_and_rest true b h = (refl, h)
-first_and_rest false b h = absurd cc
-
-first_wrong : (a b : Bool) → a ≡ false → (a && b) ≡ false
-first_wrong true b h = absurd cc
-first_wrong false b h = refl
-
-other_wrong : (a b : Bool) → b ≡ false → (a && b) ≡ false
-other_wrong true b h = h
-other_wrong false b h = refl
-
 -- a test of trees, and of lists of trees: each passes it
 module _ (is : Tree → Bool) (are : Trees → Bool) (none : are trees.no_trees ≡ true)
     (each : (v : Tree) (vs : Trees) → are (trees.tree v vs) ≡ (is v && are vs)) where
   right-append : (vs : List Value) (v : Value) → are (trees_of vs) ≡ true → is (tree_of v) ≡ true →
       are (trees_of (vs ++ v ∷ [])) ≡ true
-  right-append [] v h k = each (tree_of v) trees.no_trees ∙ both (is (tree_of v)) (are trees.no_trees) k none
+  right-append [] v h k = each (tree_of v) trees.no_trees ∙ both_true k none
   right-append (w ∷ ws) v h k =
-      let parts = first_and_rest (is (tree_of w)) (are (trees_of ws)) (sym (each (tree_of w) (trees_of ws)) ∙ h) in
-      each (tree_of w) (trees_of (ws ++ v ∷ [])) ∙ both (is (tree_of w)) (are (trees_of (ws ++ v ∷ []))) parts.0
-      (right-append ws v parts.1 k)
+      let parts = both (is (tree_of w)) (are (trees_of ws)) (sym (each (tree_of w) (trees_of ws)) ∙ h) in
+      each (tree_of w) (trees_of (ws ++ v ∷ [])) ∙ both_true parts.0 (right-append ws v parts.1 k)
 
   -- the next value passes it
   pub one_right : (i : ℕ) (vs : List Value) (v : Value) → i < length vs → v ≡ get_or vs i v →
@@ -64,6 +50,6 @@ module _ (is : Tree → Bool) (are : Trees → Bool) (none : are trees.no_trees 
       are (trees_of vs) ≡ false
   one_wrong i [] v h e wrong = absurd (omega (arith, h))
   one_wrong zero (w ∷ ws) v h e wrong = each (tree_of w) (trees_of ws) ∙
-      first_wrong (is (tree_of w)) (are (trees_of ws)) (ap (λ x. is (tree_of x)) (sym e) ∙ wrong)
+      ap (λ t. t && are (trees_of ws)) (ap (λ x. is (tree_of x)) (sym e) ∙ wrong)
   one_wrong (suc i) (w ∷ ws) v h e wrong = each (tree_of w) (trees_of ws) ∙
-      other_wrong (is (tree_of w)) (are (trees_of ws)) (one_wrong i ws v (omega (arith, h)) e wrong)
+      and_false (is (tree_of w)) (are (trees_of ws)) (one_wrong i ws v (omega (arith, h)) e wrong)

@@ -16,30 +16,30 @@ use Rattle.ciborium_value.specs.Taken.{magnitude}
 not_zero : (b : ℕ) → (suc b == 0) ≡ false
 not_zero b = grind (arith, nat_tests)
 
-stays : (b : ℕ) (bs : List ℕ) → without_zeros (suc b ∷ bs) ≡ suc b ∷ bs
+pub stays : (b : ℕ) (bs : List ℕ) → without_zeros (suc b ∷ bs) ≡ suc b ∷ bs
 stays b bs = rw (not_zero b) refl
 
-zeros_hold_nothing : (bs : List ℕ) → big_endian (without_zeros bs) ≡ big_endian bs
+pub zeros_hold_nothing : (bs : List ℕ) → big_endian (without_zeros bs) ≡ big_endian bs
 unfolding big_endian_behind
 zeros_hold_nothing [] = refl
 zeros_hold_nothing (zero ∷ bs) = zeros_hold_nothing bs
 zeros_hold_nothing (suc b ∷ bs) = ap big_endian (stays b bs)
 
-none_left : (bs : List ℕ) → without_zeros (without_zeros bs) ≡ without_zeros bs
-none_left [] = refl
-none_left (zero ∷ bs) = none_left bs
-none_left (suc b ∷ bs) = ap without_zeros (stays b bs)
+pub no_zeros_twice : (bs : List ℕ) → without_zeros (without_zeros bs) ≡ without_zeros bs
+no_zeros_twice [] = refl
+no_zeros_twice (zero ∷ bs) = no_zeros_twice bs
+no_zeros_twice (suc b ∷ bs) = ap without_zeros (stays b bs)
 
-length-without_zeros : (bs : List ℕ) → length (without_zeros bs) ≤ length bs
+pub length-without_zeros : (bs : List ℕ) → length (without_zeros bs) ≤ length bs
 length-without_zeros [] = omega arith
 length-without_zeros (zero ∷ bs) = omega (arith, length-without_zeros bs)
 length-without_zeros (suc b ∷ bs) = rw (stays b bs) (omega arith)
 
 -- ---- bytes
 
-length-high_first : (k n : ℕ) → length (bytes_high_first k n) ≡ k
-length-high_first zero n = refl
-length-high_first (suc k) n = ap suc (length-high_first k n)
+pub length-bytes_high_first : (k n : ℕ) → length (bytes_high_first k n) ≡ k
+length-bytes_high_first zero n = refl
+length-bytes_high_first (suc k) n = ap suc (length-bytes_high_first k n)
 
 one_digit_more : (m d r p : ℕ) → (256 * m + d) * p + r ≡ m * (256 * p) + (d * p + r)
 one_digit_more m d r p = omega (
@@ -65,7 +65,7 @@ unfolding shortest_bytes
 length-shortest n = omega (
   arith,
   length-without_zeros (bytes_high_first 16 n),
-  length-high_first 16 n,
+  length-bytes_high_first 16 n,
 )
 
 pub big_endian-shortest : (n : ℕ) → n < 2 ^ 128 → big_endian (shortest_bytes n) ≡ n
@@ -75,7 +75,7 @@ big_endian-shortest n h = zeros_hold_nothing (bytes_high_first 16 n) ∙ read_be
 
 pub without_zeros-shortest : (n : ℕ) → without_zeros (shortest_bytes n) ≡ shortest_bytes n
 unfolding shortest_bytes
-without_zeros-shortest n = none_left (bytes_high_first 16 n)
+without_zeros-shortest n = no_zeros_twice (bytes_high_first 16 n)
 
 pub magnitude-shortest : (n : ℕ) → n < 2 ^ 128 → magnitude (shortest_bytes n) ≡ Ok n
 magnitude-shortest n h =

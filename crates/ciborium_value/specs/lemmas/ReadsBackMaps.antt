@@ -109,7 +109,7 @@ module _ {K V A B : Type 0} (cmp : K → K → Ordering) (order : A → A → Or
 
 -- ---- keys that are apart
 
-not-at : (o : Ordering) → (o ≡ Equal → ⊥) → is_eq o ≡ false
+pub not-at : (o : Ordering) → (o ≡ Equal → ⊥) → is_eq o ≡ false
 not-at Less h = refl
 not-at Equal h = absurd (h refl)
 not-at Greater h = refl

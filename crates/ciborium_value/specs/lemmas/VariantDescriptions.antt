@@ -20,6 +20,7 @@ use Rattle.ciborium_value.specs.VariantReadings.{taken_enum, unit_variant}
 use Rattle.ciborium_value.specs.declared.key_order.KeyOrder.{KeyOrder}
 use Rattle.ciborium_value.specs.lemmas.FormsReadBackVariants.{data_variant_form, unit_variant_form}
 use Rattle.ciborium_value.specs.lemmas.ReadsBackVariants.{data_variant_back, unit_variant_back}
+use Rattle.ciborium_value.specs.lemmas.ReadsBackStructs.{first-apart}
 
 -- ---- the value of one of two
 
@@ -69,12 +70,6 @@ module _ {E : Type 0} (all : List (Variant E)) (name : List ℕ) (names : List (
       h other (ap (λ t. if t then true else is_name_among other names) apart ∙ among) l i ∙
       ap (λ t. if t then outcome l (first i) else outcome l (taken_data behind other i)) apart
 
-variant-sound : (s d b : Bool) → (if s then false else d && b) ≡ true →
-    (s ≡ false) × (d ≡ true) × (b ≡ true)
-variant-sound true d b h = cc
-variant-sound false true b h = (refl, refl, h)
-variant-sound false false b h = cc
-
 -- the name and the data under it
 abbrev pub under_name : List ℕ → Named → Named
 under_name name w = fields_of ((named name, w) ∷ [])
@@ -94,7 +89,7 @@ module _ {S : Type 0} (name : List ℕ) (behind : VariantsDescription S) where
   module _ (sound : is_new_unit ≡ true) where
     unit-apart : (is_name_among name behind.names ≡ false) × (true ≡ true) ×
         (behind.is_sound ≡ true)
-    unit-apart = variant-sound (is_name_among name behind.names) true behind.is_sound sound
+    unit-apart = first-apart (is_name_among name behind.names) true behind.is_sound sound
 
     pub unit-back : {E : Type 0} (all : List (Variant E))
         (make : Unit {0} ⊎ behind.Content → E) → AreReadBy all (name ∷ behind.names)
@@ -167,7 +162,7 @@ module _ {V S : Type 0} (name : List ℕ) (d : Description V) (behind : Variants
   module _ (sound : is_new_data ≡ true) where
     data-apart : (is_name_among name behind.names ≡ false) × (d.is_sound ≡ true) ×
         (behind.is_sound ≡ true)
-    data-apart = variant-sound (is_name_among name behind.names) d.is_sound behind.is_sound sound
+    data-apart = first-apart (is_name_among name behind.names) d.is_sound behind.is_sound sound
 
     pub data-back : {E : Type 0} (all : List (Variant E))
         (make : d.Content ⊎ behind.Content → E) → AreReadBy all (name ∷ behind.names)

@@ -2,8 +2,8 @@ use Rattle.ciborium.proofs.Containers.EnteredContainers.{enters-map}
 use Rattle.ciborium_value.specs.Taken.{taken_pairs}
 use Rattle.ciborium.specs.inner.ByteSources.{fault_at}
 use Rattle.ciborium.proofs.Containers.ByteItems.{refuses-denied}
-use Rattle.ciborium.proofs.Readers.HandedReaders.{err-map}
 use Rattle.ciborium.proofs.de.byte_source.source.ByteSourceSource.begin_map.Goals as goal
+use Rattle.std.proofs.lemmas.Result.{IfErr-weaker}
 
 pub returns-clause-ok : goal.returns-clause-ok
 returns-clause-ok g c =
@@ -12,6 +12,6 @@ returns-clause-ok g c =
     c.begin_map.ensures.levels c.begin_map.ensures.keeps.pending c.begin_map.ensures.fewer c.begin_map.ensures.ok
 
 pub returns-clause-refused : goal.returns-clause-refused
-returns-clause-refused g c = err-map c.begin_map.result c.begin_map.ensures.denied
+returns-clause-refused g c = IfErr-weaker c.begin_map.result _ _
     (λ e h. refuses-denied g.A.Access.remaining c.args.self.now taken_pairs
-    (fault_at g.A.Access.can_fail g.A.Access.remaining c.begin_map.new.self e) h)
+    (fault_at g.A.Access.can_fail g.A.Access.remaining c.begin_map.new.self e) h) c.begin_map.ensures.denied

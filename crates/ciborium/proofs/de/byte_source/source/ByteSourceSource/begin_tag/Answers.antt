@@ -3,8 +3,8 @@ use Rattle.ciborium_value.specs.Taken.{taken_outer_tag}
 use Rattle.ciborium.proofs.Containers.HeldLevels.{completes-opened, holds-opened, ok-map-two, on-ok-so}
 use Rattle.ciborium.specs.inner.ByteSources.{fault_at}
 use Rattle.ciborium.proofs.Containers.ByteItems.{refuses-denied}
-use Rattle.ciborium.proofs.Readers.HandedReaders.{err-map}
 use Rattle.ciborium.proofs.de.byte_source.source.ByteSourceSource.begin_tag.Goals as goal
+use Rattle.std.proofs.lemmas.Result.{IfErr-weaker}
 
 pub returns-clause-ok : goal.returns-clause-ok
 returns-clause-ok g c =
@@ -20,6 +20,6 @@ returns-clause-took g c =
     taken_outer_tag p.0 k)
 
 pub returns-clause-refused : goal.returns-clause-refused
-returns-clause-refused g c = err-map c.begin_tag.result c.begin_tag.ensures.denied
+returns-clause-refused g c = IfErr-weaker c.begin_tag.result _ _
     (λ e h. refuses-denied g.A.Access.remaining c.args.self.now taken_outer_tag
-    (fault_at g.A.Access.can_fail g.A.Access.remaining c.begin_tag.new.self e) h)
+    (fault_at g.A.Access.can_fail g.A.Access.remaining c.begin_tag.new.self e) h) c.begin_tag.ensures.denied

@@ -3,8 +3,8 @@ use Rattle.ciborium_value.specs.Taken.{taken_variant}
 use Rattle.ciborium.proofs.Containers.HeldLevels.{completes-opened, holds-opened, ok-map-two, on-ok-so}
 use Rattle.ciborium.specs.inner.ByteSources.{fault_at}
 use Rattle.ciborium.proofs.Containers.ByteItems.{refuses-denied}
-use Rattle.ciborium.proofs.Readers.HandedReaders.{err-map}
 use Rattle.ciborium.proofs.de.byte_source.source.ByteSourceSource.begin_variant.Goals as goal
+use Rattle.std.proofs.lemmas.Result.{IfErr-weaker}
 
 pub returns-clause-ok : goal.returns-clause-ok
 returns-clause-ok g c =
@@ -19,6 +19,6 @@ returns-clause-took g c =
     (Some c.args.self.now.levels) taken_variant (string_bytes p.0) k)
 
 pub returns-clause-refused : goal.returns-clause-refused
-returns-clause-refused g c = err-map c.begin_variant.result c.begin_variant.ensures.denied
+returns-clause-refused g c = IfErr-weaker c.begin_variant.result _ _
     (λ e h. refuses-denied g.A.Access.remaining c.args.self.now taken_variant
-    (fault_at g.A.Access.can_fail g.A.Access.remaining c.begin_variant.new.self e) h)
+    (fault_at g.A.Access.can_fail g.A.Access.remaining c.begin_variant.new.self e) h) c.begin_variant.ensures.denied
