@@ -14,11 +14,13 @@ use Rattle.ciborium_value.specs.declared.key_order.KeyOrder.TheVariants.{LengthF
 use Rattle.ciborium_value.specs.declared.tree.Value.{Value}
 use Rattle.ciborium_value.proofs.Orders.TotalOrders.{bytewise_order_total, canonical_order_total, key_order_total}
 use Rattle.cbor.specs.Sorted.{AreSorted}
-use Rattle.ciborium_value.proofs.Forms.ReorderedPairs.{stands_before-orders}
 
 -- the test by which values are sorted
 abbrev pub stands_before : KeyOrder → Value → Value → Bool
 stands_before order v w = is_lt (key_order order (tree_of v) (tree_of w))
+
+pub stands_before-orders : (order : KeyOrder) → IsStrictWeakOrder (stands_before order)
+stands_before-orders order = ranks_by (key_order_total order) tree_of
 
 -- one that comes after another has the other before it
 turned : (order : KeyOrder) (s t : Tree) → key_order order s t ≡ Greater → is_lt (key_order order t s) ≡ true

@@ -10,7 +10,5 @@ pub mod ValuesGiven
 pub mod ValueFaults
 pub mod WholeValues
 pub mod PassedItems
-pub mod PassedHeads
-pub mod PassedLevels
 pub mod PassedRoom
 pub mod PassedOver

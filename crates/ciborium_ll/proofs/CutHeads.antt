@@ -23,12 +23,11 @@ use Rattle.ciborium_ll.specs.Levels.{EndAll, behind_item, behind_bytes, behind_t
 use Rattle.ciborium_ll.specs.Levels.{IsPayloadOf, incomplete}
 use Rattle.ciborium_ll.specs.Refusal.{argument_length}
 use Rattle.ciborium_ll.proofs.BegunTexts.{zeros, length-zeros, bytes-zeros, text-zeros}
-use Rattle.ciborium_ll.proofs.FrontHeads.{head-length}
 use Rattle.ciborium_ll.proofs.LevelEnds.{can-end}
-use Rattle.ciborium_ll.proofs.LevelFronts.{AreOpen, are-open, front-of-end}
-use Rattle.ciborium_ll.proofs.LevelHeads.{ends-behind}
+use Rattle.ciborium_ll.proofs.LevelFronts.{AreOpen, are-open, front-of-end, ends-behind}
 use Rattle.ciborium_ll.proofs.UsableHeads.{EachIsByte, byte_at}
 use Rattle.ciborium_ll.proofs.Advancing.{single}
+use Rattle.ciborium_ll.proofs.HeadAnswers.{head-some}
 
 -- ---- a head with its argument filled
 
@@ -319,32 +318,13 @@ stands m head (TextChunks ∷ levels) still is part = as-text m head levels (par
 
 -- ---- what ends a level that is not complete
 
-header-some : (header : Header) (h : List ℕ) → SpellsHeader h header → 0 < length h
-header-some (header.Positive n) h s = head-length h 0 n s
-header-some (header.Negative n) h s = head-length h 1 n s
-header-some (header.Bytes (Some n)) h s = head-length h 2 n s
-header-some (header.Bytes None) h s = omega (arith, ap length s)
-header-some (header.Text (Some n)) h s = head-length h 3 n s
-header-some (header.Text None) h s = omega (arith, ap length s)
-header-some (header.Array (Some n)) h s = head-length h 4 n s
-header-some (header.Array None) h s = omega (arith, ap length s)
-header-some (header.Map (Some n)) h s = head-length h 5 n s
-header-some (header.Map None) h s = omega (arith, ap length s)
-header-some (header.Tag n) h s = head-length h 6 n s
-header-some (header.Simple n) h (inl (lt, e)) = omega (arith, ap length e)
-header-some (header.Simple n) h (inr (le, lt, e)) = omega (arith, ap length e)
-header-some (header.Float size) h (raw, inl (l, e), is) = omega (arith, ap length e)
-header-some (header.Float size) h (raw, inr (inl (l, e)), is) = omega (arith, ap length e)
-header-some (header.Float size) h (raw, inr (inr (l, e)), is) = omega (arith, ap length e)
-header-some header.Break h s = omega (arith, ap length s)
-
 -- it is not nothing
 end-some : (levels : List Level) (b : List ℕ) → AreOpen levels → EndAll levels b → 0 < length b
 end-some levels b still ends =
     let f = front-of-end levels b still ends in
     omega (
       arith,
-      header-some f.header f.head f.spelled,
+      head-some f.head f.header f.spelled,
       ap length f.whole,
       length-append f.head (f.payload ++ f.rest),
     )

@@ -299,6 +299,9 @@ header-begins b Break s = (
   },
 )
 
+pub head-some : (b : List ℕ) (h : Header) → SpellsHeader b h → 0 < length b
+head-some b h s = let (m, a, c, e, f) = header-begins b h s in omega (arith, ap length e)
+
 -- such a head is usable unless its payload would pass the greatest offset
 facts-answer : (m a n p : ℕ) (c : List ℕ) → Facts m a c n → length c ≡ argument_length a →
     p + 1 + argument_length a ≤ greatest_offset →

@@ -1,22 +1,24 @@
 -- What ends levels begins with a head, and what ends the levels behind that head follows it.
-use Rattle.std.proofs.Common.{◌≡◌, ℕ, zero, suc, ◌+◌, ◌≤◌, List, [], ◌∷◌, ◌++◌, length, drop}
-use Rattle.std.proofs.Common.{Some, None, false, true, option_map, refl, sym, ap, ◌∙◌}
-use Rattle.std.proofs.Common.{subst, arith, append-nil, append_assoc}
+use Rattle.std.proofs.Common.{◌≡◌, ℕ, zero, suc, ◌+◌, ◌≤◌, List, [], ◌∷◌, ◌++◌, length, drop, Some, None, true, false}
+use Rattle.std.proofs.Common.{option_map, refl, sym, ap, ◌∙◌, subst, arith, append_assoc}
 use Rattle.std.proofs.Math.Seq.{drop-append_seam}
 use Rattle.ciborium_ll.specs.declared.header.Header.{Header}
 use Rattle.ciborium_ll.specs.declared.header.Header.TheVariants as heads
 use Rattle.ciborium_ll.specs.declared.levels.Level.{Level}
 use Rattle.ciborium_ll.specs.declared.levels.Level.TheVariants.{Items, OpenItems, OpenKeys}
 use Rattle.ciborium_ll.specs.declared.levels.Level.TheVariants.{OpenValues, ByteChunks, TextChunks}
-use Rattle.ciborium_ll.specs.Head.{open_byte}
+use Rattle.ciborium_ll.specs.Head.{IsHead, open_byte}
 use Rattle.ciborium_ll.specs.Header.{SpellsHeader}
-use Rattle.ciborium_ll.specs.Item.{Item, unsigned, negative, bytes, text, array, map, tag, simple}
-use Rattle.ciborium_ll.specs.Item.{float, no_items, item, no_pairs, pair, items_count, pairs_count}
-use Rattle.ciborium_ll.specs.Levels.{Ends, EndAll, IsPayloadOf, IsOpenBehind, AreItem, opened}
-use Rattle.ciborium_ll.specs.Levels.{behind_item, behind_bytes, behind_text, behind_break}
-use Rattle.ciborium_ll.specs.Levels.{behind_head, incomplete}
+use Rattle.ciborium_ll.specs.Item.{Item, unsigned, negative, bytes, text, array, map, tag, simple, float}
+use Rattle.ciborium_ll.specs.Item.{items_count, pairs_count}
+use Rattle.ciborium_ll.specs.Levels.{EndAll, IsPayloadOf, IsOpenBehind, AreItem, opened, behind_item, behind_bytes}
+use Rattle.ciborium_ll.specs.Levels.{behind_text, behind_break, behind_head, incomplete}
 use Rattle.ciborium_ll.specs.Spells.{Spells}
-use Rattle.ciborium_ll.proofs.LevelHeads.{ends-behind, pairs-items}
+use Rattle.ciborium_ll.specs.StringRefusal.{IsAllowed, StringKind, of_bytes, of_text, string_major}
+use Rattle.ciborium_ll.proofs.LevelEnds.{anywhere, end-to, to-end}
+use Rattle.ciborium_ll.proofs.LevelHeads.{to-behind}
+use Rattle.ciborium_ll.proofs.LevelsTo.{Standing, ItemTo, ItemsTo, LevelTo, LevelsTo, around, behind-around, items-to}
+use Rattle.ciborium_ll.proofs.LevelsTo.{pairs-to}
 use Rattle.ciborium_ll.proofs.OneHeader.{one_header_at_front}
 
 -- ---- levels of which something is still to come
@@ -45,8 +47,6 @@ are-open (level ∷ levels) same some = tt
 none-behind : (header : Header) (levels : List Level) → behind_item levels ≡ None →
     behind_bytes levels ≡ None → behind_text levels ≡ None → behind_break levels ≡ None →
     behind_head header levels ≡ None
-none-behind (heads.Positive n) levels i b t k = i
-none-behind (heads.Negative n) levels i b t k = i
 none-behind (heads.Bytes (Some n)) levels i b t k = b
 none-behind (heads.Bytes None) levels i b t k = ap (option_map (λ rest. ByteChunks ∷ rest)) i
 none-behind (heads.Text (Some n)) levels i b t k = t
@@ -56,9 +56,8 @@ none-behind (heads.Array None) levels i b t k = ap (option_map (λ rest. OpenIte
 none-behind (heads.Map (Some n)) levels i b t k = ap (option_map (λ rest. Items (n + n) ∷ rest)) i
 none-behind (heads.Map None) levels i b t k = ap (option_map (λ rest. OpenKeys ∷ rest)) i
 none-behind (heads.Tag n) levels i b t k = ap (option_map (λ rest. Items 1 ∷ rest)) i
-none-behind (heads.Simple n) levels i b t k = i
-none-behind (heads.Float size) levels i b t k = i
 none-behind heads.Break levels i b t k = k
+none-behind header levels i b t k = i
 
 -- where a head may stand, something is still to come
 pub behind-open : (header : Header) (levels more : List Level) →
@@ -69,10 +68,56 @@ behind-open header (Items zero ∷ levels) more behind =
     let none = none-behind header (Items zero ∷ levels) refl refl refl refl in absurd cc
 behind-open header (level ∷ levels) more behind = tt
 
+-- ---- what stands first
+
+-- the level of parts of a string
+abbrev pub parts_of : StringKind → Level
+parts_of of_bytes = ByteChunks
+parts_of of_text = TextChunks
+
+-- what ends levels begins with an item, with a part of a string, or with the break
+pub data FirstOf (S : Standing) (level : Level) (levels : List Level) (b z : List ℕ) : Type 0 where
+  of_item : (c : List ℕ) (more : List Level) → ItemTo S (length levels) b c →
+      behind_item (level ∷ levels) ≡ Some more → LevelsTo S more c z → FirstOf S level levels b z
+  of_part : (kind : StringKind) (h p c : List ℕ) → IsHead h (string_major kind) (length p) → IsAllowed kind p →
+      b ≡ h ++ (p ++ c) → level ≡ parts_of kind → LevelsTo S (level ∷ levels) c z → FirstOf S level levels b z
+  of_break : (c : List ℕ) → b ≡ 255 ∷ c → behind_break (level ∷ levels) ≡ Some levels → LevelsTo S levels c z →
+      FirstOf S level levels b z
+
+first-part : (h p t u r x b : List ℕ) → t ≡ h ++ p → r ≡ t ++ u → b ≡ r ++ x → b ≡ h ++ (p ++ (u ++ x))
+first-part h p t u r x b f g e =
+    e ∙ ap (λ (c : List ℕ). c ++ x) (g ∙ ap (λ (c : List ℕ). c ++ u) f) ∙ simp append_assoc
+
+pub first-of : (S : Standing) (level : Level) (levels : List Level) (b z : List ℕ) → AreOpen (level ∷ levels) →
+    LevelsTo S (level ∷ levels) b z → FirstOf S level levels b z
+first-of S (Items zero) levels b z some h = absurd some
+first-of S (Items (suc n)) levels b z some (c, (d, one, others), ends) =
+    of_item d (Items n ∷ levels) one refl (c, others, ends)
+first-of S OpenItems levels b z some (c, (zero, e), ends) = of_break c e refl ends
+first-of S OpenItems levels b z some (c, (suc k, (d, one, others)), ends) =
+    of_item d (OpenItems ∷ levels) one refl (c, (k, others), ends)
+first-of S OpenKeys levels b z some (c, (zero, e), ends) = of_break c e refl ends
+first-of S OpenKeys levels b z some (c, (suc k, h), ends) =
+    let twice : suc k + suc k ≡ suc (suc (k + k)) = omega arith in
+    let (d, one, others) = subst (λ m. ItemsTo S (length levels) m b (255 ∷ c)) twice h in
+    of_item d (OpenValues ∷ levels) one refl (c, (k, others), ends)
+first-of S OpenValues levels b z some (c, (k, (d, one, others)), ends) =
+    of_item d (OpenKeys ∷ levels) one refl (c, (k, others), ends)
+first-of S ByteChunks levels b z some (c, ([], r, none, e), ends) =
+    of_break c (e ∙ ap (λ (x : List ℕ). x ++ (255 ∷ c)) none) refl ends
+first-of S ByteChunks levels b z some (c, (p ∷ ps, r, (t, u, (h, head, allowed, f), parts, g), e), ends) =
+    of_part of_bytes h p (u ++ (255 ∷ c)) head allowed (first-part h p t u r (255 ∷ c) b f g e) refl
+    (c, (ps, u, parts, refl), ends)
+first-of S TextChunks levels b z some (c, ([], r, none, e), ends) =
+    of_break c (e ∙ ap (λ (x : List ℕ). x ++ (255 ∷ c)) none) refl ends
+first-of S TextChunks levels b z some (c, (p ∷ ps, r, (t, u, (h, head, allowed, f), parts, g), e), ends) =
+    of_part of_text h p (u ++ (255 ∷ c)) head allowed (first-part h p t u r (255 ∷ c) b f g e) refl
+    (c, (ps, u, parts, refl), ends)
+
 -- ---- the head at the front
 
 -- a head that may stand there, its payload, and what ends the levels behind it
-pub record HeadFirst (levels : List Level) (x : List ℕ) : Type 0 where
+pub record HeadTo (S : Standing) (levels : List Level) (b z : List ℕ) : Type 0 where
   pub header : Header
   pub head : List ℕ
   pub payload : List ℕ
@@ -80,186 +125,121 @@ pub record HeadFirst (levels : List Level) (x : List ℕ) : Type 0 where
   pub more : List Level
   pub spelled : SpellsHeader head header
   pub content : IsPayloadOf header payload
-  pub whole : x ≡ head ++ (payload ++ rest)
+  pub whole : b ≡ head ++ (payload ++ rest)
   pub behind : behind_head header levels ≡ Some more
-  pub ends : EndAll more rest
+  pub ends : LevelsTo S more rest z
 
--- a head without a payload
-plain-first : (header : Header) (h b : List ℕ) (levels more : List Level) → SpellsHeader h header →
-    IsPayloadOf header [] → behind_head header levels ≡ Some more → EndAll more b →
-    HeadFirst levels (h ++ b)
-plain-first header h b levels more spelled content behind ends = record {
-  header = header;
-  head = h;
-  payload = [];
-  rest = b;
-  more = more;
-  spelled = spelled;
-  content = content;
-  whole = refl;
-  behind = behind;
-  ends = ends;
-}
-
--- a head that opens a level
-opening-first : (header : Header) (level : Level) (h r s b : List ℕ) (levels more : List Level) →
-    SpellsHeader h header → IsPayloadOf header [] →
-    behind_head header levels ≡ opened level levels → behind_item levels ≡ Some more →
-    Ends level r → s ≡ h ++ r → EndAll more b → HeadFirst levels (s ++ b)
-opening-first header level h r s b levels more spelled content opens behind here whole ends =
-    let all : s ++ b ≡ h ++ (r ++ b) = ap (λ (c : List ℕ). c ++ b) whole ∙ append_assoc h r b in
-    subst (HeadFirst levels) (sym all)
-    (plain-first header h (r ++ b) levels (level ∷ more) spelled content
-    (opens ∙ ap (option_map (λ rest. level ∷ rest)) behind) (r, b, here, ends, refl))
-
--- a string of definite length
-string-first : (header : Header) (h p s b : List ℕ) (levels more : List Level) →
-    SpellsHeader h header → IsPayloadOf header p → s ≡ h ++ p →
-    behind_head header levels ≡ Some more → EndAll more b → HeadFirst levels (s ++ b)
-string-first header h p s b levels more spelled content whole behind ends = record {
+head-first : (S : Standing) (header : Header) (h p b c z : List ℕ) (levels more : List Level) →
+    SpellsHeader h header → IsPayloadOf header p → b ≡ h ++ (p ++ c) → behind_head header levels ≡ Some more →
+    LevelsTo S more c z → HeadTo S levels b z
+head-first S header h p b c z levels more spelled content whole behind ends = record {
   header = header;
   head = h;
   payload = p;
-  rest = b;
+  rest = c;
   more = more;
   spelled = spelled;
   content = content;
-  whole = ap (λ (c : List ℕ). c ++ b) whole ∙ append_assoc h p b;
+  whole = whole;
   behind = behind;
   ends = ends;
 }
 
 -- a definite string may stand where an item may
-item-bytes : (levels more : List Level) → behind_item levels ≡ Some more →
-    behind_bytes levels ≡ Some more
+item-bytes : (levels more : List Level) → behind_item levels ≡ Some more → behind_bytes levels ≡ Some more
 item-bytes (ByteChunks ∷ levels) more behind = absurd cc
 item-bytes levels more behind = behind
 
-item-text : (levels more : List Level) → behind_item levels ≡ Some more →
-    behind_text levels ≡ Some more
+item-text : (levels more : List Level) → behind_item levels ≡ Some more → behind_text levels ≡ Some more
 item-text (TextChunks ∷ levels) more behind = absurd cc
 item-text levels more behind = behind
 
 -- an item begins with its head
-item-first : (i : Item) (s b : List ℕ) (levels more : List Level) → Spells s i →
-    behind_item levels ≡ Some more → EndAll more b → HeadFirst levels (s ++ b)
-item-first (unsigned n) s b levels more spelled behind ends =
-    plain-first (heads.Positive n) s b levels more spelled refl behind ends
-item-first (negative n) s b levels more spelled behind ends =
-    plain-first (heads.Negative n) s b levels more spelled refl behind ends
-item-first (bytes false p) s b levels more (h, head, allowed, whole) behind ends =
-    string-first (heads.Bytes (Some (length p))) h p s b levels more head (refl, allowed) whole
-    (item-bytes levels more behind) ends
-item-first (bytes true p) s b levels more (ps, r, parts, same, whole) behind ends =
-    opening-first (heads.Bytes None) ByteChunks (open_byte 2 ∷ []) (r ++ (255 ∷ [])) s b levels
-    more refl refl refl behind (ps, r, parts, refl) whole ends
-item-first (text false p) s b levels more (h, head, allowed, whole) behind ends =
-    string-first (heads.Text (Some (length p))) h p s b levels more head (refl, allowed) whole
-    (item-text levels more behind) ends
-item-first (text true p) s b levels more (ps, r, parts, same, whole) behind ends =
-    opening-first (heads.Text None) TextChunks (open_byte 3 ∷ []) (r ++ (255 ∷ [])) s b levels
-    more refl refl refl behind (ps, r, parts, refl) whole ends
-item-first (array false is) s b levels more (r, spelled, (h, head, whole)) behind ends =
-    opening-first (heads.Array (Some (items_count is))) (Items (items_count is)) h r s b levels
-    more head refl refl behind (is, refl, spelled) whole ends
-item-first (array true is) s b levels more (r, spelled, whole) behind ends =
-    opening-first (heads.Array None) OpenItems (open_byte 4 ∷ []) (r ++ (255 ∷ [])) s b levels
-    more refl refl refl behind (is, r, spelled, refl) whole ends
-item-first (map false ps) s b levels more (r, spelled, (h, head, whole)) behind ends =
-    opening-first (heads.Map (Some (pairs_count ps))) (Items (pairs_count ps + pairs_count ps)) h
-    r s b levels more head refl refl behind (pairs-items ps r spelled) whole ends
-item-first (map true ps) s b levels more (r, spelled, whole) behind ends =
-    opening-first (heads.Map None) OpenKeys (open_byte 5 ∷ []) (r ++ (255 ∷ [])) s b levels
-    more refl refl refl behind (ps, r, spelled, refl) whole ends
-item-first (tag n i) s b levels more (h, r, head, spelled, whole) behind ends =
-    opening-first (heads.Tag n) (Items 1) h r s b levels more head refl refl behind
-    (item i no_items, refl, (r, [], spelled, refl, sym (append-nil r))) whole ends
-item-first (simple n) s b levels more spelled behind ends =
-    plain-first (heads.Simple n) s b levels more spelled refl behind ends
-item-first (float raw) s b levels more spelled behind ends =
-    plain-first (heads.Float (length raw)) s b levels more (raw, spelled, refl) refl behind ends
+module _ (S : Standing) (b c z : List ℕ) (levels more : List Level) (behind : behind_item levels ≡ Some more)
+    (ends : LevelsTo S more c z) where
+  split-at : (h p s : List ℕ) → b ≡ s ++ c → s ≡ h ++ p → b ≡ h ++ (p ++ c)
+  split-at h p s e f = e ∙ ap (λ (x : List ℕ). x ++ c) f ∙ append_assoc h p c
 
--- a break
-break-first : (s b : List ℕ) (levels more : List Level) → s ≡ 255 ∷ [] →
-    behind_break levels ≡ Some more → EndAll more b → HeadFirst levels (s ++ b)
-break-first s b levels more whole behind ends =
-    subst (λ (c : List ℕ). HeadFirst levels (c ++ b)) (sym whole)
-    (plain-first heads.Break (255 ∷ []) b levels more refl refl behind ends)
+  -- the head opens a level
+  opening : (header : Header) (level : Level) (h r s : List ℕ) → SpellsHeader h header → IsPayloadOf header [] →
+      behind_head header levels ≡ opened level levels → b ≡ s ++ c → s ≡ h ++ r →
+      LevelTo S (length more) level (r ++ c) c → HeadTo S levels b z
+  opening header level h r s spelled none opens split whole here =
+      head-first S header h [] b (r ++ c) z levels (level ∷ more) spelled none (split-at h r s split whole)
+      (opens ∙ ap (option_map (λ rest. level ∷ rest)) behind) (c, here, ends)
 
--- nothing more, and the break
-just-break : (r s : List ℕ) → r ≡ [] → s ≡ r ++ (255 ∷ []) → s ≡ 255 ∷ []
-just-break r s none whole = whole ∙ ap (λ (c : List ℕ). c ++ (255 ∷ [])) none
+  -- where so many levels are around an item, one more is around what it holds
+  inside : (May : ℕ → Type 0) → May (suc (around levels)) → May (length more)
+  inside May w = subst May (sym (behind-around levels more behind)) w
 
--- s holds t and then what ends a level, and the rest of what ends the levels is b
-regrouped : (s t u r v b : List ℕ) → s ≡ r ++ v → r ≡ t ++ u → s ++ b ≡ t ++ ((u ++ v) ++ b)
-regrouped s t u r v b whole split =
-    ap (λ (c : List ℕ). c ++ b) (whole ∙ ap (λ (c : List ℕ). c ++ v) split) ∙ simp append_assoc
+  item-first : (i : Item) (s : List ℕ) → Spells s i → b ≡ s ++ c → S.May (around levels) i → HeadTo S levels b z
+  item-first (unsigned n) s spelled split w =
+      head-first S (heads.Positive n) s [] b c z levels more spelled refl split behind ends
+  item-first (negative n) s spelled split w =
+      head-first S (heads.Negative n) s [] b c z levels more spelled refl split behind ends
+  item-first (bytes false p) s (h, head, allowed, whole) split w =
+      head-first S (heads.Bytes (Some (length p))) h p b c z levels more head (refl, allowed)
+      (split-at h p s split whole) (item-bytes levels more behind) ends
+  item-first (bytes true p) s (ps, r, parts, same, whole) split w =
+      opening (heads.Bytes None) ByteChunks (open_byte 2 ∷ []) (r ++ (255 ∷ [])) s refl refl refl split whole
+      (ps, r, parts, append_assoc r (255 ∷ []) c)
+  item-first (text false p) s (h, head, allowed, whole) split w =
+      head-first S (heads.Text (Some (length p))) h p b c z levels more head (refl, allowed)
+      (split-at h p s split whole) (item-text levels more behind) ends
+  item-first (text true p) s (ps, r, parts, same, whole) split w =
+      opening (heads.Text None) TextChunks (open_byte 3 ∷ []) (r ++ (255 ∷ [])) s refl refl refl split whole
+      (ps, r, parts, append_assoc r (255 ∷ []) c)
+  item-first (array false is) s (r, spelled, (h, head, whole)) split w =
+      opening (heads.Array (Some (items_count is))) (Items (items_count is)) h r s head refl refl split whole
+      (items-to S (length more) is r c spelled (inside (λ n. S.MayAll n is) ((S.arrays (around levels) false is).1 w)))
+  item-first (array true is) s (r, spelled, whole) split w =
+      opening (heads.Array None) OpenItems (open_byte 4 ∷ []) (r ++ (255 ∷ [])) s refl refl refl split whole (
+        items_count is,
+        subst (λ (x : List ℕ). ItemsTo S (length more) (items_count is) x (255 ∷ c))
+            (sym (append_assoc r (255 ∷ []) c)) (items-to S (length more) is r (255 ∷ c) spelled
+            (inside (λ n. S.MayAll n is) ((S.arrays (around levels) true is).1 w))),
+      )
+  item-first (map false ps) s (r, spelled, (h, head, whole)) split w =
+      opening (heads.Map (Some (pairs_count ps))) (Items (pairs_count ps + pairs_count ps)) h r s head refl refl
+      split whole
+      (pairs-to S (length more) ps r c spelled (inside (λ n. S.MayPairs n ps) ((S.maps (around levels) false ps).1 w)))
+  item-first (map true ps) s (r, spelled, whole) split w =
+      opening (heads.Map None) OpenKeys (open_byte 5 ∷ []) (r ++ (255 ∷ [])) s refl refl refl split whole (
+        pairs_count ps,
+        subst (λ (x : List ℕ). ItemsTo S (length more) (pairs_count ps + pairs_count ps) x (255 ∷ c))
+            (sym (append_assoc r (255 ∷ []) c)) (pairs-to S (length more) ps r (255 ∷ c) spelled
+            (inside (λ n. S.MayPairs n ps) ((S.maps (around levels) true ps).1 w))),
+      )
+  item-first (tag t i) s (h, r, head, spelled, whole) split w =
+      opening (heads.Tag t) (Items 1) h r s head refl refl split whole
+      (c, (i, r, spelled, refl, inside (λ n. S.May n i) ((S.tags (around levels) t i).1 w)), refl)
+  item-first (simple n) s spelled split w =
+      head-first S (heads.Simple n) s [] b c z levels more spelled refl split behind ends
+  item-first (float raw) s spelled split w =
+      head-first S (heads.Float (length raw)) s [] b c z levels more (raw, spelled, refl) refl split behind ends
 
-level-first : (level : Level) (levels : List Level) (s b : List ℕ) → AreOpen (level ∷ levels) →
-    Ends level s → EndAll levels b → HeadFirst (level ∷ levels) (s ++ b)
-level-first (Items zero) levels s b some here ends = absurd some
-level-first (Items (suc n)) levels s b some (no_items, count, spelled) ends = absurd cc
-level-first (Items (suc n)) levels s b some (item i is, count, (t, u, one, others, split)) ends =
-    let so_many : items_count is ≡ n = cc count in
-    subst (HeadFirst (Items (suc n) ∷ levels))
-    (sym (ap (λ (c : List ℕ). c ++ b) split ∙ append_assoc t u b))
-    (item-first i t (u ++ b) (Items (suc n) ∷ levels) (Items n ∷ levels) one refl
-    (u, b, (is, so_many, others), ends, refl))
-level-first OpenItems levels s b some (no_items, r, none, whole) ends =
-    break-first s b (OpenItems ∷ levels) levels (just-break r s none whole) refl ends
-level-first OpenItems levels s b some (item i is, r, (t, u, one, others, split), whole) ends =
-    subst (HeadFirst (OpenItems ∷ levels)) (sym (regrouped s t u r (255 ∷ []) b whole split))
-    (item-first i t ((u ++ (255 ∷ [])) ++ b) (OpenItems ∷ levels) (OpenItems ∷ levels) one refl
-    (u ++ (255 ∷ []), b, (is, u, others, refl), ends, refl))
-level-first OpenKeys levels s b some (no_pairs, r, none, whole) ends =
-    break-first s b (OpenKeys ∷ levels) levels (just-break r s none whole) refl ends
-level-first OpenKeys levels s b some (pair k v ps, r, (t, u, w, key, value, others, split), whole)
-    ends =
-    subst (HeadFirst (OpenKeys ∷ levels))
-    (sym (regrouped s t (u ++ w) r (255 ∷ []) b whole split))
-    (item-first k t (((u ++ w) ++ (255 ∷ [])) ++ b) (OpenKeys ∷ levels) (OpenValues ∷ levels) key
-    refl (
-      (u ++ w) ++ (255 ∷ []),
-      b,
-      (v, u, w ++ (255 ∷ []), value, (ps, w, others, refl), append_assoc u w (255 ∷ [])),
-      ends,
-      refl,
-    ))
-level-first OpenValues levels s b some (v, t, u, value, pairs, split) ends =
-    subst (HeadFirst (OpenValues ∷ levels))
-    (sym (ap (λ (c : List ℕ). c ++ b) split ∙ append_assoc t u b))
-    (item-first v t (u ++ b) (OpenValues ∷ levels) (OpenKeys ∷ levels) value refl
-    (u, b, pairs, ends, refl))
-level-first ByteChunks levels s b some ([], r, none, whole) ends =
-    break-first s b (ByteChunks ∷ levels) levels (just-break r s none whole) refl ends
-level-first ByteChunks levels s b some (
-  p ∷ ps,
-  r,
-  (t, u, (h, head, allowed, is), parts, split),
-  whole,
-) ends =
-    subst (HeadFirst (ByteChunks ∷ levels)) (sym (regrouped s t u r (255 ∷ []) b whole split))
-    (string-first (heads.Bytes (Some (length p))) h p t ((u ++ (255 ∷ [])) ++ b)
-    (ByteChunks ∷ levels) (ByteChunks ∷ levels) head (refl, allowed) is refl
-    (u ++ (255 ∷ []), b, (ps, u, parts, refl), ends, refl))
-level-first TextChunks levels s b some ([], r, none, whole) ends =
-    break-first s b (TextChunks ∷ levels) levels (just-break r s none whole) refl ends
-level-first TextChunks levels s b some (
-  p ∷ ps,
-  r,
-  (t, u, (h, head, allowed, is), parts, split),
-  whole,
-) ends =
-    subst (HeadFirst (TextChunks ∷ levels)) (sym (regrouped s t u r (255 ∷ []) b whole split))
-    (string-first (heads.Text (Some (length p))) h p t ((u ++ (255 ∷ [])) ++ b)
-    (TextChunks ∷ levels) (TextChunks ∷ levels) head (refl, allowed) is refl
-    (u ++ (255 ∷ []), b, (ps, u, parts, refl), ends, refl))
+module _ (S : Standing) where
+  part-first : (kind : StringKind) (level : Level) (levels : List Level) (h p c b z : List ℕ) →
+      IsHead h (string_major kind) (length p) → IsAllowed kind p → b ≡ h ++ (p ++ c) → level ≡ parts_of kind →
+      LevelsTo S (level ∷ levels) c z → HeadTo S (level ∷ levels) b z
+  part-first of_bytes level levels h p c b z head allowed whole is ends =
+      head-first S (heads.Bytes (Some (length p))) h p b c z (level ∷ levels) (level ∷ levels) head (refl, allowed)
+      whole (subst (λ k. behind_bytes (k ∷ levels) ≡ Some (k ∷ levels)) (sym is) refl) ends
+  part-first of_text level levels h p c b z head allowed whole is ends =
+      head-first S (heads.Text (Some (length p))) h p b c z (level ∷ levels) (level ∷ levels) head (refl, allowed)
+      whole (subst (λ k. behind_text (k ∷ levels) ≡ Some (k ∷ levels)) (sym is) refl) ends
 
-pub front-of-end : (levels : List Level) (x : List ℕ) → AreOpen levels → EndAll levels x →
-    HeadFirst levels x
-front-of-end [] x some ends = absurd some
-front-of-end (level ∷ levels) x some (s, r, here, ends, whole) =
-    subst (HeadFirst (level ∷ levels)) (sym whole) (level-first level levels s r some here ends)
+  pub front : (levels : List Level) (b z : List ℕ) → AreOpen levels → LevelsTo S levels b z → HeadTo S levels b z
+  front [] b z some ends = absurd some
+  front (level ∷ levels) b z some ends = by (first-of S level levels b z some ends)
+    where
+      by : FirstOf S level levels b z → HeadTo S (level ∷ levels) b z
+      by (of_item c more (i, s, spelled, whole, w) behind rest) =
+          item-first S b c z (level ∷ levels) more behind rest i s spelled whole w
+      by (of_part kind h p c head allowed whole is rest) =
+          part-first kind level levels h p c b z head allowed whole is rest
+      by (of_break c whole behind rest) =
+          head-first S heads.Break (255 ∷ []) [] b c z (level ∷ levels) levels refl refl whole behind rest
 
 -- ---- that head is the one at the front
 
@@ -276,34 +256,49 @@ rests-same p q a b long e =
     sym (drop-append_seam p a) ∙ ap (drop (length p)) e ∙
     ap (λ n. drop n (q ++ b)) long ∙ drop-append_seam q b
 
-pub behind-ends : (header : Header) (h payload : List ℕ) (levels more : List Level)
-    (b : List ℕ) → SpellsHeader h header → IsPayloadOf header payload →
-    behind_head header levels ≡ Some more → EndAll levels (h ++ (payload ++ b)) → EndAll more b
-behind-ends header h payload levels more b spelled content behind ends =
-    let f = front-of-end levels (h ++ (payload ++ b)) (behind-open header levels more behind)
-    ends in
-    let one = one_header_at_front h f.head (payload ++ b) (f.payload ++ f.rest) header f.header
-    spelled f.spelled f.whole in
-    let long = payload-lengths f.header payload f.payload
-    (subst (λ k. IsPayloadOf k payload) one.2 content) f.content in
-    let rest : b ≡ f.rest = rests-same payload f.payload b f.rest long one.1 in
-    let same : Some more ≡ Some f.more =
-    sym behind ∙ ap (λ k. behind_head k levels) one.2 ∙ f.behind in
-    let levels_same : more ≡ f.more = cc same in
-    subst (EndAll more) (sym rest) (subst (λ l. EndAll l f.rest) (sym levels_same) f.ends)
+module _ (S : Standing) where
+  pub behind-to : (header : Header) (h p y z : List ℕ) (levels more : List Level) → SpellsHeader h header →
+      IsPayloadOf header p → behind_head header levels ≡ Some more → LevelsTo S levels (h ++ (p ++ y)) z →
+      LevelsTo S more y z
+  behind-to header h p y z levels more spelled content behind ends =
+      let f = front S levels (h ++ (p ++ y)) z (behind-open header levels more behind) ends in
+      let one = one_header_at_front h f.head (p ++ y) (f.payload ++ f.rest) header f.header spelled f.spelled
+      f.whole in
+      let long = payload-lengths f.header p f.payload (subst (λ k. IsPayloadOf k p) one.2 content) f.content in
+      let rest : y ≡ f.rest = rests-same p f.payload y f.rest long one.1 in
+      let same : Some more ≡ Some f.more = sym behind ∙ ap (λ k. behind_head k levels) one.2 ∙ f.behind in
+      let levels_same : f.more ≡ more = cc same in
+      subst (λ (x : List ℕ). LevelsTo S more x z) (sym rest) (subst (λ k. LevelsTo S k f.rest z) levels_same f.ends)
 
--- ---- what is open behind a head
+  -- no head stands where it may not
+  pub misplaced : (header : Header) (h y z : List ℕ) (levels : List Level) → SpellsHeader h header →
+      behind_head header levels ≡ None → AreOpen levels → LevelsTo S levels (h ++ y) z → ⊥
+  misplaced header h y z levels spelled none some ends =
+      let f = front S levels (h ++ y) z some ends in
+      let one = one_header_at_front h f.head y (f.payload ++ f.rest) header f.header spelled f.spelled f.whole in
+      let e : None ≡ Some f.more = sym none ∙ ap (λ k. behind_head k levels) one.2 ∙ f.behind in
+      absurd cc
 
-pub open-behind : (c : List ℕ) (header : Header) (h payload : List ℕ)
-    (levels more : List Level) → SpellsHeader h header → IsPayloadOf header payload →
-    behind_head header levels ≡ Some more → IsOpenBehind c levels →
-    IsOpenBehind (c ++ (h ++ payload)) more
+-- ---- what ends the levels, with nothing behind it
+
+pub front-of-end : (levels : List Level) (x : List ℕ) → AreOpen levels → EndAll levels x →
+    HeadTo anywhere levels x []
+front-of-end levels x some ends = front anywhere levels x [] some (end-to levels x ends)
+
+pub ends-behind : (header : Header) (h payload : List ℕ) (levels more : List Level) (b : List ℕ) →
+    SpellsHeader h header → IsPayloadOf header payload → behind_head header levels ≡ Some more → EndAll more b →
+    EndAll levels (h ++ (payload ++ b))
+ends-behind header h payload levels more b spelled content behind ends = to-end levels (h ++ (payload ++ b))
+    (to-behind anywhere header h payload b [] levels more spelled content behind (λ t. tt) (end-to more b ends))
+
+pub open-behind : (c : List ℕ) (header : Header) (h payload : List ℕ) (levels more : List Level) →
+    SpellsHeader h header → IsPayloadOf header payload → behind_head header levels ≡ Some more →
+    IsOpenBehind c levels → IsOpenBehind (c ++ (h ++ payload)) more
 open-behind c header h payload levels more spelled content behind o = record {
   complete = λ b e. subst AreItem (sym (placed b))
-      (o.complete (h ++ (payload ++ b))
-      (ends-behind header h payload levels more b spelled content behind e));
-  only = λ b i. behind-ends header h payload levels more b spelled content behind
-      (o.only (h ++ (payload ++ b)) (subst AreItem (placed b) i));
+      (o.complete (h ++ (payload ++ b)) (ends-behind header h payload levels more b spelled content behind e));
+  only = λ b i. to-end more b (behind-to anywhere header h payload b [] levels more spelled content behind
+      (end-to levels (h ++ (payload ++ b)) (o.only (h ++ (payload ++ b)) (subst AreItem (placed b) i))));
 }
   where
     placed : (b : List ℕ) → (c ++ (h ++ payload)) ++ b ≡ c ++ (h ++ (payload ++ b))

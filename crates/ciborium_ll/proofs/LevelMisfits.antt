@@ -17,8 +17,8 @@ use Rattle.ciborium_ll.specs.Levels.{EndAll, AreItem, IsOpenBehind, IsPayloadOf,
 use Rattle.ciborium_ll.specs.Levels.{incomplete}
 use Rattle.ciborium_ll.specs.Refusal.{argument_length, is_reserved, is_low_simple, is_ill_formed}
 use Rattle.ciborium_ll.proofs.HeadAnswers.{Facts, header-begins}
-use Rattle.ciborium_ll.proofs.LevelEnds.{can-end}
-use Rattle.ciborium_ll.proofs.LevelFronts.{are-open, HeadFirst, front-of-end}
+use Rattle.ciborium_ll.proofs.LevelEnds.{anywhere, can-end}
+use Rattle.ciborium_ll.proofs.LevelFronts.{are-open, HeadTo, front-of-end}
 use Rattle.ciborium_ll.proofs.OneHeader.{one_header_at_front}
 use Rattle.ciborium_ll.proofs.UniqueSpelling.{none_begins_another}
 use Rattle.ciborium_ll.proofs.UsableHeads.{information-below}
@@ -118,7 +118,7 @@ text-begun n r t p q e long utf8 =
 
 -- ---- what misfits ends nothing
 
-misfit-front : (levels : List Level) (b t x z : List ℕ) → Misfits levels b → HeadFirst levels x →
+misfit-front : (levels : List Level) (b t x z : List ℕ) → Misfits levels b → HeadTo anywhere levels x [] →
     b ++ t ≡ x ++ z → ⊥
 misfit-front levels b t x z misfit f e = by misfit
   where

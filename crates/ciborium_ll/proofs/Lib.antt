@@ -18,6 +18,7 @@ pub mod MoreBytes
 pub mod Unread
 pub mod FirstHeads
 pub mod KeptLevels
+pub mod LevelsTo
 pub mod LevelEnds
 pub mod LevelHeads
 pub mod LevelFronts

@@ -17,7 +17,7 @@ use Rattle.ciborium_ll.specs.ReaderSteps as reading
 use Rattle.ciborium_ll.specs.ReaderSteps.{IsFillTaken, IsHeadTaken}
 use Rattle.ciborium_ll.specs.Refusal.{Refusal, io, syntax, too_long, argument_length, payload_length, is_reserved}
 use Rattle.ciborium_ll.specs.Refusal.{is_low_simple, initial_refusal, HeadRefuses, IsUsable, head_refusal}
-use Rattle.ciborium_ll.proofs.HeadAnswers.{header-begins, header-fits, Begins, Facts}
+use Rattle.ciborium_ll.proofs.HeadAnswers.{header-begins, header-fits, Begins, Facts, head-some}
 use Rattle.ciborium_ll.proofs.MoreBytes.{payload_length-more}
 use Rattle.ciborium_ll.proofs.OneHeader.{one_header_at_front}
 use Rattle.ciborium_ll.proofs.UsableHeads.{and_false}
@@ -233,12 +233,6 @@ weight-most (header.Tag n) = omega arith
 weight-most (header.Simple n) = omega arith
 weight-most (header.Float n) = omega arith
 weight-most header.Break = omega arith
-
-pub head-some : (b : List ℕ) (h : Header) → SpellsHeader b h → 0 < length b
-head-some b h s = by (header-begins b h s)
-  where
-    by : Begins b (announced_length h) → 0 < length b
-    by (m, a, c, e, f) = let len : length b ≡ suc (length c) = ap length e in omega (arith, len)
 
 pub fewer-bytes : (E : Type 0) {S W : Type 0} (remaining : S → Option (List ℕ)) (d e : Decoder S W) (h : Header) →
     Takes remaining d e (λ x. IsHeadTaken {E = E} x d.counter.count (Ok h)) →

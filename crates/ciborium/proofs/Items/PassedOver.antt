@@ -12,7 +12,10 @@ use Rattle.ciborium_ll.specs.Header.{SpellsHeader}
 use Rattle.ciborium_ll.specs.Item.{Item}
 use Rattle.ciborium_ll.specs.Levels.{IsPayloadOf, behind_head, behind_item, incomplete, levels_by, opened}
 use Rattle.ciborium_ll.specs.Spells.{Spells}
-use Rattle.ciborium_ll.proofs.LevelFronts.{AreOpen, are-open}
+use Rattle.ciborium_ll.proofs.LevelFronts.{AreOpen, are-open, behind-to, front, misplaced}
+use Rattle.ciborium_ll.proofs.LevelHeads.{opened-inner}
+use Rattle.ciborium_ll.proofs.LevelsTo.{around, behind-around, done, from-incomplete, longer, not-done, start, started}
+use Rattle.ciborium_ll.proofs.LevelsTo.{to-incomplete}
 use Rattle.ciborium_ll.proofs.OneHeader.{one_header_at_front}
 use Rattle.ciborium_value.specs.Nesting.{nesting}
 use Rattle.ciborium_value.specs.Sources.{Fault, IsFaultOf, IsOutsideFault, of_kind, of_nesting, of_syntax, of_memory}
@@ -23,10 +26,7 @@ use Rattle.ciborium.specs.inner.FrontItems.{DeniesHead}
 use Rattle.ciborium.specs.inner.PassedOver.{LevelsTo, HasRoom, PassesHeads}
 use Rattle.ciborium.specs.inner.PassedOver.{IsLevelFault, DeniesLevels, limit_if, takes_one}
 use Rattle.ciborium.specs.inner.PassedOver.{IsBignumBehind, TakesBignum, DeniesBignum, TakesPayload, DeniesPayload}
-use Rattle.ciborium.proofs.Items.PassedItems.{around, behind-around, done, from-incomplete, longer, not-done, start}
-use Rattle.ciborium.proofs.Items.PassedItems.{started, to-incomplete}
-use Rattle.ciborium.proofs.Items.PassedHeads.{announced, opened-inner, to-behind}
-use Rattle.ciborium.proofs.Items.PassedLevels.{behind-to, folded, front, misplaced, to-folded}
+use Rattle.ciborium.proofs.Items.PassedItems.{announced, folded, to-folded, to-within, within}
 use Rattle.ciborium.proofs.Items.PassedRoom.{no-room, no-room-tag}
 
 pub open-levels : (level : Level) (around : List Level) → incomplete (level ∷ around) ≡ level ∷ around →
@@ -36,22 +36,12 @@ open-levels level around e = are-open (level ∷ around) e (λ n. absurd cc)
 -- ---- faults
 
 outside-level : (end : ℕ) (fault : Fault) (W : Type 0) → IsOutsideFault end fault → IsLevelFault end fault W
-outside-level end (of_kind k) W h = h
 outside-level end of_nesting W h = absurd h
-outside-level end of_syntax W h = h
-outside-level end of_memory W h = h
-outside-level end of_device W h = h
-outside-level end of_end W h = h
-outside-level end of_length W h = h
+outside-level end fault W h = h
 
 level-fault : (end : ℕ) (fault : Fault) (V W : Type 0) → (W → V) → IsLevelFault end fault V → IsLevelFault end fault W
-level-fault end (of_kind k) V W f h = h
 level-fault end of_nesting V W f h = λ w. h (f w)
-level-fault end of_syntax V W f h = h
-level-fault end of_memory V W f h = h
-level-fault end of_device V W f h = h
-level-fault end of_end V W f h = h
-level-fault end of_length V W f h = h
+level-fault end fault V W f h = h
 
 -- ---- a head at the front
 
@@ -71,7 +61,7 @@ record Behind (levels : List Level) (header : Header) (y z : List ℕ) : Type 0 
 behind-front : (levels : List Level) (header : Header) (x y z : List ℕ) → SpellsHeader x header → AreOpen levels →
     LevelsTo None levels (x ++ y) z → Behind levels header y z
 behind-front levels header x y z spelled some to =
-    let f = front None levels (x ++ y) z some to in
+    let f = front (within None) levels (x ++ y) z some to in
     let one = one_header_at_front x f.head y (f.payload ++ f.rest) header f.header spelled f.spelled f.whole in record {
       payload = f.payload;
       rest = f.rest;
@@ -86,8 +76,8 @@ pub head-outside : {S : Type 0} (IsUnread : S → List ℕ → Type 0) (End : S 
     (levels : List Level) → AreOpen levels → DeniesHead IsUnread End old fault → (y z : List ℕ) (end : ℕ) →
     IsUnread old y → LevelsTo None levels y z → End old ≤ end + length z → IsOutsideFault end fault
 head-outside IsUnread End old fault levels some denied y z end u to fits =
-    let f = front None levels y z some to in
-    let long = longer None f.more f.rest z f.ends in
+    let f = front (within None) levels y z some to in
+    let long = longer (within None) f.more f.rest z f.ends in
     let size = announced f.header f.payload f.content in
     let sum = length-append f.payload f.rest in
     denied y f.head (f.payload ++ f.rest) f.header (length z) end u f.spelled f.whole (omega (arith, long, size, sum))
@@ -102,7 +92,7 @@ module _ (P Q : List ℕ → Type 0) (all ahead : ℕ) (header : Header) (takes 
       let (x, w, spelled, split, v) = takes y u in
       let b = behind-front levels header x w z spelled some (subst (λ c. LevelsTo None levels c z) split to) in
       let at = same y u in
-      denied w b.payload b.rest (length z) end v b.content b.whole (longer None b.more b.rest z b.ends)
+      denied w b.payload b.rest (length z) end v b.content b.whole (longer (within None) b.more b.rest z b.ends)
       (omega (arith, at, fits))
 
 -- ---- heads that were refused
@@ -119,7 +109,8 @@ module _ (P : List ℕ → Type 0) (all m : ℕ) (levels : List Level) (fault : 
       behind_head header levels ≡ None → DeniesLevels P all m levels fault
   misplaced-denied Q header takes none y z end u to fits =
       let (x, w, spelled, split, v) = takes y u in
-      absurd (misplaced None header x w z levels spelled none some (subst (λ c. LevelsTo None levels c z) split to))
+      absurd (misplaced (within None) header x w z levels spelled none some
+      (subst (λ c. LevelsTo None levels c z) split to))
 
   pub payload-denied : (Q : List ℕ → Type 0) (ahead : ℕ) (header : Header) → TakesFront P Q header →
       ((y : List ℕ) → P y → ahead ≡ all) → DeniesPayload Q ahead header fault → DeniesLevels P all m levels fault
@@ -157,26 +148,14 @@ longer-by-one (heads.Array None) levels more one e = opened-longer _ levels more
 longer-by-one (heads.Map (Some n)) levels more one e = opened-longer (Items (n + n)) levels more e
 longer-by-one (heads.Map None) levels more one e = opened-longer _ levels more e
 longer-by-one (heads.Tag n) levels more one e = opened-longer (Items 1) levels more e
-longer-by-one (heads.Positive n) levels more one e = absurd cc
-longer-by-one (heads.Negative n) levels more one e = absurd cc
-longer-by-one (heads.Bytes n) levels more one e = absurd cc
-longer-by-one (heads.Text n) levels more one e = absurd cc
-longer-by-one (heads.Simple n) levels more one e = absurd cc
-longer-by-one (heads.Float n) levels more one e = absurd cc
-longer-by-one heads.Break levels more one e = absurd cc
+longer-by-one header levels more one e = absurd cc
 
 -- it has no payload
 one-plain : (header : Header) (p : List ℕ) → takes_one header ≡ true → IsPayloadOf header p → p ≡ []
 one-plain (heads.Array n) p one content = content
 one-plain (heads.Map n) p one content = content
 one-plain (heads.Tag n) p one content = content
-one-plain (heads.Positive n) p one content = absurd cc
-one-plain (heads.Negative n) p one content = absurd cc
-one-plain (heads.Bytes n) p one content = absurd cc
-one-plain (heads.Text n) p one content = absurd cc
-one-plain (heads.Simple n) p one content = absurd cc
-one-plain (heads.Float n) p one content = absurd cc
-one-plain heads.Break p one content = absurd cc
+one-plain header p one content = absurd cc
 
 -- a step that is none of the others ends the innermost level
 pub is-end : (one : Step) (o : Option (List Level)) (levels : List Level) → ((l : Level) → ¬ (one ≡ step.Within l)) →
@@ -215,10 +194,10 @@ module _ (P Q R : List ℕ → Type 0) (m : ℕ) where
         r,
         t,
         λ limited z. (
-          λ to. behind-to (limit_if limited m) header x p r z levels more spelled content behind
+          λ to. behind-to (within (limit_if limited m)) header x p r z levels more spelled content behind
               (subst (λ c. LevelsTo (limit_if limited m) levels c z) whole to),
           λ to. subst (λ c. LevelsTo (limit_if limited m) levels c z) (sym whole)
-              (to-behind (limit_if limited m) header x p r z levels more spelled content behind (room limited) to),
+              (to-within (limit_if limited m) header x p r z levels more spelled content behind (room limited) to),
         ),
       )
 
@@ -267,8 +246,8 @@ module _ (P Q R : List ℕ → Type 0) (m : ℕ) where
       let (others, item_behind, level_is) = opened-inner (Items 1) (level ∷ levels) (inner ∷ next)
       (subst (λ h. behind_head h (level ∷ levels) ≡ Some (inner ∷ next)) is behind) in
       let inner_is : inner ∷ next ≡ Items 1 ∷ next = ap (λ i. i ∷ next) (cc level_is) in
-      subst (λ ls. LevelsTo None ls r z) inner_is (behind-to None header x p r z (level ∷ levels) (inner ∷ next) spelled
-      content behind (subst (λ c. LevelsTo None (level ∷ levels) c z) (split ∙ ap (λ (c : List ℕ). x ++ c) rest) to)) in
+      subst (λ ls. LevelsTo None ls r z) inner_is (behind-to (within None) header x p r z (level ∷ levels) (inner ∷ next)
+      spelled content behind (subst (λ c. LevelsTo None (level ∷ levels) c z) (split ∙ ap (λ (c : List ℕ). x ++ c) rest) to)) in
       level-fault end fault (IsBignumBehind header r) (LevelsTo (Some m) (level ∷ levels) y z)
       (λ within. stands header x r z spelled one (subst (λ c. LevelsTo (Some m) (level ∷ levels) c z) whole within))
       (denied r z end next t inside (omega (arith, at, fits)))
@@ -288,13 +267,7 @@ module _ (P Q R : List ℕ → Type 0) (m : ℕ) where
           (λ t e. absurd cc) spelled some refl full within)
       stands (heads.Map n) x r z spelled one within = absurd (no-room (Some m) m (heads.Map n) x r z level levels one
           (λ t e. absurd cc) spelled some refl full within)
-      stands (heads.Positive n) x r z spelled one within = absurd cc
-      stands (heads.Negative n) x r z spelled one within = absurd cc
-      stands (heads.Bytes n) x r z spelled one within = absurd cc
-      stands (heads.Text n) x r z spelled one within = absurd cc
-      stands (heads.Simple n) x r z spelled one within = absurd cc
-      stands (heads.Float n) x r z spelled one within = absurd cc
-      stands heads.Break x r z spelled one within = absurd cc
+      stands header x r z spelled one within = absurd cc
 
 -- ---- heads in a row
 
@@ -318,8 +291,8 @@ passed-incomplete P Q m a b f y u =
       w,
       v,
       λ limited z. (
-        λ to. to-incomplete (limit_if limited m) b w z ((first limited z).0 to),
-        λ to. (first limited z).1 (from-incomplete (limit_if limited m) b w z to),
+        λ to. to-incomplete (within (limit_if limited m)) b w z ((first limited z).0 to),
+        λ to. (first limited z).1 (from-incomplete (within (limit_if limited m)) b w z to),
       ),
     )
 
@@ -331,8 +304,8 @@ passed-ended P Q m a b f y u =
       w,
       v,
       λ limited z. (
-        λ to. not-done (limit_if limited m) b w z ((first limited z).0 to),
-        λ to. (first limited z).1 (done (limit_if limited m) b w z to),
+        λ to. not-done (within (limit_if limited m)) b w z ((first limited z).0 to),
+        λ to. (first limited z).1 (done (within (limit_if limited m)) b w z to),
       ),
     )
 
@@ -352,19 +325,19 @@ pub item-passed : (P Q : List ℕ → Type 0) (m : ℕ) → PassesHeads P Q m (I
     (outcome (Some m) (taken_skip i) ≡ gives (tt {0})) × Q z
 item-passed P Q m f b u =
     let (w, v, first) = f b u in
-    let (i, s, spelled, split, within) = started (Some m) b w ((first true w).1 refl) in
+    let (i, s, spelled, split, within) = started (within (Some m)) b w ((first true w).1 refl) in
     (i, s, w, spelled, split, skip-gives (Some m) i (omega (arith, within)), v)
 
 pub item-denied : (P : List ℕ → Type 0) (all m : ℕ) (fault : Fault) → DeniesLevels P all m (Items 1 ∷ []) fault →
     (b s z : List ℕ) (i : Item) (end : ℕ) → P b → Spells s i → b ≡ s ++ z → all ≤ end + length z →
     IsFaultOf end fault (outcome (Some m) (taken_skip i))
 item-denied P all m fault denied b s z i end u spelled split fits =
-    by fault (denied b z end u (start None b z (i, s, spelled, split, tt)) fits)
+    by fault (denied b z end u (start (within None) b z (i, s, spelled, split, tt)) fits)
   where
     deep : ¬ (LevelsTo (Some m) (Items 1 ∷ []) b z) → (t : Bool) → ltb m (nesting i) ≡ t →
         outcome (Some m) (taken_skip i) ≡ nests
     deep not true e = skip-nests m i (ltb-true m (nesting i) e)
-    deep not false e = absurd (not (start (Some m) b z (
+    deep not false e = absurd (not (start (within (Some m)) b z (
       i,
       s,
       spelled,

@@ -10,14 +10,13 @@ use Rattle.ciborium_ll.specs.Item.{Item, unsigned, negative, bytes, text, array,
 use Rattle.ciborium_ll.specs.Item.{items_count, pairs_count}
 use Rattle.ciborium_ll.specs.Spells.{Spells}
 use Rattle.ciborium_ll.specs.StringRefusal.{of_bytes, of_text}
-use Rattle.ciborium_ll.proofs.LevelFronts.{AreOpen}
+use Rattle.ciborium_ll.proofs.LevelFronts.{AreOpen, FirstOf, of_item, of_part, of_break, first-of}
 use Rattle.ciborium_ll.proofs.OneHeader.{one_header_at_front}
 use Rattle.ciborium_value.specs.Meaning.{folding_bytes, is_bignum_tag}
 use Rattle.ciborium_value.specs.Nesting.{Limit, IsWithin, nesting, items_nesting, pairs_nesting, tag_nesting}
 use Rattle.ciborium.specs.inner.PassedOver.{left_inside, takes_one, ItemTo, LevelsTo}
 use Rattle.ciborium.proofs.Items.ItemHeads.{header_of, same-head, tag-front}
-use Rattle.ciborium.proofs.Items.PassedItems.{folds-over}
-use Rattle.ciborium.proofs.Items.PassedLevels.{FirstOf, of_item, of_part, of_break, first-of}
+use Rattle.ciborium.proofs.Items.PassedItems.{folds-over, within}
 
 module _ (l : Limit) where
   none-left : (o : Limit) (m n k : ℕ) → o ≡ Some m → m ≤ n → IsWithin (left_inside o n) (suc k) → ⊥
@@ -28,7 +27,8 @@ module _ (l : Limit) where
   item-ahead : (header : Header) (h y z : List ℕ) (level : Level) (levels : List Level) → takes_one header ≡ true →
       SpellsHeader h header → AreOpen (level ∷ levels) → LevelsTo l (level ∷ levels) (h ++ y) z →
       (c : List ℕ) × ItemTo l (length levels) (h ++ y) c
-  item-ahead header h y z level levels takes spelled some ends = by (first-of l level levels (h ++ y) z some ends)
+  item-ahead header h y z level levels takes spelled some ends =
+      by (first-of (within l) level levels (h ++ y) z some ends)
     where
       other : (g : Header) (x r : List ℕ) → SpellsHeader x g → takes_one g ≡ false → h ++ y ≡ x ++ r → ⊥
       other g x r sp takes_none e =
@@ -37,7 +37,7 @@ module _ (l : Limit) where
           let wrong : true ≡ false = sym takes ∙ same ∙ takes_none in
           absurd cc
 
-      by : FirstOf l level levels (h ++ y) z → (c : List ℕ) × ItemTo l (length levels) (h ++ y) c
+      by : FirstOf (within l) level levels (h ++ y) z → (c : List ℕ) × ItemTo l (length levels) (h ++ y) c
       by (of_item c more one behind rest) = (c, one)
       by (of_part of_bytes x p c head allowed whole is rest) =
           absurd (other (heads.Bytes (Some (length p))) x (p ++ c) head refl whole)

@@ -12,13 +12,12 @@ use Rattle.ciborium_ll.specs.Header.{SpellsHeader}
 use Rattle.ciborium_ll.specs.ReaderSteps as reading
 use Rattle.ciborium_ll.specs.ReaderSteps.{IsHeadTaken}
 use Rattle.ciborium_ll.specs.Refusal.{Refusal, HeadRefuses, IsUsable, IsAtFront, argument_length}
-use Rattle.ciborium_ll.proofs.HeadAnswers.{header-fits}
+use Rattle.ciborium_ll.proofs.HeadAnswers.{header-fits, head-some}
 use Rattle.ciborium.specs.declared.de.error.Error.{Error}
 use Rattle.ciborium.specs.declared.de.error.Error.TheVariants as errors
 use Rattle.ciborium.specs.Errors.{from_ll}
 use Rattle.ciborium.specs.ValueAnswers.{IsRefusedBy, IsNamed, refusal_kind_of}
 use Rattle.ciborium.specs.inner.ValuesInBytes.{IsPulled, heads_by, heads_left}
-use Rattle.ciborium.proofs.Items.FrontReads.{head-some}
 
 -- the error that an error of the lowest layer becomes refuses as it does
 pub refused-from : {E : Type 0} (left : Option (List ℕ)) (e : LlError E) (P : Refusal → Type 0) →

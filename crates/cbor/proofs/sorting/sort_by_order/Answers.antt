@@ -1,9 +1,8 @@
 use Rattle.std.proofs.Common.{rules}
 use Rattle.std.proofs.lemmas.Fn.{always_returns_same}
 use Rattle.ciborium_value.specs.declared.key_order.KeyOrder.TheVariants.{Bytewise}
-use Rattle.cbor.proofs.SortedValues.{sorted-trees, stands_before}
+use Rattle.cbor.proofs.SortedValues.{sorted-trees, stands_before, stands_before-orders}
 use Rattle.cbor.proofs.sorting.sort_by_order.Goals as goal
-use Rattle.ciborium_value.proofs.Forms.ReorderedPairs.{stands_before-orders}
 
 pub returns-in_ok-sort_by-in-Bytewise-clause-sorted : goal.returns-in_ok-sort_by-in-Bytewise-clause-sorted
 returns-in_ok-sort_by-in-Bytewise-clause-sorted c =

@@ -2,9 +2,8 @@ use Rattle.std.proofs.Common.{rules}
 use Rattle.std.proofs.lemmas.Fn.{always_returns_same}
 use Rattle.std.proofs.lemmas.Result.{IfOk-weaker}
 use Rattle.ciborium_value.specs.declared.key_order.KeyOrder.TheVariants.{LengthFirst}
-use Rattle.cbor.proofs.SortedValues.{sorted-trees, stands_before}
+use Rattle.cbor.proofs.SortedValues.{sorted-trees, stands_before, stands_before-orders}
 use Rattle.cbor.proofs.sorting.sort_values.Goals as goal
-use Rattle.ciborium_value.proofs.Forms.ReorderedPairs.{stands_before-orders}
 
 pub returns-then-len-le-MOST_IN_PLACE-clause-sorted : goal.returns-then-len-le-MOST_IN_PLACE-clause-sorted
 returns-then-len-le-MOST_IN_PLACE-clause-sorted c =
