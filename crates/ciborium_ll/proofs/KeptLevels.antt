@@ -13,10 +13,9 @@ use Rattle.ciborium_ll.specs.inner.KeptLevels.{top_of}
 -- the innermost level stands before the others
 pub top-first : (k : ℕ) (room : List Level) (level : Level) → top_of (drop k room) ≡ Some level →
     drop k room ≡ level ∷ drop (suc k) room
-top-first zero [] level e = absurd cc
 top-first zero (x ∷ room) level e = cc
-top-first (suc k) [] level e = absurd cc
 top-first (suc k) (x ∷ room) level e = top-first k room level e
+top-first u v level e = absurd cc
 
 -- it is one of the room
 pub top-within : (k : ℕ) (room : List Level) (level : Level) → top_of (drop k room) ≡ Some level → k < length room

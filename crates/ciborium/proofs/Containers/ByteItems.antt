@@ -80,10 +80,7 @@ byte-given l i n v e f = ap (λ o. then_take o (λ m. outcome l (number_below 25
 and_take-gives : {A : Type 0} (a : Outcome A) (b : Outcome (List A)) (vs : List A) → and_take a b ≡ gives vs → (v : A) ×
     (ws : List A) × (a ≡ gives v) × (b ≡ gives ws) × (vs ≡ v ∷ ws)
 and_take-gives (gives v) (gives ws) vs h = (v, ws, refl, refl, cc)
-and_take-gives (gives v) (refuses k) vs h = cc
-and_take-gives (gives v) nests vs h = cc
-and_take-gives (refuses k) b vs h = cc
-and_take-gives nests b vs h = cc
+and_take-gives u v vs h = cc
 
 each-more : {X A : Type 0} (l : Limit) (f : X → Steps A) (done : List X) (i : X) (vs : List A) (v : A) →
     outcome l (take_each f done) ≡ gives vs → outcome l (f i) ≡ gives v →

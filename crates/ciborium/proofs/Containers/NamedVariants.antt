@@ -193,10 +193,8 @@ module _ {S : Type 0} (IsUnread : S → List ℕ → Type 0) (old mid inner new 
 
 pair-only : (o : Bool) (ps : Pairs) → ◌≡◌ {A = Header} (header.Map (Some 1)) (header.Map (size_of o (pairs_count ps))) →
     outcome (Some 0) (bare_variant (items.map o ps)) ≡ nests
-pair-only true ps e = cc
-pair-only false no_pairs e = cc
 pair-only false (pair k v no_pairs) e = refl
-pair-only false (pair k v (pair k' v' ps)) e = cc
+pair-only u v e = cc
 
 other-pairs : (l : Limit) (h : Header) → (h ≡ header.Map (Some 1) → ⊥) → (o : Bool) (ps : Pairs) →
     h ≡ header.Map (size_of o (pairs_count ps)) → outcome l (bare_variant (items.map o ps)) ≡ refuses kinds.Variant

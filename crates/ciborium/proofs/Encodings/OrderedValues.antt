@@ -27,9 +27,8 @@ first_decides Equal p h = sym (h refl)
 first_decides Greater p h = refl
 
 second_tied : (o p : Ordering) → ordering_then o p ≡ Equal → p ≡ Equal
-second_tied Less p e = absurd cc
 second_tied Equal p e = e
-second_tied Greater p e = absurd cc
+second_tied u p e = absurd cc
 
 -- proper trees that it ties are one
 key_order-tied : (o : KeyOrder) (v w : Tree) → IsProperTree v → IsProperTree w → key_order o v w ≡ Equal → v ≡ w

@@ -42,9 +42,8 @@ initial-only false false false false p e f g h = cc
 
 head-only : (t u : Bool) (r : Option Refusal) (p : ℕ) (e : Refusal) → u ≡ false → (r ≡ Some e → e ≡ too_long) →
     cond t (cond u (Some (syntax p)) r) (Some too_long) ≡ Some e → e ≡ too_long
-head-only true true r p e f g h = cc
 head-only true false r p e f g h = g h
-head-only false u r p e f g h = cc
+head-only u v r p e f g h = cc
 
 low-more : (m a : ℕ) (c y : List ℕ) → a < 32 → length c ≡ argument_length a →
     is_low_simple (initial_byte m a) c ≡ false → is_low_simple (initial_byte m a) (c ++ y) ≡ false
@@ -79,11 +78,9 @@ only-long x y h p e s r = by (header-begins x h s)
 
 initial-long : (t u v w : Bool) (p : ℕ) → t ≡ false → cond t (Some (syntax p))
     (cond u (Some too_long) (cond v (Some io) (cond w (Some too_long) None))) ≡ Some too_long → (u ≡ true) ⊎ (w ≡ true)
-initial-long true u v w p e h = cc
 initial-long false true v w p e h = inl refl
-initial-long false false true w p e h = cc
 initial-long false false false true p e h = inr refl
-initial-long false false false false p e h = cc
+initial-long u v w x p e h = cc
 
 head-long : (t u : Bool) (r : Option Refusal) (p : ℕ) → u ≡ false →
     cond t (cond u (Some (syntax p)) r) (Some too_long) ≡ Some too_long → (t ≡ false) ⊎ (r ≡ Some too_long)

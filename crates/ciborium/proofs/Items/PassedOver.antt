@@ -246,8 +246,9 @@ module _ (P Q R : List ℕ → Type 0) (m : ℕ) where
       let (others, item_behind, level_is) = opened-inner (Items 1) (level ∷ levels) (inner ∷ next)
       (subst (λ h. behind_head h (level ∷ levels) ≡ Some (inner ∷ next)) is behind) in
       let inner_is : inner ∷ next ≡ Items 1 ∷ next = ap (λ i. i ∷ next) (cc level_is) in
-      subst (λ ls. LevelsTo None ls r z) inner_is (behind-to (within None) header x p r z (level ∷ levels) (inner ∷ next)
-      spelled content behind (subst (λ c. LevelsTo None (level ∷ levels) c z) (split ∙ ap (λ (c : List ℕ). x ++ c) rest) to)) in
+      subst (λ ls. LevelsTo None ls r z) inner_is
+      (behind-to (within None) header x p r z (level ∷ levels) (inner ∷ next) spelled content behind
+      (subst (λ c. LevelsTo None (level ∷ levels) c z) (split ∙ ap (λ (c : List ℕ). x ++ c) rest) to)) in
       level-fault end fault (IsBignumBehind header r) (LevelsTo (Some m) (level ∷ levels) y z)
       (λ within. stands header x r z spelled one (subst (λ c. LevelsTo (Some m) (level ∷ levels) c z) whole within))
       (denied r z end next t inside (omega (arith, at, fits)))

@@ -298,31 +298,23 @@ level-faults end f l m s one b = subst (IsFaultOf end f) (sym (level-taken l m s
 
 kind-pair : (k : _) (x y : Outcome Tree) (r : Outcome Trees) (q : Outcome TreePairs) → (r ≡ refuses k → q ≡ refuses k) →
     tree_first x (tree_first y r) ≡ refuses k → pair_first x y q ≡ refuses k
-kind-pair k (gives a) (gives v) (gives vs) q rec h = cc
 kind-pair k (gives a) (gives v) (refuses j) q rec h = ap (outcome_map (trees.tree_pair a v))
     (rec (let e : j ≡ k = cc in ap refuses e))
-kind-pair k (gives a) (gives v) nests q rec h = cc
 kind-pair k (gives a) (refuses j) r q rec h = let e : j ≡ k = cc in ap refuses e
-kind-pair k (gives a) nests r q rec h = cc
 kind-pair k (refuses j) y r q rec h = let e : j ≡ k = cc in ap refuses e
-kind-pair k nests y r q rec h = cc
+kind-pair k u v w q rec h = cc
 
 nest-pair : (x y : Outcome Tree) (r : Outcome Trees) (q : Outcome TreePairs) → (r ≡ nests → q ≡ nests) →
     tree_first x (tree_first y r) ≡ nests → pair_first x y q ≡ nests
-nest-pair (gives a) (gives v) (gives vs) q rec h = cc
-nest-pair (gives a) (gives v) (refuses j) q rec h = cc
 nest-pair (gives a) (gives v) nests q rec h = ap (outcome_map (trees.tree_pair a v)) (rec refl)
-nest-pair (gives a) (refuses j) r q rec h = cc
 nest-pair (gives a) nests r q rec h = refl
-nest-pair (refuses j) y r q rec h = cc
 nest-pair nests y r q rec h = refl
+nest-pair u v w q rec h = cc
 
 flat-faults : (end : ℕ) (f : Fault) (l : Limit) (ps : Pairs) → IsFaultOf end f (outcome l (taken_items (flat ps))) →
     IsFaultOf end f (outcome l (taken_tree_pairs ps))
-flat-faults end (of_kind k) l no_pairs b = cc
 flat-faults end (of_kind k) l (pair x y ps) b = kind-pair k (outcome l (taken_value x)) (outcome l (taken_value y))
     (outcome l (taken_items (flat ps))) (outcome l (taken_tree_pairs ps)) (flat-faults end (of_kind k) l ps) b
-flat-faults end of_nesting l no_pairs b = cc
 flat-faults end of_nesting l (pair x y ps) b = nest-pair (outcome l (taken_value x)) (outcome l (taken_value y))
     (outcome l (taken_items (flat ps))) (outcome l (taken_tree_pairs ps)) (flat-faults end of_nesting l ps) b
 flat-faults end of_syntax l ps b = b
@@ -330,6 +322,7 @@ flat-faults end of_memory l ps b = tt
 flat-faults end of_device l ps b = tt
 flat-faults end of_end l ps b = b
 flat-faults end of_length l ps b = b
+flat-faults end u l no_pairs b = cc
 
 container-faults : (end : ℕ) (i : Item) (is : Items) (f : Fault) (l m : Limit) → IsContainer i is → IsOneLess l m →
     IsFaultOf end f (outcome m (taken_items is)) → IsFaultOf end f (outcome l (taken_value i))
@@ -369,25 +362,21 @@ none-due : (w : Due) (end r z : List ℕ) (p end-offset : ℕ) (f : Fault) → I
     IsOutsideFault end-offset f
 none-due (items (Some n)) end r z p o f (e, g) h due br = let never : ⊥ = omega (arith, e, due) in absurd never
 none-due (items None) end r z p o f g h due br = let e = ended r end z h g in br e (λ lt. due lt (z, e))
-none-due (keys n) end r z p o f (pair k v ps, e, g) h due br = cc
 none-due (keys (Some n)) end r z p o f (no_pairs, q, (e, g)) h due br =
     let never : ⊥ = omega (arith, e, due) in absurd never
 none-due (keys None) end r z p o f (no_pairs, q, g) h due br =
     let e = ended r end z h g in br e (λ lt. due lt (z, e))
-none-due (values n) end r z p o f (v, ps, e, g) h due br = cc
+none-due u end r z p o f v h due br = cc
 
 -- no item stands where the parts ended
 none-more : (w n : Due) (i : Item) (s t end z : List ℕ) → IsAll w no_items end → next_due w ≡ Some n → Spells s i →
     s ++ t ≡ end ++ z → ⊥
 none-more (items None) n i s t end z g next sp h = not-break s t z i sp (ended _ end z h g)
-none-more (items (Some zero)) n i s t end z g next sp h = cc
 none-more (items (Some (suc m))) n i s t end z (e, g) next sp h = let never : ⊥ = omega (arith, e) in never
-none-more (keys m) n i s t end z (pair k v ps, e, g) next sp h = cc
 none-more (keys None) n i s t end z (no_pairs, e, g) next sp h = not-break s t z i sp (ended _ end z h g)
-none-more (keys (Some zero)) n i s t end z (no_pairs, e, g) next sp h = cc
 none-more (keys (Some (suc m))) n i s t end z (no_pairs, q, (e, g)) next sp h =
     let never : ⊥ = omega (arith, e) in never
-none-more (values m) n i s t end z (v, ps, e, g) next sp h = cc
+none-more u n i s t end z v next sp h = cc
 
 -- the parts behind the first
 due-behind : (w now : Due) (v : Tree) (vs : List Tree) → due_after w (v ∷ vs) ≡ Some now → (n : Due) ×
@@ -515,13 +504,12 @@ tag-faults end t i f l m none one b =
 
 -- the string of a tag that folds is there
 given-outside : (end : ℕ) (f : Fault) (v : Tree) → IsFaultOf end f (gives v) → IsOutsideFault end f
-given-outside end (of_kind k) v h = cc
-given-outside end of_nesting v h = cc
 given-outside end of_syntax v h = h
 given-outside end of_memory v h = tt
 given-outside end of_device v h = tt
 given-outside end of_end v h = h
 given-outside end of_length v h = h
+given-outside end u v h = cc
 
 large-refuses : (l : Limit) (y : List ℕ) → length y ≤ 16 → 2 ^ 127 ≤ big_endian y →
     outcome l (taken_value (tag 3 (bytes false y))) ≡ refuses kinds.TooLarge

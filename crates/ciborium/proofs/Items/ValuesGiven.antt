@@ -26,17 +26,14 @@ level-taken (Some (suc l)) (Some m) s h = let e : l ≡ m = omega arith in ap (�
 
 more : (o : Option Tree) (os : Option Trees) (vs : Trees) → trees_more o os ≡ Some vs → (w : Tree) × (ws : Trees) ×
     (o ≡ Some w) × (os ≡ Some ws) × (trees.tree w ws ≡ vs)
-more None os vs h = cc
-more (Some w) None vs h = cc
 more (Some w) (Some ws) vs h = (w, ws, refl, refl, cc)
+more u v vs h = cc
 
 more-pairs : (o q : Option Tree) (os : Option TreePairs) (vs : TreePairs) → tree_pairs_more o q os ≡ Some vs →
     (k : Tree) × (w : Tree) × (ws : TreePairs) × (o ≡ Some k) × (q ≡ Some w) × (os ≡ Some ws) ×
     (trees.tree_pair k w ws ≡ vs)
-more-pairs None q os vs h = cc
-more-pairs (Some k) None os vs h = cc
-more-pairs (Some k) (Some w) None vs h = cc
 more-pairs (Some k) (Some w) (Some ws) vs h = (k, w, ws, refl, refl, refl, cc)
+more-pairs u v w vs h = cc
 
 container-gives : {A : Type 0} (f : A → Tree) (o : Option A) (n : ℕ) (l : Limit) (s : Steps A) (v : Tree) →
     option_map f o ≡ Some v → IsWithin l (suc n) →

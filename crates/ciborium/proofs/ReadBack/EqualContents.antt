@@ -23,8 +23,7 @@ same-left (Ok i) (Ok j) old new before after same first second none neither =
     let one : i ≡ j = cc in
     first ∙ ap (λ (bytes : List ℕ). bytes ++ written_bytes i) (none ∙ sym neither) ∙
     ap (λ k. before ++ written_bytes k) one ∙ sym second
-same-left (Ok i) (Err k) old new before after same first second none neither = cc
-same-left (Err k) n old new before after same first second none neither = cc
+same-left u v old new before after same first second w neither = cc
 
 module _ {T C : Type 0} (written : T → Named) (content : T → C) (alike : IsWrittenByContent written content) where
   pub write_same_bytes : WriteSameBytes written content

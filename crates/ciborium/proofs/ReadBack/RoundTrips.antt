@@ -28,13 +28,12 @@ use Rattle.ciborium.specs.Writes.{IsNamedWritten, WritesNamed}
 -- where a value is given no item is to blame
 pub not-blamed : {C : Type 0} (end : ℕ) (f : Fault) (o : Outcome C) (c : C) → o ≡ gives c → IsFaultOf end f o →
     IsOutsideFault end f
-not-blamed end (of_kind k) o c e h = cc
-not-blamed end of_nesting o c e h = cc
 not-blamed end of_syntax o c e h = h
 not-blamed end of_memory o c e h = tt
 not-blamed end of_device o c e h = tt
 not-blamed end of_end o c e h = h
 not-blamed end of_length o c e h = h
+not-blamed end u o c e h = cc
 
 pub one-content : {C : Type 0} (o : Outcome C) (c d : C) → o ≡ gives c → o ≡ gives d → d ≡ c
 one-content o c d h k = cc

@@ -177,15 +177,11 @@ some-same v w os us e = let same : both v os ≡ both w us = cc in ap (λ x. x.1
 
 pub depth-closed : (os us : List TreeFrame) (v : Tree) (l : ℕ) → closed os ≡ Some (v, us) → length os ≤ l →
     length us ≤ l
-depth-closed [] us v l e room = absurd cc
 depth-closed (array vs None ∷ os) us v l e room = let same = some-same (trees.array (trees_from vs)) v os us e in
     omega (arith, room, ap length same)
-depth-closed (array vs (Some n) ∷ os) us v l e room = absurd cc
-depth-closed (tag t ∷ os) us v l e room = absurd cc
 depth-closed (map ps None None ∷ os) us v l e room = let same = some-same (trees.map (tree_pairs_from ps)) v os us e in
     omega (arith, room, ap length same)
-depth-closed (map ps None (Some k) ∷ os) us v l e room = absurd cc
-depth-closed (map ps (Some n) key ∷ os) us v l e room = absurd cc
+depth-closed u us v l e room = absurd cc
 
 -- ---- the beginning
 

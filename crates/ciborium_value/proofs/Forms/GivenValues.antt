@@ -15,8 +15,7 @@ given nests = None
 -- an outcome with a value gives it
 pub gives_given : {A : Type 0} (r : Outcome A) (x : A) → given r ≡ Some x → r ≡ gives x
 gives_given (gives y) x e = let same : y ≡ x = cc in ap gives same
-gives_given (refuses j) x e = absurd cc
-gives_given nests x e = absurd cc
+gives_given u x e = absurd cc
 
 -- the value of a mapping is the mapping of the value
 pub given-map : {A B : Type 0} (f : A → B) (r : Outcome A) → given (outcome_map f r) ≡ option_map f (given r)

@@ -81,17 +81,14 @@ pairs_given ps m e = let (qs, is, same) = mapped_same map m (map ps) e in let in
 -- the first of trees that are what they fold to, and the others
 more_folded : (v : Tree) (vs : Trees) (m : Option Tree) (ms : Option Trees) → trees_more m ms ≡ Some (tree v vs) →
     (m ≡ Some v) × (ms ≡ Some vs)
-more_folded v vs None ms e = absurd cc
-more_folded v vs (Some w) None e = absurd cc
 more_folded v vs (Some w) (Some ws) e = (cc, cc)
+more_folded v vs u w e = absurd cc
 
 -- the first pair, and the others
 pairs_folded : (k v : Tree) (ps : TreePairs) (m n : Option Tree) (ms : Option TreePairs) →
     tree_pairs_more m n ms ≡ Some (tree_pair k v ps) → (m ≡ Some k) × (n ≡ Some v) × (ms ≡ Some ps)
-pairs_folded k v ps None n ms e = absurd cc
-pairs_folded k v ps (Some l) None ms e = absurd cc
-pairs_folded k v ps (Some l) (Some w) None e = absurd cc
 pairs_folded k v ps (Some l) (Some w) (Some qs) e = (cc, cc, cc)
+pairs_folded k v ps u w x e = absurd cc
 
 mutual
   -- a tree that is what it folds to, and whose keys rise, is formed

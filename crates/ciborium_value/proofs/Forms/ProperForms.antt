@@ -30,13 +30,7 @@ short_bytes-proper (bytes c) b h e = by (leb (length c) 16) e
     by : (a : Bool) → cond a (Some c) None ≡ Some b → IsProperBytes b
     by true f = let same : c ≡ b = cc in subst IsProperBytes same h
     by false f = absurd cc
-short_bytes-proper (integer z) b h e = absurd cc
-short_bytes-proper (text c) b h e = absurd cc
-short_bytes-proper (boolean c) b h e = absurd cc
-short_bytes-proper null b h e = absurd cc
-short_bytes-proper (tag t v) b h e = absurd cc
-short_bytes-proper (array vs) b h e = absurd cc
-short_bytes-proper (map ps) b h e = absurd cc
+short_bytes-proper u b h e = absurd cc
 
 -- ---- pairs in another order
 

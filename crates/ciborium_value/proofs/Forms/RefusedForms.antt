@@ -17,9 +17,8 @@ use Rattle.ciborium_value.proofs.Forms.SortedPairs.{IsSortedOrDuplicate, sorted-
 -- ---- what a refusal is made of
 
 mapped_refuses : {A B : Type 0} (f : A → B) (r : Outcome A) (k : Kind) → outcome_map f r ≡ refuses k → r ≡ refuses k
-mapped_refuses f (gives x) k e = absurd cc
 mapped_refuses f (refuses j) k e = let same : j ≡ k = cc in ap refuses same
-mapped_refuses f nests k e = absurd cc
+mapped_refuses f u k e = absurd cc
 
 mapped_some : {A B : Type 0} (f : A → B) (r : Option A) (y : B) → option_map f r ≡ Some y → (x : A) × (r ≡ Some x)
 mapped_some f (Some x) y e = (x, refl)
@@ -37,8 +36,7 @@ more_some None s y e = absurd cc
 pairs_some : (q r : Option Tree) (s : Option TreePairs) (y : TreePairs) → tree_pairs_more q r s ≡ Some y →
     ((k : Tree) × (q ≡ Some k)) × ((v : Tree) × (r ≡ Some v)) × ((ps : TreePairs) × (s ≡ Some ps))
 pairs_some (Some k) (Some v) s y e = ((k, refl), (v, refl), mapped_some (tree_pair k v) s y e)
-pairs_some (Some k) None s y e = absurd cc
-pairs_some None r s y e = absurd cc
+pairs_some u v s y e = absurd cc
 
 more_refuses : (r : Outcome Tree) (s : Outcome Trees) (k : Kind) → one_more r s ≡ refuses k →
     (r ≡ refuses k) ⊎ (s ≡ refuses k)
@@ -50,9 +48,8 @@ pair_refuses : (q r : Outcome Tree) (s : Outcome TreePairs) (k : Kind) → one_p
     (q ≡ refuses k) ⊎ ((r ≡ refuses k) ⊎ (s ≡ refuses k))
 pair_refuses (gives l) (gives v) s k e = inr (inr (mapped_refuses (tree_pair l v) s k e))
 pair_refuses (gives l) (refuses j) s k e = inr (inl (let same : j ≡ k = cc in ap refuses same))
-pair_refuses (gives l) nests s k e = absurd cc
 pair_refuses (refuses j) r s k e = inl (let same : j ≡ k = cc in ap refuses same)
-pair_refuses nests r s k e = absurd cc
+pair_refuses u v s k e = absurd cc
 
 sorted_refuses : (o : KeyOrder) (qs : TreePairs) (k : Kind) → sorted_pairs o qs ≡ refuses k → k ≡ kinds.DuplicateKey
 sorted_refuses o qs k e = by (sorted_pairs o qs) (sorted-either o qs) e
@@ -84,11 +81,6 @@ refused_map o k nests e inside = absurd cc
 mutual
   refused : (o : KeyOrder) (v u : Tree) (k : Kind) → folded v ≡ Some u → deterministic_form o v ≡ refuses k →
       k ≡ kinds.DuplicateKey
-  refused o (integer z) u k h e = absurd cc
-  refused o (bytes b) u k h e = absurd cc
-  refused o (text b) u k h e = absurd cc
-  refused o (boolean b) u k h e = absurd cc
-  refused o null u k h e = absurd cc
   refused o (tag t v) u k h e = refused_tag o t v u k (tree_folding_bytes t v) h e (λ w. refused o v w k)
   refused o (array vs) u k h e = let (ws, all) = mapped_some array (trees_folded vs) u h in
       all_refused o vs ws k all (mapped_refuses array (deterministic_forms o vs) k e)
@@ -96,6 +88,7 @@ mutual
       let (qs, all) = mapped_some map (tree_pairs_folded ps) u h in
       refused_map o k (pair_forms o ps) (mapped_refuses map (then_take (pair_forms o ps) (sorted_pairs o)) k e)
       (pairs_refused o ps qs k all)
+  refused o v u k h e = absurd cc
 
   all_refused : (o : KeyOrder) (vs us : Trees) (k : Kind) → trees_folded vs ≡ Some us →
       deterministic_forms o vs ≡ refuses k → k ≡ kinds.DuplicateKey

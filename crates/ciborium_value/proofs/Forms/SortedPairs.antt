@@ -64,15 +64,10 @@ sorted-either o (tree_pair k v ps) = behind (sorted_pairs o ps) (sorted-either o
 -- of which neither stands before the other's place
 front_either : (a b : Ordering) (k v l w : Tree) (ps : TreePairs) → a ≡ ordering_reverse b
     → placed_pair a k v l w ps (gives (tree_pair k v ps)) ≡ placed_pair b l w k v ps (gives (tree_pair l w ps))
-front_either Less Less k v l w ps e = absurd cc
-front_either Less Equal k v l w ps e = absurd cc
 front_either Less Greater k v l w ps e = refl
-front_either Equal Less k v l w ps e = absurd cc
 front_either Equal Equal k v l w ps e = refl
-front_either Equal Greater k v l w ps e = absurd cc
 front_either Greater Less k v l w ps e = refl
-front_either Greater Equal k v l w ps e = absurd cc
-front_either Greater Greater k v l w ps e = absurd cc
+front_either u x k v l w ps e = absurd cc
 
 -- a first pair that stays first
 behind_first : (f : TreePairs → Outcome TreePairs) (p x : Tree) →
@@ -283,9 +278,7 @@ bytewise_tied LengthFirst k l e =
 bytewise_tied Bytewise k l e = e
 
 eq_where_equal : (a : Ordering) → a ≡ Equal → is_eq a ≡ false → ⊥
-eq_where_equal Less e h = absurd cc
-eq_where_equal Equal e h = absurd cc
-eq_where_equal Greater e h = absurd cc
+eq_where_equal u e h = absurd cc
 
 -- keys that rise differ
 pub rising_apart : (o : KeyOrder) (ps : TreePairs) → AreRising o (keys_of ps) → AreApart (keys_of ps)

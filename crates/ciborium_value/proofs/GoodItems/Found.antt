@@ -106,12 +106,11 @@ module _ (spelling : Spelling) where
   open-on : (d p q : ℕ) (now next : Due) (b r : List ℕ) (v : Tree) (l : Limit) → next_due now ≡ Some next →
       read spelling d b p l ≡ ends v r q → end_at now b p ≡ None
   open-on d p q (items None) next b r v l h e = not-break d p q b r v l e
-  open-on d p q (items (Some zero)) next b r v l h e = absurd cc
   open-on d p q (items (Some (suc n))) next b r v l h e = refl
   open-on d p q (keys None) next b r v l h e = not-break d p q b r v l e
-  open-on d p q (keys (Some zero)) next b r v l h e = absurd cc
   open-on d p q (keys (Some (suc n))) next b r v l h e = refl
   open-on d p q (values n) next b r v l h e = refl
+  open-on d p q u next b r v l h e = absurd cc
 
   parts-end : (d : ℕ) (start now : Due) (vs : List Tree) (b r : List ℕ) (p q : ℕ) (l : Limit) → 0 < d →
       end_at now b p ≡ Some (r, q) → parts spelling d start (Some now) vs b p l ≡ ends (container_of now vs) r q

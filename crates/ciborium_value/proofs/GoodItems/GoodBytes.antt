@@ -166,16 +166,13 @@ some-map None h = absurd cc
 some-map (Some v) h = refl
 
 some-more : (m : Option Tree) (n : Option Trees) → IsSome (trees_more m n) → IsSome m × IsSome n
-some-more None n h = absurd cc
-some-more (Some v) None h = absurd cc
 some-more (Some v) (Some vs) h = (refl, refl)
+some-more u v h = absurd cc
 
 some-pairs : (k v : Option Tree) (n : Option TreePairs) → IsSome (tree_pairs_more k v n) → IsSome k × IsSome v ×
     IsSome n
-some-pairs None v n h = absurd cc
-some-pairs (Some k) None n h = absurd cc
-some-pairs (Some k) (Some v) None h = absurd cc
 some-pairs (Some k) (Some v) (Some ps) h = (refl, refl, refl)
+some-pairs u v w h = absurd cc
 
 mutual
   pub item_bytes : (i : Item) (s : List ℕ) → Spells s i → IsSome (meaning i) → AreBytes s

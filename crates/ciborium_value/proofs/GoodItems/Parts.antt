@@ -150,11 +150,10 @@ keys-paired (k ∷ (v ∷ vs)) h = ap (λ (ks : List Tree). k ∷ ks) (keys-pair
 -- a value changes no keys
 keys_in-value : (m n : Option ℕ) (vs : List Tree) (v : Tree) → due_after (keys m) vs ≡ Some (values n) →
     keys_in (vs ++ (v ∷ [])) ≡ keys_in vs
-keys_in-value m n [] v h = absurd cc
 keys_in-value m n (k ∷ []) v h = refl
 keys_in-value None n (k ∷ (u ∷ vs)) v h = ap (λ (ks : List Tree). k ∷ ks) (keys_in-value None n vs v h)
-keys_in-value (Some zero) n (k ∷ (u ∷ vs)) v h = absurd cc
 keys_in-value (Some (suc m)) n (k ∷ (u ∷ vs)) v h = ap (λ (ks : List Tree). k ∷ ks) (keys_in-value (Some m) n vs v h)
+keys_in-value u n w v h = absurd cc
 
 pub keys-value : (start : Due) (vs : List Tree) (v : Tree) (n : Option ℕ) → due_after start vs ≡ Some (values n) →
     keys_among start (vs ++ (v ∷ [])) ≡ keys_among start vs
@@ -167,8 +166,7 @@ keys-value (values m) (u ∷ vs) v n h = keys_in-value m n vs v h
 
 less-is : (o : Ordering) → is_less o ≡ true → o ≡ Less
 less-is Less h = refl
-less-is Equal h = absurd cc
-less-is Greater h = absurd cc
+less-is u h = absurd cc
 
 pub in_order-is : (spelling : Spelling) (ks : List Tree) → in_order spelling ks ≡ true → AreInOrder spelling ks
 in_order-is any ks h = tt
@@ -255,17 +253,14 @@ pairs-read spelling (k ∷ (v ∷ vs)) s p l even
 
 trees-some : (m : Option Tree) (ms : Option Trees) (ts : Trees) → trees_more m ms ≡ Some ts → (v : Tree) ×
     (vs : Trees) × (m ≡ Some v) × (ms ≡ Some vs) × (ts ≡ tree v vs)
-trees-some None ms ts e = absurd cc
-trees-some (Some v) None ts e = absurd cc
 trees-some (Some v) (Some vs) ts e = (v, vs, refl, refl, cc)
+trees-some u v ts e = absurd cc
 
 pairs-some : (m n : Option Tree) (ms : Option TreePairs) (ts : TreePairs) → tree_pairs_more m n ms ≡ Some ts →
     (k : Tree) × (v : Tree) × (ps : TreePairs) × (m ≡ Some k) × (n ≡ Some v) × (ms ≡ Some ps) ×
     (ts ≡ tree_pair k v ps)
-pairs-some None n ms ts e = absurd cc
-pairs-some (Some k) None ms ts e = absurd cc
-pairs-some (Some k) (Some v) None ts e = absurd cc
 pairs-some (Some k) (Some v) (Some ps) ts e = (k, v, ps, refl, refl, refl, cc)
+pairs-some u v w ts e = absurd cc
 
 pub read-items : (is : Items) (ts : Trees) (s : List ℕ) (p : ℕ) (l : Limit) → SpellsItems s is →
     items_meaning is ≡ Some ts → IsWithin l (items_nesting is) → p + length s ≤ greatest_offset →
@@ -344,16 +339,13 @@ module _ (order : KeyOrder) where
 
   more-folds : (m : Option Tree) (ms : Option Trees) (v : Tree) (vs : Trees) → trees_more m ms ≡ Some (tree v vs) →
       (m ≡ Some v) × (ms ≡ Some vs)
-  more-folds None ms v vs e = absurd cc
-  more-folds (Some w) None v vs e = absurd cc
   more-folds (Some w) (Some ws) v vs e = (cc, cc)
+  more-folds u w v vs e = absurd cc
 
   pairs-fold : (m n : Option Tree) (ms : Option TreePairs) (k v : Tree) (ps : TreePairs) →
       tree_pairs_more m n ms ≡ Some (tree_pair k v ps) → (m ≡ Some k) × (n ≡ Some v) × (ms ≡ Some ps)
-  pairs-fold None n ms k v ps e = absurd cc
-  pairs-fold (Some j) None ms k v ps e = absurd cc
-  pairs-fold (Some j) (Some w) None k v ps e = absurd cc
   pairs-fold (Some j) (Some w) (Some qs) k v ps e = (cc, cc, cc)
+  pairs-fold u w x k v ps e = absurd cc
 
   pub written-trees : (ts : Trees) (p : ℕ) (l : Limit) → AreAllowed l ts →
       p + length (items_bytes (items_of ts)) ≤ greatest_offset →

@@ -127,15 +127,7 @@ short-is (bytes false z) y e = by (leb (length z) 16) refl e
       subst (λ (c : List ℕ). length c ≤ 16) same (leb-true _ _ u),
     )
     by false u f = absurd cc
-short-is (unsigned n) y e = absurd cc
-short-is (negative n) y e = absurd cc
-short-is (bytes true z) y e = absurd cc
-short-is (text o z) y e = absurd cc
-short-is (array o is) y e = absurd cc
-short-is (map o ps) y e = absurd cc
-short-is (tag n i) y e = absurd cc
-short-is (simple n) y e = absurd cc
-short-is (float z) y e = absurd cc
+short-is u y e = absurd cc
 
 pub folding-string : (t : ℕ) (i : Item) (s x r : List ℕ) → Spells s i → r ≡ s ++ x → IsFoldingAt t r → (y : List ℕ) ×
     (i ≡ bytes false y) × (length y ≤ 16)

@@ -17,9 +17,8 @@ use Rattle.ciborium_value.specs.lemmas.DerivedOrder.{value_cmp-is}
 
 same_boolean : (x y : Bool) → bool_cmp x y ≡ Equal → x ≡ y
 same_boolean true true e = refl
-same_boolean true false e = absurd cc
-same_boolean false true e = absurd cc
 same_boolean false false e = refl
+same_boolean u v e = absurd cc
 
 mutual
   same_tree : (v w : Tree) → tree_cmp v w ≡ Equal → v ≡ w
@@ -37,21 +36,19 @@ mutual
 
   same_trees : (vs ws : Trees) → trees_cmp vs ws ≡ Equal → vs ≡ ws
   same_trees no_trees no_trees e = refl
-  same_trees no_trees (tree w ws) e = absurd cc
-  same_trees (tree v vs) no_trees e = absurd cc
   same_trees (tree v vs) (tree w ws) e =
       let tied = both_tied (tree_cmp v w) (trees_cmp vs ws) e in
       ap (λ z. tree z vs) (same_tree v w tied.0) ∙ ap (tree w) (same_trees vs ws tied.1)
+  same_trees u v e = absurd cc
 
   same_pairs : (ps qs : TreePairs) → tree_pairs_cmp ps qs ≡ Equal → ps ≡ qs
   same_pairs no_tree_pairs no_tree_pairs e = refl
-  same_pairs no_tree_pairs (tree_pair l w qs) e = absurd cc
-  same_pairs (tree_pair k v ps) no_tree_pairs e = absurd cc
   same_pairs (tree_pair k v ps) (tree_pair l w qs) e =
       let tied = both_tied (ordering_then (tree_cmp k l) (tree_cmp v w)) (tree_pairs_cmp ps qs) e in
       let pair_tied = both_tied (tree_cmp k l) (tree_cmp v w) tied.0 in
       ap (λ z. tree_pair z v ps) (same_tree k l pair_tied.0) ∙ ap (λ z. tree_pair l z ps) (same_tree v w pair_tied.1) ∙
       ap (tree_pair l w) (same_pairs ps qs tied.1)
+  same_pairs u v e = absurd cc
 
 mutual
   itself : (v : Tree) → tree_cmp v v ≡ Equal
@@ -78,9 +75,8 @@ pub tied_where_equal : TiedWhereEqual
 tied_where_equal v w = (same_tree v w, λ e. ap (tree_cmp v) (sym e) ∙ itself v)
 
 is_tied : (o : Ordering) → is_eq o ≡ true → o ≡ Equal
-is_tied Less e = absurd cc
 is_tied Equal e = refl
-is_tied Greater e = absurd cc
+is_tied u e = absurd cc
 
 -- a test that is the order's is equality
 tested : (v w : Tree) (b : Bool) → b ≡ is_eq (tree_cmp v w) → IsTrue b ↔ (v ≡ w)

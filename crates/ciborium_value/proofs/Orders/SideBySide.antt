@@ -36,9 +36,8 @@ tied Equal b e f = refl
 tied Greater b e f = absurd (let no : true ≡ false = sym e ∙ f in cc)
 
 pub both_tied : (o p : Ordering) → ordering_then o p ≡ Equal → (o ≡ Equal) × (p ≡ Equal)
-both_tied Less p e = absurd cc
 both_tied Equal p e = (refl, e)
-both_tied Greater p e = absurd cc
+both_tied u p e = absurd cc
 
 -- a front that both have
 behind_front : (a x y : List ℕ) → slice_cmp nat_cmp (a ++ x) (a ++ y) ≡ slice_cmp nat_cmp x y

@@ -37,9 +37,8 @@ oks-snoc (d ∷ done) i rest = ap (λ l. Ok d ∷ l) (oks-snoc done i rest)
 -- what it takes that all are named
 pub and_then_is : (x : Named) (r : Result (List Item) Kind) (is : List Item) → and_then x r ≡ Ok is → (i : Item) ×
     (js : List Item) × (x ≡ Ok i) × (r ≡ Ok js) × (is ≡ i ∷ js)
-and_then_is (Err k) r is h = cc
-and_then_is (Ok i) (Err k) is h = cc
 and_then_is (Ok i) (Ok js) is h = (i, js, refl, refl, cc)
+and_then_is u v is h = cc
 
 -- where all are named, the first are those that are done
 named_after : (done : List Item) (rest : List Named) (is : List Item) → all_named (oks done ++ rest) ≡ Ok is →

@@ -318,10 +318,8 @@ tuple4_description a b c d = record {
 -- what holds of a field and of those behind it
 pub field-sound : (s p d b : Bool) → (if s then false else p && (d && b)) ≡ true →
     (s ≡ false) × (p ≡ true) × (d ≡ true) × (b ≡ true)
-field-sound true p d b h = cc
 field-sound false true true b h = (refl, refl, refl, h)
-field-sound false true false b h = cc
-field-sound false false d b h = cc
+field-sound u v w b h = cc
 
 one-more : (n : ℕ) → suc n ≡ n + 1
 one-more n = omega arith

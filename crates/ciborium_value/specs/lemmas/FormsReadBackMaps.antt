@@ -76,10 +76,7 @@ module _ {K V : Type 0} (cmp : K → K → Ordering) (total : IsTotalOrder cmp) 
   front Less Greater d e es h apart = refl
   front Greater Less d e es h apart = refl
   front Equal b d e es h apart = absurd (apart refl)
-  front Less Less d e es h apart = absurd cc
-  front Less Equal d e es h apart = absurd cc
-  front Greater Greater d e es h apart = absurd cc
-  front Greater Equal d e es h apart = absurd cc
+  front u v d e es h apart = absurd cc
 
   abbrev Commutes : K × V → K × V → List (K × V) → Type 0
   Commutes d e es = put_entry (put_entry es e) d ≡ put_entry (put_entry es d) e

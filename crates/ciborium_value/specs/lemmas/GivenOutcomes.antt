@@ -26,21 +26,18 @@ refused_or_given j y e = cc
 pub mapped_gives : {A B : Type 0} (f : A → B) (r : Outcome A) (y : B) → outcome_map f r ≡ gives y →
     (x : A) × (r ≡ gives x) × (f x ≡ y)
 mapped_gives f (gives x) y e = (x, refl, one_given (f x) y e)
-mapped_gives f (refuses j) y e = absurd cc
-mapped_gives f nests y e = absurd cc
+mapped_gives f u y e = absurd cc
 
 pub then_gives : {A B : Type 0} (r : Outcome A) (f : A → Outcome B) (y : B) →
     then_take r f ≡ gives y → (x : A) × (r ≡ gives x) × (f x ≡ gives y)
 then_gives (gives x) f y e = (x, refl, e)
-then_gives (refuses j) f y e = absurd cc
-then_gives nests f y e = absurd cc
+then_gives u f y e = absurd cc
 
 pub more_gives : (r : Outcome Tree) (s : Outcome Trees) (y : Trees) → one_more r s ≡ gives y →
     (v : Tree) × (vs : Trees) × (r ≡ gives v) × (s ≡ gives vs) × (tree v vs ≡ y)
 more_gives (gives v) s y e = let (vs, is, given) = mapped_gives (tree v) s y e in
     (v, vs, refl, is, given)
-more_gives (refuses j) s y e = absurd cc
-more_gives nests s y e = absurd cc
+more_gives u s y e = absurd cc
 
 pub pair_gives : (q r : Outcome Tree) (s : Outcome TreePairs) (y : TreePairs) →
     one_pair_more q r s ≡ gives y
@@ -48,10 +45,7 @@ pub pair_gives : (q r : Outcome Tree) (s : Outcome TreePairs) (y : TreePairs) �
     (tree_pair k v ps ≡ y)
 pair_gives (gives k) (gives v) s y e = let (ps, is, given) = mapped_gives (tree_pair k v) s y e in
     (k, v, ps, refl, refl, is, given)
-pair_gives (gives k) (refuses j) s y e = absurd cc
-pair_gives (gives k) nests s y e = absurd cc
-pair_gives (refuses j) r s y e = absurd cc
-pair_gives nests r s y e = absurd cc
+pair_gives u v s y e = absurd cc
 
 -- a meaning that gives a value is there
 pub meaning_given : {A : Type 0} (j : Kind) (m : Option A) (y : A) → of_meaning j m ≡ gives y →

@@ -43,9 +43,8 @@ neither false t h = (refl, h)
 
 pub first-apart : (s p t : Bool) → (if s then false else p && t) ≡ true →
     (s ≡ false) × (p ≡ true) × (t ≡ true)
-first-apart true p t h = cc
 first-apart false true t h = (refl, refl, h)
-first-apart false false t h = cc
+first-apart u v t h = cc
 
 -- ---- what is written
 
@@ -176,8 +175,7 @@ module _ {T A C D : Type 0} (name : Label) (r : Reading T A) (fill : Option A �
       then_take {A = Option A × C} (outcome_map (λ c. (x, c)) o) completed ≡ gives (a, d)
   with-first x e (gives c) h = ap (λ x. settled (required x (behind.complete c))) e ∙
       first-there (behind.complete c) h
-  with-first x e (refuses k) h = cc
-  with-first x e nests h = cc
+  with-first x e u h = cc
 
   -- all fields, where so much was read of the first one
   abbrev with : Way → Outcome (Option A × C) → List Item → Outcome (A × D)

@@ -59,14 +59,13 @@ pair-given : (o p : Option Tree) (r : Option TreePairs) (n m k : ℕ) (x y : Ste
     (z : Steps TreePairs) → IsGiven o n x → IsGiven p m y → IsGiven r k z →
     IsGiven (tree_pairs_more o p r) (max (max n m) k)
     (then_read x (λ u. then_read y (λ v. mapped (trees.tree_pair u v) z)))
-pair-given None p r n m k x y z f g h l w e fits = cc
-pair-given (Some u) None r n m k x y z f g h l w e fits = cc
 pair-given (Some u) (Some v) r n m k x y z f g h l w e fits =
     let here = within-left l (max n m) k fits in
     ap (λ p. pair_first p (outcome l y) (outcome l z)) (f l u refl (within-left l n m here)) ∙
     ap (λ p. pair_first (gives u) p (outcome l z)) (g l v refl (within-right l n m here))
     ∙ map-given (trees.tree_pair u v) r (outcome l z) w
     (λ ps same. h l ps same (within-right l (max n m) k fits)) e
+pair-given u v r n m k x y z f g h l w e fits = cc
 
 one : {A : Type 0} (v w : A) → Some v ≡ Some w → gives v ≡ gives w
 one v w e = let same : v ≡ w = cc in ap gives same

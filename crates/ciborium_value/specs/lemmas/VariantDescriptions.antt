@@ -119,10 +119,9 @@ module _ {S : Type 0} (name : List ℕ) (behind : VariantsDescription S) where
       either_map (λ u. u) behind.content s ≡ either_map (λ u. u) behind.content t →
       unit_named s ≡ unit_named t
   unit-alike (inl u) (inl v) same = refl
-  unit-alike (inl u) (inr t) same = cc
-  unit-alike (inr s) (inl v) same = cc
   unit-alike (inr s) (inr t) same = let inner : behind.content s ≡ behind.content t = cc in
       behind.alike s t inner
+  unit-alike u v same = cc
 
   pub unit-never : (a : Avoided) (s : Unit {0} ⊎ S) → IsNever a (unit_named s)
   unit-never a (inl u) = never-text a name
@@ -196,10 +195,9 @@ module _ {V S : Type 0} (name : List ℕ) (d : Description V) (behind : Variants
   data-alike (inl v) (inl w) same =
       let inner : d.reading.content v ≡ d.reading.content w = cc in
       ap (under_name name) (d.writes_content v w inner)
-  data-alike (inl v) (inr t) same = cc
-  data-alike (inr s) (inl w) same = cc
   data-alike (inr s) (inr t) same = let inner : behind.content s ≡ behind.content t = cc in
       behind.alike s t inner
+  data-alike u v same = cc
 
   pub data-never : (a : Avoided) (s : V ⊎ S) → IsNever a (data_named s)
   data-never a (inl v) = never-container a dictionary
