@@ -5,17 +5,16 @@ use Rattle.ciborium_value.specs.Sinks.{Named, container_of, IsOwed}
 use Rattle.ciborium_value.specs.Tree.{Tree}
 use Rattle.ciborium_value.specs.TreeAnswers.{tree_cause}
 use Rattle.ciborium_value.specs.declared.error.Error.{Error}
-use Rattle.ciborium_value.specs.declared.error.Error.TheVariants.{Custom, Memory}
+use Rattle.ciborium_value.specs.declared.error.Error.TheVariants.{Custom}
 use Rattle.ciborium_value.specs.declared.tree.Value.{Value}
 use Rattle.ciborium.specs.Literals.{and_pair, both_trees, had_memory, map_tree, named_tree, part_tree}
 
 -- unless memory was lacking, a refusal is the one that is named
 pub refused-by : (r : Result Value Error) (n : Named) → (had_memory r ≡ true → part_tree r ≡ named_tree n) →
     IfErr r (λ e. IsOwed (tree_cause e) n)
-refused-by (Ok v) n made = tt
 refused-by (Err (Custom k)) (Ok i) made = let e = made refl in absurd cc
 refused-by (Err (Custom k)) (Err j) made = let e = made refl in cc
-refused-by (Err Memory) n made = tt
+refused-by u n made = tt
 
 -- two pairs make the map of their parts
 pub two-pairs : (a b c d : Named) {p0 p1 p2 : Result (List (Tree × Tree)) Error} {k v l w t : Result Tree Error} →

@@ -29,9 +29,8 @@ Advances-map a b p q P Q f (x, taken, count, h, bytes) = (x, taken, count, f x h
 
 -- a list of one element
 pub single : (xs : List ℕ) → length xs ≡ 1 → xs ≡ get_or xs 0 0 ∷ []
-single [] h = absurd (omega (arith, h))
 single (x ∷ []) h = refl
-single (x ∷ y ∷ ys) h = absurd (omega (arith, h))
+single u h = absurd (omega (arith, h))
 
 -- ---- an initial byte, and what is read behind it
 

@@ -1,9 +1,8 @@
 -- Bytes that end inside a character, and the texts of which they are the beginning.
-use Rattle.std.proofs.Common.{◌≡◌, ℕ, zero, suc, ◌+◌, ◌-◌, ◌*◌, ◌<◌, ◌≤◌, cond, Bool, true, false}
-use Rattle.std.proofs.Common.{List, [], ◌∷◌, ◌++◌, length, get_or, take, drop, Some, None, refl}
-use Rattle.std.proofs.Common.{sym, ap}
-use Rattle.std.proofs.Common.{◌∙◌, subst, arith, inl, inr, ◌⊎◌, IsUtf8, Option, length-append}
-use Rattle.std.proofs.Common.{length-drop, take-append-drop, get_or-drop, replicate, append_assoc}
+use Rattle.std.proofs.Common.{◌≡◌, ℕ, zero, suc, ◌+◌, ◌-◌, ◌*◌, ◌<◌, ◌≤◌, cond, Bool, true, false, List, [], ◌∷◌, ◌++◌}
+use Rattle.std.proofs.Common.{length, get_or, take, drop, Some, None, refl, sym, ap, ◌∙◌, subst, arith, inl, inr, ◌⊎◌}
+use Rattle.std.proofs.Common.{IsUtf8, Option, length-append, length-drop, take-append-drop, get_or-drop, replicate}
+use Rattle.std.proofs.Common.{append_assoc}
 use Rattle.std.specs.Int.{is_in_range}
 use Rattle.std.specs.Str.{continuation_len, IsValidUpTo}
 use Rattle.std.specs.Str.Lossy.{error_len_of_some, utf8_error_len, second_byte_min, second_byte_max}
@@ -12,8 +11,7 @@ use lib.Utf8.{scalar, scalars, encodes}
 use Rattle.std.proofs.iter.FirstChar.{wide, after_text}
 use Rattle.std.proofs.str.Lossy.{utf8_error_len_some}
 use Rattle.std.proofs.lemmas.Str.{IsUtf8-append, IsUtf8-nil}
-use Rattle.std.proofs.lemmas.List.{take-append-le, drop-append-le, get_or_append_left}
-use Rattle.std.proofs.lemmas.List.{length-replicate}
+use Rattle.std.proofs.lemmas.List.{take-append-le, drop-append-le, get_or_append_left, length-replicate}
 use Rattle.std.proofs.lemmas.List.Elements.{All-replicate}
 use Rattle.ciborium_ll.specs.Bytes.{AreBytes}
 use Rattle.ciborium_ll.specs.ItemLengths.{BeginText}
@@ -277,7 +275,6 @@ after-second x y l h s = by (order x 240)
 -- where no bytes are at fault, the character can end
 pub char-ends : (r : List ℕ) → NoneStands r → 0 < length r → length r < 4 →
     error_len_of_some r ≡ None → CharEnds r
-char-ends [] n some few e = absurd (omega arith)
 char-ends (x ∷ []) n some few e =
     let f = first-is x (passes _ _ _ e).0 in
     after-first x f.0 f.1
@@ -295,7 +292,7 @@ char-ends (x ∷ y ∷ z ∷ []) n some few e =
     let l = not_two x y (z ∷ []) n f.0 (s.least, s.most) in
     let m = not_three x y z [] n l s g in
     (128 ∷ [], is_four x y z 128 m f.1 s g follows-128, ap suc (sym (behind-four x m)))
-char-ends (x ∷ y ∷ z ∷ w ∷ r) n some few e = absurd (omega arith)
+char-ends u n some few e = absurd (omega arith)
 
 -- a text has all the bytes of its first character
 pub char-room : (b : List ℕ) → IsUtf8 b → 0 < length b → continuation_len (get_or b 0 0) < length b

@@ -1,7 +1,6 @@
 -- What was read into a buffer.
 use Rattle.std.proofs.Common.{◌≡◌, ℕ, ◌+◌, ◌<◌, ◌≤◌, List, length, length-take-le, get_or, take, Option, refl, arith}
-use Rattle.std.proofs.Common.{Fits}
-use Rattle.std.proofs.Common.{w8}
+use Rattle.std.proofs.Common.{Fits, w8}
 use Rattle.std.proofs.lemmas.List.Elements.{All-from_get_or, All-take}
 use Rattle.std.specs.Io.KnownBytes.{Consumes, IsAtEnd}
 use Rattle.ciborium_ll.specs.Bytes.{AreBytes}

@@ -1,8 +1,7 @@
 -- Bytes that end inside a head or a payload can be completed, where what they begin may stand.
-use Rattle.std.proofs.Common.{◌≡◌, ℕ, zero, suc, ◌+◌, ◌-◌, ◌*◌, ◌/◌, ◌%◌, ◌<◌, ◌≤◌}
-use Rattle.std.proofs.Common.{List, [], ◌∷◌, ◌++◌, length, get_or}
-use Rattle.std.proofs.Common.{Some, None, option_map, refl, sym, ap, ◌∙◌, subst, arith, inl, inr}
-use Rattle.std.proofs.Common.{◌^◌, ◌⊎◌, append_assoc, length-append, div-add-mod'}
+use Rattle.std.proofs.Common.{◌≡◌, ℕ, zero, suc, ◌+◌, ◌-◌, ◌*◌, ◌/◌, ◌%◌, ◌<◌, ◌≤◌, List, [], ◌∷◌, ◌++◌, length, get_or}
+use Rattle.std.proofs.Common.{Some, None, option_map, refl, sym, ap, ◌∙◌, subst, arith, inl, inr, ◌^◌, ◌⊎◌}
+use Rattle.std.proofs.Common.{append_assoc, length-append, div-add-mod'}
 use Rattle.std.specs.Int.{from_be_bytes, w16, w32, w64}
 use Rattle.std.proofs.lemmas.Bool.Decides.{nat_tests}
 use Rattle.std.proofs.lemmas.List.Elements.{All-append}
@@ -15,8 +14,7 @@ use Rattle.ciborium_ll.specs.declared.levels.Level.{Level}
 use Rattle.ciborium_ll.specs.declared.levels.Level.TheVariants.{Items, OpenItems, OpenKeys}
 use Rattle.ciborium_ll.specs.declared.levels.Level.TheVariants.{OpenValues, ByteChunks, TextChunks}
 use Rattle.ciborium_ll.specs.Bytes.{AreBytes}
-use Rattle.ciborium_ll.specs.Head.{IsHead, one_byte, two_bytes, four_bytes, eight_bytes}
-use Rattle.ciborium_ll.specs.Head.{break_byte}
+use Rattle.ciborium_ll.specs.Head.{IsHead, one_byte, two_bytes, four_bytes, eight_bytes, break_byte}
 use Rattle.ciborium_ll.specs.Header.{SpellsHeader}
 use Rattle.ciborium_ll.specs.ItemLengths.{chunk_major}
 use Rattle.ciborium_ll.specs.Levels.{EndAll, behind_item, behind_bytes, behind_text, behind_head}
@@ -217,10 +215,8 @@ module _ (x : ℕ) (s : List ℕ) (byte : x < 256) (bytes : AreBytes s)
 
 payload-of : (head : Header) → (p : List ℕ) × IsPayloadOf head p
 payload-of (header.Bytes (Some n)) = (zeros n, (length-zeros n, bytes-zeros n))
-payload-of (header.Bytes None) = ([], refl)
 payload-of (header.Text (Some n)) = (zeros n, (length-zeros n, text-zeros n))
-payload-of (header.Text None) = ([], refl)
-payload-of _ = ([], refl)
+payload-of u = ([], refl)
 
 payload-ends : (head : Header) (q : List ℕ) → IsCutPayload head q →
     (t : List ℕ) × (0 < length t) × IsPayloadOf head (q ++ t)
@@ -303,8 +299,6 @@ as-text m header.Break levels e is = absurd is
 
 stands : (m : ℕ) (head : Header) (levels : List Level) → AreOpen levels → IsMajorOf m head →
     ((major : ℕ) → chunk_major levels ≡ Some major → m ≡ major) → Stands head levels
-stands m head [] still is part = absurd still
-stands m head (Items zero ∷ levels) still is part = absurd still
 stands m head (Items (suc n) ∷ levels) still is part =
     as-item m head (Items (suc n) ∷ levels) (Items n ∷ levels) is refl refl refl
 stands m head (OpenItems ∷ levels) still is part =
@@ -315,6 +309,7 @@ stands m head (OpenValues ∷ levels) still is part =
     as-item m head (OpenValues ∷ levels) (OpenKeys ∷ levels) is refl refl refl
 stands m head (ByteChunks ∷ levels) still is part = as-bytes m head levels (part 2 refl) is
 stands m head (TextChunks ∷ levels) still is part = as-text m head levels (part 3 refl) is
+stands m head u still is part = absurd still
 
 -- ---- what ends a level that is not complete
 

@@ -35,11 +35,10 @@ none-taken a b p r e TooLong err is by-io room kept = absurd by-io
 none-taken a b p r e Memory err is by-io room kept = absurd by-io
 
 one-byte : (n : ℕ) (xs : List ℕ) → n ≤ length xs → length xs ≡ 1 → (n ≡ 0 → ⊥) → take n xs ≡ xs
-one-byte n [] h one some = absurd (omega (arith, one))
 one-byte zero (x ∷ xs) h one some = absurd (some refl)
 one-byte (suc zero) (x ∷ []) h one some = refl
 one-byte (suc (suc n)) (x ∷ []) h one some = absurd (omega (arith, h))
-one-byte n (x ∷ y ∷ xs) h one some = absurd (omega (arith, one))
+one-byte n u h one some = absurd (omega (arith, one))
 
 -- it gave the initial byte
 pub first-given : (a b : Option (List ℕ)) (p q n : ℕ) (buffer : List ℕ) → p < greatest_offset → (n ≡ 0 → ⊥) →
@@ -80,9 +79,8 @@ first-empty {E} old new q count result room known (x, taken, sum, t, bytes) =
     io-only o h = sym (none-refused q room) ∙ h
 
     by : (result : Result (Option Header) (Error E)) → IsFirstTaken {E = E} [] q result → IsEndOrFault {E = E} result
-    by (Ok None) t = tt
     by (Ok (Some h)) t = absurd (let never = io-only None t.answers.1 in cc)
-    by (Err (Io e)) t = tt
     by (Err (Syntax at)) t = absurd (let never = io-only (Some (syntax at)) t.answers in cc)
     by (Err TooLong) t = absurd (let never = io-only (Some too_long) t.answers in cc)
     by (Err Memory) t = t.answers
+    by u t = tt

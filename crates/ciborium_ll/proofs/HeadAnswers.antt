@@ -8,7 +8,7 @@ use Rattle.ciborium_ll.specs.declared.header.Header.{Header}
 use Rattle.ciborium_ll.specs.declared.header.Header.TheVariants.{Positive, Negative, Bytes, Text, Array, Map, Tag}
 use Rattle.ciborium_ll.specs.declared.header.Header.TheVariants.{Simple, Float, Break}
 use Rattle.ciborium_ll.specs.declared.header.Error.{Error}
-use Rattle.ciborium_ll.specs.declared.header.Error.TheVariants.{Io, Syntax, TooLong, Memory}
+use Rattle.ciborium_ll.specs.declared.header.Error.TheVariants.{Io, Syntax, TooLong}
 use Rattle.ciborium_ll.specs.Bytes.{greatest_offset}
 use Rattle.ciborium_ll.specs.Head.{Width, capacity, information, argument_bytes, initial_byte, IsHead}
 use Rattle.ciborium_ll.specs.Header.{SpellsHeader, announced_length}
@@ -56,9 +56,8 @@ short-io x b p h room =
     hold _ _ _ (lt-ltb (length b) (argument_length (x % 32)) h)
 
 length-take-below : (k : ℕ) (b : List ℕ) → length (take k b) ≤ k
-length-take-below zero b = omega arith
-length-take-below (suc k) [] = omega arith
 length-take-below (suc k) (x ∷ b) = let h = length-take-below k b in omega arith
+length-take-below u v = omega arith
 
 -- no byte of a head is spare up to what the initial byte asks for
 none-spare : (x : ℕ) (b : List ℕ) (p : ℕ) → p < greatest_offset → length b ≤ argument_length (x % 32) →
@@ -76,7 +75,6 @@ pub first-refused : {E : Type 0} (b : List ℕ) (p : ℕ) (buffer : List ℕ) (e
     IsFillTaken b p buffer (Err e) → IsHeadTaken b p (Err e)
 first-refused [] p buffer (Io e) one h = record { answers = empty-io p (omega arith); needed = no-spare p }
 first-refused (x ∷ b) p buffer (Io e) one h = absurd (omega (arith, h.0, one))
-first-refused b p buffer (Syntax at) one h = absurd h
 first-refused b p buffer TooLong one h =
     let over : greatest_offset ≤ p = omega (arith, h.1, one) in
     let none : HeadRefuses [] p too_long = pass _ _ _ (le-ltb p greatest_offset over) in
@@ -84,7 +82,7 @@ first-refused b p buffer TooLong one h =
       answers = subst (λ c. HeadRefuses c p too_long) (sym h.0) none;
       needed = subst (λ c. NoneIsSpare c p) (sym h.0) (no-spare p);
     }
-first-refused b p buffer Memory one h = absurd h
+first-refused b p buffer u one h = absurd h
 
 -- ---- the argument
 
@@ -97,7 +95,6 @@ argument-refused x b p buffer (Io e) first len h =
       answers = short-io x b p (omega (arith, h.0, len)) room;
       needed = none-spare x b p (omega arith) (omega (arith, h.0, len)) (λ z. room);
     }
-argument-refused x b p buffer (Syntax at) first len h = absurd h
 argument-refused x b p buffer TooLong first len h =
     let over : greatest_offset < p + 1 + argument_length (x % 32) = omega (arith, h.1, len) in
     let alone : HeadRefuses (x ∷ []) p too_long =
@@ -109,7 +106,7 @@ argument-refused x b p buffer TooLong first len h =
       answers = subst (λ c. HeadRefuses (x ∷ c) p too_long) (sym h.0) alone;
       needed = subst (λ c. NoneIsSpare (x ∷ c) p) (sym h.0) spare;
     }
-argument-refused x b p buffer Memory first len h = absurd h
+argument-refused x b p buffer u first len h = absurd h
 
 -- ---- a whole head
 

@@ -1,8 +1,7 @@
 -- Bytes that a reader holds, and how they are taken from there.
 use Rattle.std.proofs.Common.{◌≡◌, ℕ, suc, ◌+◌, ◌-◌, ◌<◌, ◌≤◌, List, [], ◌∷◌, ◌++◌, length, length-take-le, get_or}
-use Rattle.std.proofs.Common.{take, drop}
-use Rattle.std.proofs.Common.{slice_range, Option, Some, None, IfSome}
-use Rattle.std.proofs.Common.{sym, ap, ◌∙◌, subst, arith, take-append-drop}
+use Rattle.std.proofs.Common.{take, drop, slice_range, Option, Some, None, IfSome, sym, ap, ◌∙◌, subst, arith}
+use Rattle.std.proofs.Common.{take-append-drop}
 use Rattle.std.proofs.Math.Seq.{take-take}
 use Rattle.std.proofs.lemmas.List.Elements.{All-take}
 use Rattle.std.specs.Io.{StartsWith}

@@ -101,15 +101,10 @@ read (suc d) bs = item_at (read d) d (front bs)
 -- how much fuel an item needs
 abbrev mutual
   pub weight : Item → ℕ
-  weight (unsigned n) = 1
-  weight (negative n) = 1
-  weight (bytes o p) = 1
-  weight (text o p) = 1
   weight (array o is) = suc (items_weight is)
   weight (map o ps) = suc (pairs_weight ps)
   weight (tag n i) = suc (weight i)
-  weight (simple n) = 1
-  weight (float r) = 1
+  weight u = 1
 
   pub items_weight : Items → ℕ
   items_weight no_items = 1
@@ -146,10 +141,8 @@ taken c p x = ap (λ (t : List ℕ). found (c t) (drop (length p) (p ++ x))) (ta
 
 parts-again : (m : ℕ) (IsAllowed : List ℕ → Type 0) (ps : List (List ℕ)) (k : ℕ) (b x : List ℕ) → m < 7 → length b < k →
     AreChunks m IsAllowed b ps → parts k (b ++ (255 ∷ x)) ≡ found (joined ps) x
-parts-again m IsAllowed [] zero b x lt le s = let never : ⊥ = omega arith in absurd never
 parts-again m IsAllowed [] (suc k) b x lt le s = ap (λ (c : List ℕ). part_in (parts k) (front (c ++ (255 ∷ x)))) s ∙
     ap (part_in (parts k)) (front_open 7 x)
-parts-again m IsAllowed (p ∷ ps) zero b x lt le s = let never : ⊥ = omega arith in absurd never
 parts-again m IsAllowed (p ∷ ps) (suc k) b x lt le s =
     let q = s.0 in
     let r = s.1 in
@@ -170,6 +163,7 @@ parts-again m IsAllowed (p ∷ ps) (suc k) b x lt le s =
     (drop-append_seam p (r ++ (255 ∷ x))) ∙
     ap (λ (t : List ℕ). parse_map (λ z. t ++ z) (parts k (r ++ (255 ∷ x)))) (take-append_seam p (r ++ (255 ∷ x))) ∙
     ap (parse_map (λ z. p ++ z)) (parts-again m IsAllowed ps k r x lt shorter s.3)
+parts-again m u v w b x lt le s = let never : ⊥ = omega arith in absurd never
 
 string-again : (d : ℕ) (o : Bool) (p b x : List ℕ) → 0 < d → IsString o 2 AreBytes b p →
     read d (b ++ x) ≡ found (bytes o p) x
@@ -254,11 +248,9 @@ mutual
 
   until-again : (is : Items) (d k : ℕ) (b x : List ℕ) → items_weight is ≤ d → items_weight is ≤ k → SpellsItems b is →
       until (read d) k (b ++ (255 ∷ x)) ≡ found is x
-  until-again no_items d zero b x le lk s = let never : ⊥ = omega arith in absurd never
   until-again no_items d (suc k) b x le lk s =
       ap (λ (c : List ℕ). until (read d) (suc k) (c ++ (255 ∷ x))) s ∙
       ap (λ r. or_end r (ended (255 ∷ x)) (item_then (until (read d) k) r)) (read-break d x (omega arith))
-  until-again (item i is) d zero b x le lk s = let never : ⊥ = omega arith in absurd never
   until-again (item i is) d (suc k) b x le lk s =
       let y : List ℕ = 255 ∷ x in
       ap (λ (c : List ℕ). until (read d) (suc k) (c ++ y)) s.4 ∙
@@ -266,6 +258,7 @@ mutual
       ap (λ r. or_end r (ended (s.0 ++ (s.1 ++ y))) (item_then (until (read d) k) r))
       (read-again i d s.0 (s.1 ++ y) (omega arith) s.2) ∙
       ap (parse_map (item i)) (until-again is d k s.1 x (omega arith) (omega arith) s.3)
+  until-again u d v b x le lk s = let never : ⊥ = omega arith in absurd never
 
   many_pairs-again : (ps : Pairs) (d : ℕ) (b x : List ℕ) → pairs_weight ps ≤ d → SpellsPairs b ps →
       many_pairs (read d) (pairs_count ps) (b ++ x) ≡ found ps x
@@ -281,12 +274,10 @@ mutual
 
   until_pairs-again : (ps : Pairs) (d k : ℕ) (b x : List ℕ) → pairs_weight ps ≤ d → pairs_weight ps ≤ k →
       SpellsPairs b ps → until_pairs (read d) k (b ++ (255 ∷ x)) ≡ found ps x
-  until_pairs-again no_pairs d zero b x le lk s = let never : ⊥ = omega arith in absurd never
   until_pairs-again no_pairs d (suc k) b x le lk s =
       ap (λ (c : List ℕ). until_pairs (read d) (suc k) (c ++ (255 ∷ x))) s ∙
       ap (λ r. or_end r (pairs_ended (255 ∷ x)) (pair_then (read d) (until_pairs (read d) k) r))
       (read-break d x (omega arith))
-  until_pairs-again (pair i j ps) d zero b x le lk s = let never : ⊥ = omega arith in absurd never
   until_pairs-again (pair i j ps) d (suc k) b x le lk s =
       let y : List ℕ = 255 ∷ x in
       let more = until_pairs (read d) k in
@@ -297,3 +288,4 @@ mutual
       (read-again i d s.0 (s.1 ++ (s.2 ++ y)) (omega arith) s.3) ∙
       ap (option_and_then (λ q. parse_map (pair i q.0) (more q.1))) (read-again j d s.1 (s.2 ++ y) (omega arith) s.4) ∙
       ap (parse_map (pair i j)) (until_pairs-again ps d k s.2 x (omega arith) (omega arith) s.5)
+  until_pairs-again u d v b x le lk s = let never : ⊥ = omega arith in absurd never

@@ -90,9 +90,8 @@ to-end (level ∷ levels) b (c, here, others) =
 -- ---- complete levels
 
 pub incomplete-again : (levels : List Level) → incomplete (incomplete levels) ≡ incomplete levels
-incomplete-again [] = refl
 incomplete-again (Items zero ∷ levels) = incomplete-again levels
-incomplete-again (level ∷ levels) = refl
+incomplete-again u = refl
 
 -- complete levels may be dropped
 pub open-incomplete : (c : List ℕ) (levels : List Level) → IsOpenBehind c levels →
@@ -136,8 +135,7 @@ can-end-level OpenItems = (255 ∷ [], (no_items, [], refl, refl))
 can-end-level OpenKeys = (255 ∷ [], (no_pairs, [], refl, refl))
 can-end-level OpenValues =
     (0 ∷ 255 ∷ [], (unsigned 0, 0 ∷ [], 255 ∷ [], zero-spelled, (no_pairs, [], refl, refl), refl))
-can-end-level ByteChunks = (255 ∷ [], ([], [], refl, refl))
-can-end-level TextChunks = (255 ∷ [], ([], [], refl, refl))
+can-end-level u = (255 ∷ [], ([], [], refl, refl))
 
 pub can-end : (levels : List Level) → (b : List ℕ) × EndAll levels b
 can-end [] = ([], refl)

@@ -30,9 +30,8 @@ AreOpen (Items zero ∷ levels) = ⊥
 AreOpen (level ∷ levels) = Unit {0}
 
 incomplete-length : (levels : List Level) → length (incomplete levels) ≤ length levels
-incomplete-length [] = omega arith
 incomplete-length (Items zero ∷ levels) = let le = incomplete-length levels in omega arith
-incomplete-length (level ∷ levels) = omega arith
+incomplete-length u = omega arith
 
 pub are-open : (levels : List Level) → incomplete levels ≡ levels → ¬ (levels ≡ []) →
     AreOpen levels

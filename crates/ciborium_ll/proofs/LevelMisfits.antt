@@ -1,7 +1,6 @@
 -- What misfits the open levels begins nothing that ends them, and so no item stands at the front.
-use Rattle.std.proofs.Common.{◌≡◌, ℕ, zero, suc, ◌/◌, ◌%◌, ltb, Bool, true, false, ◌&&◌}
-use Rattle.std.proofs.Common.{◌||◌, List, [], ◌∷◌, ◌++◌, length, take, Some, refl, sym}
-use Rattle.std.proofs.Common.{ap, ◌∙◌, subst, arith, inl, inr, ◌⊎◌, ne_eqb, append_assoc}
+use Rattle.std.proofs.Common.{◌≡◌, ℕ, zero, suc, ◌/◌, ◌%◌, ltb, Bool, true, false, ◌&&◌, ◌||◌, List, [], ◌∷◌, ◌++◌}
+use Rattle.std.proofs.Common.{length, take, Some, refl, sym, ap, ◌∙◌, subst, arith, inl, inr, ◌⊎◌, ne_eqb, append_assoc}
 use Rattle.std.proofs.Math.Seq.{take-append_seam}
 use Rattle.std.proofs.lemmas.Nat.{div-mul-add, mod-mul-add}
 use Rattle.std.specs.Prelude.{IsUtf8}
@@ -13,8 +12,7 @@ use Rattle.ciborium_ll.specs.Head.{IsHead, information, argument_bytes, initial_
 use Rattle.ciborium_ll.specs.Header.{SpellsHeader}
 use Rattle.ciborium_ll.specs.ItemLengths.{Misfits, ill_formed, misplaced, no_chunk, no_text}
 use Rattle.ciborium_ll.specs.ItemLengths.{BeginNoItem, BeginText, chunk_major}
-use Rattle.ciborium_ll.specs.Levels.{EndAll, AreItem, IsOpenBehind, IsPayloadOf, behind_head}
-use Rattle.ciborium_ll.specs.Levels.{incomplete}
+use Rattle.ciborium_ll.specs.Levels.{EndAll, AreItem, IsOpenBehind, IsPayloadOf, behind_head, incomplete}
 use Rattle.ciborium_ll.specs.Refusal.{argument_length, is_reserved, is_low_simple, is_ill_formed}
 use Rattle.ciborium_ll.proofs.HeadAnswers.{Facts, header-begins}
 use Rattle.ciborium_ll.proofs.LevelEnds.{anywhere, can-end}

@@ -50,12 +50,11 @@ chain : (p : ℕ) (t u v v' w w' : Bool) (o : Option Refusal) → (v ≡ false �
     cond t (Some (syntax p)) (cond u (Some too_long) (cond v (Some io) (cond w (Some too_long) None))) ≡ o →
     (o ≡ Some io → ⊥) →
     cond t (Some (syntax p)) (cond u (Some too_long) (cond v' (Some io) (cond w' (Some too_long) None))) ≡ o
-chain p true u v v' w w' o f h n = h
-chain p false true v v' w w' o f h n = h
 chain p false false true v' w w' o f h n = absurd (n (sym h))
 chain p false false false v' w w' o f h n =
     let e = f refl in ap (λ k. cond k (Some io) (cond w' (Some too_long) None)) e.0 ∙
     ap (λ k. cond k (Some too_long) None) e.1 ∙ h
+chain p u x v v' w w' o f h n = h
 
 initial-more : (m a p : ℕ) (b r : List ℕ) (o : Option Refusal) → initial_refusal m a b p ≡ o → (o ≡ Some io → ⊥) →
     initial_refusal m a (b ++ r) p ≡ o
@@ -103,14 +102,12 @@ refusal-more (x ∷ []) r p o h n = by (ltb p greatest_offset) (ltb (p + 1) grea
         cond t (cond (u && v) (Some (syntax p)) (initial_refusal (x / 32) (x % 32) r p)) (Some too_long) ≡ o
     by false u v e f h = h
     by true true true e f h = absurd (n (sym h ∙ low-ends x p r e f))
-    by true true false e f h = initial-more (x / 32) (x % 32) p [] r o h n
-    by true false v e f h = initial-more (x / 32) (x % 32) p [] r o h n
+    by u v w e f h = initial-more (x / 32) (x % 32) p [] r o h n
 refusal-more (x ∷ y ∷ b) r p o h n = by (ltb p greatest_offset) (ltb (p + 1) greatest_offset && (eqb x 248 && ltb y 32))
     h
   where
     by : (t u : Bool) → cond t (cond u (Some (syntax p)) (initial_refusal (x / 32) (x % 32) (y ∷ b) p)) (Some too_long)
         ≡ o →
         cond t (cond u (Some (syntax p)) (initial_refusal (x / 32) (x % 32) (y ∷ (b ++ r)) p)) (Some too_long) ≡ o
-    by false u h = h
-    by true true h = h
     by true false h = initial-more (x / 32) (x % 32) p (y ∷ b) r o h n
+    by u v h = h

@@ -4,7 +4,7 @@ use Rattle.std.proofs.Common.{subst, arith, append_assoc, append-nil, length-app
 use Rattle.ciborium_ll.specs.declared.header.Header.{Header}
 use Rattle.ciborium_ll.specs.declared.header.Header.TheVariants as header
 use Rattle.ciborium_ll.specs.declared.header.Error.{Error}
-use Rattle.ciborium_ll.specs.declared.header.Error.TheVariants.{Io, Syntax, TooLong, Memory}
+use Rattle.ciborium_ll.specs.declared.header.Error.TheVariants.{Syntax, TooLong}
 use Rattle.ciborium_ll.specs.declared.strings.Chunk.TheVariants.{Other}
 use Rattle.ciborium_ll.specs.Bytes.{greatest_offset}
 use Rattle.ciborium_ll.specs.Head.{IsHead, break_byte}
@@ -133,10 +133,9 @@ parts-refused {E} kind a b c p q r old mid new e (ps, s, parts, was, taken, belo
 pub nothing-appended : {E : Type 0} (kind : StringKind) (n p : ℕ) (e : Error E) (added b : List ℕ) →
     IsPayloadTaken {E = E} kind n p b (Err e) added →
     (added ≡ []) × IsPayloadTaken {E = E} kind n p b (Err e) []
-nothing-appended kind n p (Io e) added b h = (h.1, (h.0, refl))
 nothing-appended kind n p (Syntax at) added b h = (h.3, (h.0, h.1, h.2, refl))
 nothing-appended kind n p TooLong added b h = absurd h
-nothing-appended kind n p Memory added b h = (h.1, (h.0, refl))
+nothing-appended kind n p u added b h = (h.1, (h.0, refl))
 
 -- the payload of a part was refused
 pub payload-refused : {E : Type 0} (kind : StringKind) (b c d : Option (List ℕ)) (k q r t n : ℕ) (mid new : List ℕ)

@@ -33,9 +33,8 @@ behind-some : {E : Type 0} (n left : ℕ) (old mid new x y : List ℕ) (e : Erro
     IsSomeTaken {E = E} left y (Err e) mid new → IsPiecesTaken {E = E} n (x ++ y) (Err e) old new
 behind-some n left old mid new x y (Io e) s h =
     (omega (arith, s.1, h.0, length-append x y), (x, h.1 ∙ s.0))
-behind-some n left old mid new x y (Syntax at) s h = absurd h
-behind-some n left old mid new x y TooLong s h = absurd h
 behind-some n left old mid new x y Memory s h = (omega (arith, s.1, h.0, length-append x y), (x, h.1 ∙ s.0))
+behind-some n left old mid new x y u s h = absurd h
 
 -- a refusal
 pub some-refused : {E : Type 0} (a b c : Option (List ℕ)) (p q r n left : ℕ) (old mid new : List ℕ) (e : Error E) →

@@ -1,6 +1,6 @@
 -- The laws of the shortest head.
 use Rattle.std.proofs.Common.{◌≡◌, ℕ, suc, ◌^◌, ◌<◌, ◌≤◌, length, refl, ap, ◌∙◌, arith}
-use Rattle.ciborium_ll.specs.Head.{Width, within, one_byte, two_bytes, four_bytes, eight_bytes, capacity}
+use Rattle.ciborium_ll.specs.Head.{Width, within, capacity}
 use Rattle.ciborium_ll.specs.Head.{argument_bytes, head_in, narrowest, shortest_head}
 use Rattle.ciborium_ll.specs.laws.SpellingLaws.{ShortestIsHead, NoneIsShorter, NoOtherIsAsShort}
 
@@ -11,20 +11,13 @@ narrowest-holds n h = grind (arith, capacity, narrowest)
 -- no width that holds a number is narrower
 narrowest-length : (w : Width) (n : ℕ) → n < capacity w →
     length (argument_bytes (narrowest n) n) ≤ length (argument_bytes w n)
-narrowest-length within n h = grind (arith, h)
-narrowest-length one_byte n h = grind (arith, h)
-narrowest-length two_bytes n h = grind (arith, h)
-narrowest-length four_bytes n h = grind (arith, h)
-narrowest-length eight_bytes n h = grind (arith, h)
+narrowest-length u n h = grind (arith, h)
 
 -- a width that is as narrow is the narrowest
 narrowest-only : (w : Width) (n : ℕ) → n < capacity w →
     length (argument_bytes w n) ≤ length (argument_bytes (narrowest n) n) → w ≡ narrowest n
 narrowest-only within n h k = grind (arith, h)
-narrowest-only one_byte n h k = grind (arith, h, k)
-narrowest-only two_bytes n h k = grind (arith, h, k)
-narrowest-only four_bytes n h k = grind (arith, h, k)
-narrowest-only eight_bytes n h k = grind (arith, h, k)
+narrowest-only u n h k = grind (arith, h, k)
 
 pub shortest_is_head : ShortestIsHead
 unfolding shortest_head

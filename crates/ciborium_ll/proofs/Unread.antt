@@ -197,10 +197,9 @@ utf8-none added e = subst IsUtf8 (sym e) IsUtf8-nil
 payload-utf8 : {E : Type 0} (n p : ℕ) (result : Result (Unit {0}) (Error E)) (added x : List ℕ) →
     IsPayloadTaken {E = E} of_text n p x result added → IsUtf8 added
 payload-utf8 n p (Ok u) added x h = subst IsUtf8 (sym h.2) h.1
-payload-utf8 n p (Err (Io e)) added x h = utf8-none added h.1
 payload-utf8 n p (Err (Syntax at)) added x h = utf8-none added h.3
 payload-utf8 n p (Err TooLong) added x h = absurd h
-payload-utf8 n p (Err Memory) added x h = utf8-none added h.1
+payload-utf8 n p u added x h = utf8-none added h.1
 
 pub appended-utf8 : {E : Type 0} (len : Option ℕ) (p q : ℕ) (result : Result (Unit {0}) (Error E)) (added x : List ℕ) →
     IsStringTaken {E = E} of_text len p x q result added → IsUtf8 added

@@ -24,15 +24,13 @@ bytes_after [] r h = h
 bytes_after (x ∷ s) r h = bytes_after s r h.1
 
 pub byte_at : (b : List ℕ) → EachIsByte b → (i : ℕ) → get_or b i 0 < 256
-byte_at [] h zero = omega arith
-byte_at [] h (suc i) = omega arith
 byte_at (x ∷ b) h zero = h.0
 byte_at (x ∷ b) h (suc i) = byte_at b h.1 i
+byte_at u h v = omega arith
 
 pub take_bytes : (k : ℕ) (b : List ℕ) → EachIsByte b → EachIsByte (take k b)
-take_bytes zero b h = tt
-take_bytes (suc k) [] h = tt
 take_bytes (suc k) (x ∷ b) h = (h.0, take_bytes k b h.1)
+take_bytes u v h = tt
 
 -- ---- tests
 
@@ -90,10 +88,7 @@ fits-usable x b p h e u =
 pub argument_length-information : (f : Width) (n : ℕ) → n < capacity f →
     argument_length (information f n) ≡ length (argument_bytes f n)
 argument_length-information within n h = grind (arith, nat_tests)
-argument_length-information one_byte n h = refl
-argument_length-information two_bytes n h = refl
-argument_length-information four_bytes n h = refl
-argument_length-information eight_bytes n h = refl
+argument_length-information u n h = refl
 
 pub information-below : (f : Width) (n : ℕ) → n < capacity f → information f n < 28
 information-below within n h = omega arith

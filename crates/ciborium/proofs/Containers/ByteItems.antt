@@ -15,7 +15,7 @@ use Rattle.ciborium_value.specs.Places.{sequence}
 use Rattle.ciborium_value.specs.Sources.{Fault, IsFaultOf, TakesAhead, RefusesAhead, TakesItem, TakesTo, GoesOn, Leaves}
 use Rattle.ciborium_value.specs.Sources.{RefusesNext, OwesLess, OwesNothing, HasItem, TakesOneItem, TakesOnly}
 use Rattle.ciborium_value.specs.lemmas.GivenOutcomes.{and_take}
-use Rattle.ciborium_value.specs.Taken.{Outcome, Steps, Taken, deeper, gives, nests, outcome, refuses, take_each}
+use Rattle.ciborium_value.specs.Taken.{Outcome, Steps, Taken, deeper, gives, outcome, refuses, take_each}
 use Rattle.ciborium_value.specs.Taken.{then_take}
 use Rattle.ciborium_value.specs.Taken.{number_below, taken_integer, taken_byte, taken_bytes, bare_bytes, untagged}
 use Rattle.ciborium_value.specs.declared.kind.Kind.TheVariants as kinds

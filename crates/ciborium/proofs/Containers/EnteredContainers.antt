@@ -249,9 +249,8 @@ pairs-given m some count ts i xs (o, js, is, all) =
     ap (λ z. gives (true, z)) all ∙ ap (λ b. gives (b, xs)) (level-form count)
 
 pub bytes-had : (k : Left) (P : List ℕ → Type 0) → HasBytes k P → (v : _) × (k ≡ left.Bytes v) × P (into_iter_items v)
-bytes-had (left.Counted n) P h = absurd h
-bytes-had left.Open P h = absurd h
 bytes-had (left.Bytes v) P h = (v, refl, h)
+bytes-had u v h = absurd h
 
 -- the bytes of a byte string that was read whole
 pub bytes-entered : {S W : Type 0} (remaining : S → Option (List ℕ)) (old mid new : ByteSource S W) (q : ByteSeq)

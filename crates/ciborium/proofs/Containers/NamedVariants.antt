@@ -1,5 +1,5 @@
 -- Names, and variants that are entered by theirs.
-use Rattle.std.proofs.Common.{◌≡◌, ◌≢◌, ℕ, Bool, true, false, List, [], ◌∷◌, ◌++◌, Option, Some, None, refl, sym, ap}
+use Rattle.std.proofs.Common.{◌≡◌, ◌≢◌, ℕ, Bool, false, List, [], ◌∷◌, ◌++◌, Option, Some, None, refl, sym, ap}
 use Rattle.std.proofs.Common.{◌∙◌, subst, append_assoc, append-nil, arith, inl, length-append}
 use Rattle.std.specs.Str.{is_utf8, IsUtf8}
 use Rattle.std.proofs.lemmas.Str.{is_utf8-from_IsUtf8}
@@ -198,10 +198,8 @@ pair-only u v e = cc
 
 other-pairs : (l : Limit) (h : Header) → (h ≡ header.Map (Some 1) → ⊥) → (o : Bool) (ps : Pairs) →
     h ≡ header.Map (size_of o (pairs_count ps)) → outcome l (bare_variant (items.map o ps)) ≡ refuses kinds.Variant
-other-pairs l h q true ps e = refl
-other-pairs l h q false no_pairs e = refl
 other-pairs l h q false (pair k v no_pairs) e = absurd (q e)
-other-pairs l h q false (pair k v (pair k' v' ps)) e = refl
+other-pairs l h q u v e = refl
 
 pub text-nests : (m : ℕ) (len : Option ℕ) → m ≡ 0 → (ts : List ℕ) (i : Item) → AreSkipped false ts →
     header_of i ≡ header.Text len → outcome (Some m) (taken_variant (under ts i)) ≡ nests

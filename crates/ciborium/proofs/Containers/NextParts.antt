@@ -35,11 +35,8 @@ fits-past name b (entry v form ps f) h = h
 fits-past name b (held f) h = h
 
 pub none-past : (p : Option (Header × ℕ)) → p ≡ None → (f : Rest) → HasNoneBehind p (past f)
-none-past p e (bottom m r) = e
-none-past p e (parts form is f) = e
-none-past p e (pairs form ps f) = e
 none-past p e (entry v form ps f) = tt
-none-past p e (held f) = e
+none-past p e u = e
 
 -- ---- the parts left, by what stands at the front
 

@@ -1,5 +1,5 @@
 -- Of values that a program holds, the order of ordered values is that of their encodings.
-use Rattle.std.proofs.Common.{◌≡◌, refl, sym, ap, ◌∙◌, Ordering, Less, Equal, Greater, nat_cmp}
+use Rattle.std.proofs.Common.{◌≡◌, refl, sym, ap, ◌∙◌, Ordering, Equal, nat_cmp}
 use Rattle.std.specs.Cmp.Lexicographic.{slice_cmp}
 use Rattle.std.specs.Ordering.{ordering_then}
 use Rattle.ciborium_value.specs.Canonical.{key_order}
@@ -22,9 +22,8 @@ use Rattle.ciborium.proofs.Encodings.EncodingLaws.{one_tree}
 
 -- a first order whose ties are those of the second decides
 first_decides : (o p : Ordering) → (o ≡ Equal → p ≡ Equal) → o ≡ ordering_then o p
-first_decides Less p h = refl
 first_decides Equal p h = sym (h refl)
-first_decides Greater p h = refl
+first_decides u p h = refl
 
 second_tied : (o p : Ordering) → ordering_then o p ≡ Equal → p ≡ Equal
 second_tied Equal p e = e

@@ -128,9 +128,8 @@ head-passes x y h p s r = by (header-begins x h s)
 -- ---- why a reader gave no more
 
 pub io-outside : (left : Option (List ℕ)) (end : ℕ) → (left ≡ Some [] → ⊥) → IsOutsideFault end (io_fault left)
-io-outside None end h = tt
 io-outside (Some []) end h = h refl
-io-outside (Some (x ∷ b)) end h = tt
+io-outside u end h = tt
 
 -- it is no want of memory
 granted-io : (left : Option (List ℕ)) (needs : Bool) → IsGrantedFault (io_fault left) needs
@@ -148,13 +147,8 @@ ended-ll can_fail left ll.Memory h = h
 
 pub failed-fault : {E : Type 0} (can_fail : Bool) (left : Option (List ℕ)) (e : Error E) → HasEndedBy can_fail left e →
     fault_of left e ≡ fault_of (left_at_failure can_fail left) e
-failed-fault true left e h = refl
 failed-fault false left (errors.Io e) h = ap io_fault (h refl)
-failed-fault false left (errors.Syntax p) h = refl
-failed-fault false left (errors.Semantic p k) h = refl
-failed-fault false left errors.RecursionLimitExceeded h = refl
-failed-fault false left errors.Memory h = refl
-failed-fault false left errors.TooLong h = refl
+failed-fault u left v h = refl
 
 pub failed-end : (can_fail : Bool) (left : Option (List ℕ)) → IsUsedUp can_fail left →
     left_at_failure can_fail left ≡ Some [] → left ≡ Some []
@@ -180,15 +174,13 @@ pub granted-head : {E : Type 0} (left : Option (List ℕ)) (x : LlError E) (b : 
     IsHeadTaken {E = E} b p (Err x) → IsGrantedFault (fault_of left (from_ll x)) needs
 granted-head left ll.Memory b p needs h = absurd h.answers
 granted-head left (ll.Io e) b p needs h = granted-io left needs
-granted-head left (ll.Syntax at) b p needs h = tt
-granted-head left ll.TooLong b p needs h = tt
+granted-head left u b p needs h = tt
 
 pub granted-fill : {E : Type 0} (left : Option (List ℕ)) (x : LlError E) (b buffer : List ℕ) (p : ℕ) (needs : Bool) →
     IsFillTaken {E = E} b p buffer (Err x) → IsGrantedFault (fault_of left (from_ll x)) needs
 granted-fill left ll.Memory b buffer p needs h = absurd h
 granted-fill left (ll.Io e) b buffer p needs h = granted-io left needs
-granted-fill left (ll.Syntax at) b buffer p needs h = tt
-granted-fill left ll.TooLong b buffer p needs h = tt
+granted-fill left u b buffer p needs h = tt
 
 -- ---- heads that are counted
 

@@ -57,8 +57,6 @@ no-bare-tag h t bare e = let s : IsBare false (header.Tag t) = subst (IsBare fal
 
 pub first-head : (s : List ℕ) (i : Item) → Spells s i → (x : List ℕ) × (y : List ℕ) × SpellsHeader x (header_of i) ×
     (s ≡ x ++ y)
-first-head s (unsigned n) h = (s, [], h, sym (append-nil s))
-first-head s (negative n) h = (s, [], h, sym (append-nil s))
 first-head s (bytes false b) (x, h, a, e) = (x, b, h, e)
 first-head s (bytes true b) (ps, r, a, j, e) = (open_byte 2 ∷ [], r ++ (break_byte ∷ []), refl, e)
 first-head s (text false b) (x, h, a, e) = (x, b, h, e)
@@ -68,8 +66,8 @@ first-head s (array true is) (r, h, e) = (open_byte 4 ∷ [], r ++ (break_byte �
 first-head s (items.map false ps) (r, h, (x, k, e)) = (x, r, k, e)
 first-head s (items.map true ps) (r, h, e) = (open_byte 5 ∷ [], r ++ (break_byte ∷ []), refl, e)
 first-head s (tag t i) (x, r, h, k, e) = (x, r, h, e)
-first-head s (simple n) h = (s, [], h, sym (append-nil s))
 first-head s (float raw) h = (s, [], (raw, h, refl), sym (append-nil s))
+first-head s u h = (s, [], h, sym (append-nil s))
 
 nothing : (n : ℕ) → 0 ≤ n
 nothing n = omega arith
@@ -78,19 +76,9 @@ nothing n = omega arith
 pub first-payload : (s : List ℕ) (i : Item) (sp : Spells s i) →
     announced_length (header_of i) ≤ length (first-head s i sp).1
 unfolding first-head
-first-payload s (unsigned n) h = nothing _
-first-payload s (negative n) h = nothing _
 first-payload s (bytes false b) (x, h, a, e) = let k : length b ≤ length b = omega arith in k
-first-payload s (bytes true b) (ps, r, a, j, e) = nothing _
 first-payload s (text false b) (x, h, a, e) = let k : length b ≤ length b = omega arith in k
-first-payload s (text true b) (ps, r, a, j, e) = nothing _
-first-payload s (array false is) (r, h, (x, k, e)) = nothing _
-first-payload s (array true is) (r, h, e) = nothing _
-first-payload s (items.map false ps) (r, h, (x, k, e)) = nothing _
-first-payload s (items.map true ps) (r, h, e) = nothing _
-first-payload s (tag t i) (x, r, h, k, e) = nothing _
-first-payload s (simple n) h = nothing _
-first-payload s (float raw) h = nothing _
+first-payload s u v = nothing _
 
 -- the head at the front is that of the item
 pub same-head : (s r x y : List ℕ) (i : Item) (h : Header) → Spells s i → SpellsHeader x h → s ++ r ≡ x ++ y →

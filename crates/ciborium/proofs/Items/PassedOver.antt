@@ -1,7 +1,6 @@
 -- An item that is passed over head by head: what is said of each, and then of the item.
-use Rattle.std.proofs.Common.{◌≡◌, ℕ, suc, ◌+◌, ◌≤◌, ◌<◌, Bool, true, false, List, [], ◌∷◌, ◌++◌}
-use Rattle.std.proofs.Common.{length, length-append, Option, Some, None, refl, sym, ap, ◌∙◌, subst, arith, ltb}
-use Rattle.std.proofs.Common.{ltb-true, ltb-false}
+use Rattle.std.proofs.Common.{◌≡◌, ℕ, suc, ◌+◌, ◌≤◌, ◌<◌, Bool, true, false, List, [], ◌∷◌, ◌++◌, length, length-append}
+use Rattle.std.proofs.Common.{Option, Some, None, refl, sym, ap, ◌∙◌, subst, arith, ltb, ltb-true, ltb-false}
 use Rattle.ciborium_ll.specs.declared.header.Header.{Header}
 use Rattle.ciborium_ll.specs.declared.header.Header.TheVariants as heads
 use Rattle.ciborium_ll.specs.declared.levels.Level.{Level}
@@ -18,8 +17,7 @@ use Rattle.ciborium_ll.proofs.LevelsTo.{around, behind-around, done, from-incomp
 use Rattle.ciborium_ll.proofs.LevelsTo.{to-incomplete}
 use Rattle.ciborium_ll.proofs.OneHeader.{one_header_at_front}
 use Rattle.ciborium_value.specs.Nesting.{nesting}
-use Rattle.ciborium_value.specs.Sources.{Fault, IsFaultOf, IsOutsideFault, of_kind, of_nesting, of_syntax, of_memory}
-use Rattle.ciborium_value.specs.Sources.{of_device, of_end, of_length}
+use Rattle.ciborium_value.specs.Sources.{Fault, IsFaultOf, IsOutsideFault, of_kind, of_nesting}
 use Rattle.ciborium_value.specs.Taken.{gives, nests, outcome, taken_skip}
 use Rattle.ciborium_value.proofs.Sources.SkippedItems.{skip-gives, skip-nests}
 use Rattle.ciborium.specs.inner.FrontItems.{DeniesHead}
@@ -350,11 +348,7 @@ item-denied P all m fault denied b s z i end u spelled split fits =
         IsFaultOf end fault (outcome (Some m) (taken_skip i))
     by (of_kind k) h = absurd h
     by of_nesting h = deep h (ltb m (nesting i)) refl
-    by of_syntax h = h
-    by of_memory h = h
-    by of_device h = h
-    by of_end h = h
-    by of_length h = h
+    by u h = h
 
 -- ---- an item of one head
 

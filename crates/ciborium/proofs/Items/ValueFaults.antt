@@ -210,10 +210,6 @@ IsOpening _ w = ⊥
 
 holds-of : (i : Item) (w : Due) (x r s z : List ℕ) → Spells s i → SpellsHeader x (header_of i) → s ++ z ≡ x ++ r →
     IsOpening (header_of i) w → Holds i w r z
-holds-of (unsigned n) w x r s z sp hd e o = absurd o
-holds-of (negative n) w x r s z sp hd e o = absurd o
-holds-of (bytes b p) w x r s z sp hd e o = absurd o
-holds-of (text b p) w x r s z sp hd e o = absurd o
 holds-of (array false js) w x r s z (c, k, (a, g, f)) hd e o =
     let one = one_header_at_front a x (c ++ z) r (header.Array (Some (items_count js)))
     (header.Array (Some (items_count js))) g hd (sym (append_assoc a c z) ∙ ap (λ (y : List ℕ). y ++ z) (sym f) ∙ e)
@@ -266,9 +262,7 @@ holds-of (maps.map true ps) w x r s z (c, k, f) hd e o =
       all = subst (λ d. IsAll d (flat ps) (break_byte ∷ [])) (sym o) (ps, refl, refl);
       holds = refl;
     }
-holds-of (tag t i) w x r s z sp hd e o = absurd o
-holds-of (simple n) w x r s z sp hd e o = absurd o
-holds-of (float raw) w x r s z sp hd e o = absurd o
+holds-of u w x r s z sp hd e o = absurd o
 
 holds-by : (h : Header) (i : Item) (w : Due) (x r s z : List ℕ) → Spells s i → SpellsHeader x h → s ++ z ≡ x ++ r →
     IsOpening h w → Holds i w r z

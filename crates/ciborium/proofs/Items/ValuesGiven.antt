@@ -1,6 +1,5 @@
 -- What an item gives as a value.
-use Rattle.std.proofs.Common.{◌≡◌, ℕ, zero, suc, max, List, Option, Some, None, option_map, refl, ap, ◌∙◌}
-use Rattle.std.proofs.Common.{arith}
+use Rattle.std.proofs.Common.{◌≡◌, ℕ, zero, suc, max, List, Option, Some, None, option_map, refl, ap, ◌∙◌, arith}
 use Rattle.ciborium_ll.specs.Item as items
 use Rattle.ciborium_ll.specs.Item.{Item, Items, Pairs, no_items, no_pairs, pair}
 use Rattle.ciborium_value.specs.Meaning.{meaning, items_meaning, pairs_meaning, trees_more, tree_pairs_more}
@@ -19,10 +18,9 @@ use Rattle.ciborium_value.proofs.Forms.OwnForms.{mapped_same}
 -- with a level, what is inside decides
 pub level-taken : {A : Type 0} (l m : Limit) (s : Steps A) → IsOneLess l m → outcome l (leveled s) ≡ outcome m s
 level-taken None None s h = refl
-level-taken None (Some m) s h = absurd h
-level-taken (Some l) None s h = absurd h
 level-taken (Some zero) (Some m) s h = cc
 level-taken (Some (suc l)) (Some m) s h = let e : l ≡ m = omega arith in ap (λ k. outcome (Some k) s) e
+level-taken u v s h = absurd h
 
 more : (o : Option Tree) (os : Option Trees) (vs : Trees) → trees_more o os ≡ Some vs → (w : Tree) × (ws : Trees) ×
     (o ≡ Some w) × (os ≡ Some ws) × (trees.tree w ws ≡ vs)

@@ -152,9 +152,8 @@ tree_keys (e ∷ es) = ap (λ ks. tree_of e.0 ∷ ks) (tree_keys es)
 
 neighbours-rise : (o : KeyOrder) (ts : List Tree) → IsStrictlySortedBy (key_order o) ts → AreRising o ts
 unfolding IsStrictlySortedBy
-neighbours-rise o [] h = tt
-neighbours-rise o (k ∷ []) h = tt
 neighbours-rise o (k ∷ j ∷ ts) h = (h.0.0, neighbours-rise o (j ∷ ts) h.1)
+neighbours-rise o u h = tt
 
 pub deterministic_store : (o : KeyOrder) (es : List (Value × Value)) →
     IsStrictlySortedBy (ordered_value_cmp o) (keys_of es) →

@@ -35,12 +35,11 @@ one_encoding written reading law o l m b c v w first second same =
 
 nested : {A : Type 0} (end : ℕ) (e : Error IoError) (o : Outcome A) → o ≡ nests → end ≤ greatest_offset →
     IsFaultOf end (fault_of (Some []) e) o → (e ≡ errors.Memory) ⊎ (e ≡ errors.RecursionLimitExceeded)
-nested end (errors.Io x) o is fits h = absurd h
-nested end (errors.Syntax p) o is fits h = absurd h
 nested end (errors.Semantic p k) o is fits h = let never = sym is ∙ h in absurd cc
 nested end errors.RecursionLimitExceeded o is fits h = inr refl
 nested end errors.Memory o is fits h = inl refl
 nested end errors.TooLong o is fits h = let never : ⊥ = omega (arith, fits, h) in absurd never
+nested end u o is fits h = absurd h
 
 -- no other encoding is due
 no-other : (o : KeyOrder) (l : ℕ) (b : List ℕ) (named : Named) (t : Tree) (e : Error IoError) →

@@ -9,7 +9,7 @@ use Rattle.ciborium_value.specs.Nesting.{IsWithin}
 use Rattle.ciborium_value.specs.Readings.{Reading}
 use Rattle.ciborium_value.specs.ReadsBack.{IsReadBack, by_bytes, by_tree}
 use Rattle.ciborium_value.specs.Sinks.{Named}
-use Rattle.ciborium_value.specs.Sources.{Fault, of_kind, of_nesting, of_syntax, of_memory, of_device, of_end}
+use Rattle.ciborium_value.specs.Sources.{Fault, of_syntax, of_memory, of_device, of_end}
 use Rattle.ciborium_value.specs.Sources.{of_length, IsFaultOf, IsOutsideFault}
 use Rattle.ciborium_value.specs.Taken.{Outcome, gives, outcome}
 use Rattle.ciborium_value.specs.WrittenItems.{IsWritten}

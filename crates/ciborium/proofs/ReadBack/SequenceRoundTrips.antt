@@ -19,8 +19,7 @@ use Rattle.ciborium_value.specs.WrittenItems.{AreWritten}
 use Rattle.ciborium_value.proofs.Writing.Progress.{and_then_is}
 use Rattle.ciborium_value.proofs.Writing.ReadBack.{written_spells_item}
 use Rattle.ciborium.specs.declared.de.error.Error.{Error}
-use Rattle.ciborium.specs.declared.de.error.Error.TheVariants.{Io, Syntax, Semantic, RecursionLimitExceeded, Memory}
-use Rattle.ciborium.specs.declared.de.error.Error.TheVariants.{TooLong}
+use Rattle.ciborium.specs.declared.de.error.Error.TheVariants.{Io}
 use Rattle.ciborium.specs.Errors.{fault_of}
 use Rattle.ciborium.specs.SequenceReads.{GivesInTurn, GivesThen, TakesSequence}
 use Rattle.ciborium.specs.laws.SequenceRoundTrips.{AnswersSequence, AreContentsReadBack, AreGivenBack}
@@ -47,11 +46,7 @@ outside-further n m of_length le h = let past : greatest_offset < n = h in omega
 outside-none : {E : Type 0} (left : Option (List ℕ)) (e : Error E) (n : ℕ) → IsOutsideFault n (fault_of left e) →
     IsOutsideFault n (fault_of None e)
 outside-none left (Io x) n h = tt
-outside-none left (Syntax p) n h = h
-outside-none left (Semantic p k) n h = h
-outside-none left RecursionLimitExceeded n h = h
-outside-none left Memory n h = h
-outside-none left TooLong n h = h
+outside-none left u n h = h
 
 -- ---- items that give contents, one by one, in their shortest spelling
 
@@ -77,8 +72,6 @@ module _ {C : Type 0} (l : Limit) (taken : Taken C) where
   given-back [] [] [] fits given gave = refl
   given-back [] [] (d ∷ ds) fits given (j, s, left, spelled, split, gave, more) =
       absurd (never-empty [] s left j spelled refl split)
-  given-back [] (c ∷ cs) ds fits given gave = absurd given
-  given-back (i ∷ is) [] ds fits given gave = absurd given
   given-back (i ∷ is) (c ∷ cs) [] (first, rest) given gave =
       absurd (never-empty (items_bytes (items_from (i ∷ is))) (written_bytes i) (items_bytes (items_from is)) i
       (written_spells_item i first) gave refl)
@@ -86,6 +79,7 @@ module _ {C : Type 0} (l : Limit) (taken : Taken C) where
       let (behind, same) = same-front i j is s left c d fits one spelled split gave in
       ap (λ x. x ∷ ds) same ∙ ap (λ xs. c ∷ xs) (given-back is cs ds fits.1 given
       (subst (λ b. GivesInTurn l taken b ds) (sym behind) more))
+  given-back u v ds fits given gave = absurd given
 
   -- behind some of the items the fault is one that no item decides, where it is so in front of an item and at the end
   outside-behind : (front fault : Fault) → ((n : ℕ) → IsOutsideFault n front → IsOutsideFault n fault) →
@@ -96,8 +90,6 @@ module _ {C : Type 0} (l : Limit) (taken : Taken C) where
   outside-behind front fault so [] [] [] u fits given gave ahead end = end (sym gave)
   outside-behind front fault so [] [] (d ∷ ds) u fits given (j, s, left, spelled, split, gave, more) ahead end =
       absurd (never-empty [] s left j spelled refl split)
-  outside-behind front fault so [] (c ∷ cs) ds u fits given gave ahead end = absurd given
-  outside-behind front fault so (i ∷ is) [] ds u fits given gave ahead end = absurd given
   outside-behind front fault so (i ∷ is) (c ∷ cs) [] u (first, rest) given gave ahead end =
       let less = le-max_left (length (written_bytes i)) (longest is) in
       outside-further (0 + length (written_bytes i)) (longest (i ∷ is)) fault (omega (arith, less))
@@ -111,6 +103,7 @@ module _ {C : Type 0} (l : Limit) (taken : Taken C) where
       outside-further (longest is) (longest (i ∷ is)) fault (le-max_right (length (written_bytes i)) (longest is))
       (outside-behind front fault so is cs ds u fits.1 given (subst (λ b. GivesThen l taken b ds u) (sym behind) more)
       ahead end)
+  outside-behind front fault so v w ds u fits given gave ahead end = absurd given
 
 -- ---- values whose items are read as their contents
 

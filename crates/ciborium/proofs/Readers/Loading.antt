@@ -1,7 +1,6 @@
 -- Bytes that are loaded, and where they differ from the encoding that is due.
-use Rattle.std.proofs.Common.{◌≡◌, ℕ, ◌+◌, ◌-◌, ◌<◌, List, [], ◌∷◌, ◌++◌, length, take, drop, Option, Some}
-use Rattle.std.proofs.Common.{None, true, refl, sym, ap, ◌∙◌, subst, arith, eqb, get_or}
-use Rattle.std.proofs.Common.{Result, Ok, Err, IsErrAnd, inl}
+use Rattle.std.proofs.Common.{◌≡◌, ℕ, ◌+◌, ◌-◌, ◌<◌, List, [], ◌∷◌, ◌++◌, length, take, drop, Option, Some, None, true}
+use Rattle.std.proofs.Common.{refl, sym, ap, ◌∙◌, subst, arith, eqb, get_or, Result, Ok, Err, IsErrAnd, inl}
 use Rattle.std.proofs.Math.Seq.{take-add, take-length, take-suc}
 use Rattle.std.proofs.lemmas.List.{take_all, length-drop}
 use lib.Pointwise.{pointwise}

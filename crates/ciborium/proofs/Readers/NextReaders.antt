@@ -256,9 +256,7 @@ some-all None f = tt
 
 first-io : {E : Type 0} (e : LlError E) → first_heads.IsHeadIo e → IsReadIo (from_ll e)
 first-io (ll.Io e) h = tt
-first-io (ll.Syntax p) h = h
-first-io ll.TooLong h = h
-first-io ll.Memory h = h
+first-io u h = h
 
 module _ {S W : Type 0} (E : Type 0) (can_fail : Bool) (remaining : S → Option (List ℕ)) (d e : Decoder S W) (lent : S)
     (p : ℕ) (begins : HasBegun d lent p) (same : HasSameReader d e) (x : LlError E)

@@ -5,8 +5,7 @@ use Rattle.ciborium_value.specs.Nesting.{Limit}
 use Rattle.ciborium_value.specs.Sources.{IsOutsideFault}
 use Rattle.ciborium_value.specs.Taken.{Taken}
 use Rattle.ciborium.specs.declared.de.error.Error.{Error}
-use Rattle.ciborium.specs.declared.de.error.Error.TheVariants.{Io, Syntax, Semantic, RecursionLimitExceeded, Memory}
-use Rattle.ciborium.specs.declared.de.error.Error.TheVariants.{TooLong}
+use Rattle.ciborium.specs.declared.de.error.Error.TheVariants.{Io, Memory}
 use Rattle.ciborium.specs.Errors.{fault_of}
 use Rattle.ciborium.specs.NextItems.{IsReadIo, TellsEnd}
 use Rattle.ciborium.specs.SequenceReads.{GivesThen, RefusesSequence}
@@ -26,11 +25,7 @@ more-taken before mid after (b, first) (c, next) = (b ++ c, Consumes-trans befor
 -- io, where a device may fail
 outside-io : {E : Type 0} (e : Error E) → IsReadIo e → IsOutsideFault 0 (fault_of None e)
 outside-io (Io e) h = tt
-outside-io (Syntax p) h = absurd h
-outside-io (Semantic p k) h = absurd h
-outside-io RecursionLimitExceeded h = absurd h
-outside-io Memory h = absurd h
-outside-io TooLong h = absurd h
+outside-io u h = absurd h
 
 module _ {A : Type 0} (l : Limit) (taken : Taken A) (before : Option (List ℕ)) where
   -- items that give these values stood at the front of the bytes, if they are known, and were taken

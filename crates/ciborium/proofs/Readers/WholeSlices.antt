@@ -37,31 +37,21 @@ whole-of b s left split none = sym (split ∙ ap (λ (z : List ℕ). s ++ z) non
 -- what a slice that fits in memory is refused for, where an item that gives a value stands at its front
 only-memory : {E : Type 0} (end : ℕ) (e : Error E) → end ≤ greatest_offset →
     IsOutsideFault end (fault_of (Some []) e) → e ≡ errors.Memory
-only-memory end (errors.Io x) fits h = absurd h
-only-memory end (errors.Syntax p) fits h = absurd h
-only-memory end (errors.Semantic p k) fits h = absurd h
-only-memory end errors.RecursionLimitExceeded fits h = absurd h
 only-memory end errors.Memory fits h = refl
 only-memory end errors.TooLong fits h = absurd (omega (arith, fits, h))
+only-memory end u fits h = absurd h
 
 -- at `Io` nothing is left
 refused-at-end : {E : Type 0} (rest : List ℕ) (e : Error E) (P : Refusal → Type 0) → IsRefusedBy (Some rest) e P →
     HasEndedBy false (Some rest) e → IsRefusedBy (Some []) e P
 refused-at-end rest (errors.Io x) P h ended = λ _. h (ended refl)
-refused-at-end rest (errors.Syntax p) P h ended = h
-refused-at-end rest (errors.Semantic p k) P h ended = h
-refused-at-end rest errors.RecursionLimitExceeded P h ended = h
-refused-at-end rest errors.Memory P h ended = h
-refused-at-end rest errors.TooLong P h ended = h
+refused-at-end rest u v h ended = h
 
 failed-for-memory : {E : Type 0} (rest : List ℕ) (e : Error E) → IsFailed (Some rest) e →
     HasEndedBy false (Some rest) e → e ≡ errors.Memory
 failed-for-memory rest (errors.Io x) h ended = absurd (h (ended refl))
-failed-for-memory rest (errors.Syntax p) h ended = absurd h
-failed-for-memory rest (errors.Semantic p k) h ended = absurd h
-failed-for-memory rest errors.RecursionLimitExceeded h ended = absurd h
 failed-for-memory rest errors.Memory h ended = refl
-failed-for-memory rest errors.TooLong h ended = absurd h
+failed-for-memory rest u h ended = absurd h
 
 module _ {T A : Type 0} (E : Type 0) (l : ℕ) (reading : Reading T A) (b rest : List ℕ) where
   -- what reading the item at the front says

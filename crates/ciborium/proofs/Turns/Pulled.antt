@@ -22,10 +22,8 @@ use Rattle.ciborium.specs.inner.ValuesInBytes.{IsPulled, heads_by, heads_left}
 -- the error that an error of the lowest layer becomes refuses as it does
 pub refused-from : {E : Type 0} (left : Option (List ℕ)) (e : LlError E) (P : Refusal → Type 0) →
     reading.IsRefusalOf left e P → IsRefusedBy left (from_ll e) P
-refused-from left (ll.Io e) P h = h
-refused-from left (ll.Syntax p) P h = h
-refused-from left ll.TooLong P h = h
 refused-from left ll.Memory P h = tt
+refused-from left u v h = h
 
 pub refused-map : {E : Type 0} (left : Option (List ℕ)) (e : Error E) (P Q : Refusal → Type 0) →
     ((r : Refusal) → P r → Q r) → IsRefusedBy left e P → IsRefusedBy left e Q

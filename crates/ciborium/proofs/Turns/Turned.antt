@@ -166,8 +166,7 @@ pub depth-placed : {E : Type 0} (spelling : Spelling) (x : Result (Option Value)
     IfOk x (λ o. MatchOption o (length after ≤ l) (λ _. Unit {0}))
 depth-placed spelling (Ok None) os after v end l (is, rises) room = let less = shallow os after v is in
     omega (arith, less, room)
-depth-placed spelling (Ok (Some w)) os after v end l is room = tt
-depth-placed spelling (Err e) os after v end l is room = tt
+depth-placed spelling u os after v end l is room = tt
 
 abbrev both : Tree → List TreeFrame → Tree × List TreeFrame
 both v os = (v, os)

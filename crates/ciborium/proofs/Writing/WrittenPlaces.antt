@@ -14,9 +14,8 @@ AreWritten-more [] i h w = (w, tt)
 AreWritten-more (j ∷ is) i h w = (h.0, AreWritten-more is i h.1 w)
 
 pairs-written : (is : List Item) → AreWritten (items_from is) → PairsAreWritten (pairs_from is)
-pairs-written [] h = tt
-pairs-written (k ∷ []) h = tt
 pairs-written (k ∷ v ∷ is) h = (h.0, h.1.0, pairs-written is h.1.1)
+pairs-written u h = tt
 
 pub written-added : (p : Place) (i : Item) → IsWrittenPlace p → IsWritten i → IsWrittenPlace (added p i)
 written-added (top name before is) i h w = AreWritten-more is i h w

@@ -10,7 +10,7 @@ use Rattle.ciborium_ll.specs.Writing.{Writes}
 use Rattle.ciborium_value.specs.Encoding.{items_bytes, written_bytes}
 use Rattle.ciborium_value.specs.Places.{items_from}
 use Rattle.ciborium_value.specs.Progress.{IsOwedAmong}
-use Rattle.ciborium_value.specs.Sinks.{Named, Cause, value, memory, device, IsOwed, all_named, and_then}
+use Rattle.ciborium_value.specs.Sinks.{Named, Cause, value, IsOwed, all_named, and_then}
 use Rattle.ciborium_value.specs.WrittenItems.{AreWritten}
 use Rattle.ciborium_value.proofs.Writing.Standing.{items_bytes-append}
 use Rattle.ciborium.specs.SequenceWrites.{AllNamed, AreNamedWritten, WritesInTurn}
@@ -98,5 +98,4 @@ module _ (parts : List Named) (old : Option (List ℕ)) where
   pub owed-among : (mid : Option (List ℕ)) (cause : Cause) (x : Named) (rest : List Named) →
       HasWritten parts old mid (x ∷ rest) → IsOwed cause x → IsOwedAmong cause parts
   owed-among mid (value k) x rest w owed = w.split ∙ ap (λ y. named_behind w.done (and_then y (all_named rest))) owed
-  owed-among mid memory x rest w owed = tt
-  owed-among mid device x rest w owed = tt
+  owed-among mid u x rest w owed = tt

@@ -2,7 +2,7 @@
 -- (RFC 8949, sections 3.4 and 3.4.3).
 use Rattle.std.proofs.Common.{ap, sym, subst, arith, ◌∙◌}
 use Rattle.std.proofs.lemmas.Bool.Decides.{nat_tests}
-use Rattle.std.specs.Prelude.{◌≡◌, ℕ, Bool, true, false, List, Option, Some, None, Ok, Err, IfOk, IfSome}
+use Rattle.std.specs.Prelude.{◌≡◌, ℕ, Bool, true, false, List, Option, Some, None, Ok, IfOk, IfSome}
 use Rattle.std.specs.Prelude.{if◌then◌else◌, refl}
 use Rattle.ciborium_ll.specs.Item.{Item}
 use Rattle.ciborium_value.specs.DeterministicForms.{deterministic_form, deterministic_forms}
@@ -91,12 +91,11 @@ module _ {C : Type 0} {taken : Taken C} {c : C} (o : KeyOrder) where
       outcome None (taken_with_tag taken (item_of u)) ≡ gives (m, c))
   read-captured (Some t) (Ok j) told never h =
       read-tagged taken c o t j (never j refl) (h.back j refl)
-  read-captured (Some t) (Err k) told never h = tt
   read-captured None (Ok i) told never h = λ u form.
       ap (λ p. outcome_map (λ v. (p.0, v)) (outcome None (taken p.1)))
       (form-untagged o (written_tree i) u (met-untagged by_tree i told) form) ∙
       ap (outcome_map (λ v. (None, v))) (h.back i refl u form)
-  read-captured None (Err k) told never h = tt
+  read-captured u v told never h = tt
 
   pub captured-form : (m : Option ℕ) {r : Named} → IsToldApart m r → IfSome m (IsNeverFolded r) →
       IsFormRead o r taken c → IsFormRead o (captured_of m r) (taken_with_tag taken) (m, c)

@@ -59,10 +59,9 @@ module _ {C : Type 0} {taken : Taken C} {c : C} {n : ℕ} where
   named (Some t) (Ok j) told h way l fits = ap (λ k. outcome l (taken_with_tag taken k))
       (met-tag way t j) ∙
       under taken (Some t) (items.tag t (met way j)) (met way j) c n refl (h.back way j refl) l fits
-  named (Some t) (Err k) told h way l fits = tt
   named None (Ok i) told h way l fits = under taken None (met way i) (met way i) c n
       (met-untagged way i told) (h.back way i refl) l fits
-  named None (Err k) told h way l fits = tt
+  named u v told h way l fits = tt
 
   pub captured-back : (o : Option ℕ) {r : Named} → IsToldApart o r → IsNameRead r taken c n →
       IsNameRead (captured_of o r) (taken_with_tag taken) (o, c) (suc n)

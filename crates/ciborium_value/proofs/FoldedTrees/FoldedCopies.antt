@@ -230,9 +230,8 @@ next_pair : (os : List TreeFrame) (acc : List (Tree × Tree)) (ts rest : List Tr
     ((p : Tree × Tree) → copied (more (frames.map (acc ++ p ∷ []) (Some n) None ∷ os)) rest ≡ where_all r
     (ends_map os (acc ++ p ∷ []) ts)) →
     puts_pair os acc (suc n) k v rest ≡ where_all (one_before (both k v) r) (ends_map os acc ts)
-next_pair os acc ts rest n None v r h = refl
-next_pair os acc ts rest n (Some x) None r h = refl
 next_pair os acc ts rest n (Some x) (Some y) r h = h (x, y) ∙ behind_pair os acc ts (x, y) r
+next_pair os acc ts rest n u v r h = refl
 
 copied-pairs : (os : List TreeFrame) (acc : List (Tree × Tree)) (p : Value × Value) (ps : List (Value × Value))
     (ts : List Tree) →

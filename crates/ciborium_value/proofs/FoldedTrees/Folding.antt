@@ -1,7 +1,6 @@
 -- The item of a tree means the folded tree, and what is folded folds no further.
-use Rattle.std.proofs.Common.{le-leb, leb-true, subst, ◌≡◌, ℕ, ◌^◌, ◌≤◌, cond, ltb, leb, eqb, Bool, true}
-use Rattle.std.proofs.Common.{false, List, length, Option, Some, None, refl, ap, ◌∙◌, arith, pos, negsuc}
-use Rattle.std.proofs.Common.{option_map}
+use Rattle.std.proofs.Common.{le-leb, leb-true, subst, ◌≡◌, ℕ, ◌^◌, ◌≤◌, cond, ltb, leb, eqb, Bool, true, false, List}
+use Rattle.std.proofs.Common.{length, Option, Some, None, refl, ap, ◌∙◌, arith, pos, negsuc, option_map}
 use Rattle.ciborium_value.specs.Encoding.{item_of, items_of, pairs_of}
 use Rattle.ciborium_value.specs.Folded.{short_bytes, tree_folding_bytes, folded, trees_folded, tree_pairs_folded}
 use Rattle.ciborium_value.specs.laws.FoldingLaws.{WrittenMeansFolded, FoldsOnce}
@@ -9,8 +8,7 @@ use Rattle.ciborium_value.specs.Meaning.{big_endian, without_zeros, bignum_meani
 use Rattle.ciborium_value.specs.Meaning.{is_bignum_tag, tag_meaning, simple_meaning, trees_more, tree_pairs_more}
 use Rattle.ciborium_value.specs.Meaning.{meaning, items_meaning, pairs_meaning}
 use Rattle.ciborium_value.specs.lemmas.ItemsOfTrees.{short_string-item_of}
-use Rattle.ciborium_value.specs.lemmas.ReadsBackBignums.{zeros_hold_nothing, no_zeros_twice}
-use Rattle.ciborium_value.specs.lemmas.ReadsBackBignums.{length-without_zeros}
+use Rattle.ciborium_value.specs.lemmas.ReadsBackBignums.{zeros_hold_nothing, no_zeros_twice, length-without_zeros}
 use Rattle.ciborium_value.specs.Tree.{Tree, integer, bytes, text, boolean, null, tag, array, map, Trees, no_trees, tree}
 use Rattle.ciborium_value.specs.Tree.{TreePairs, no_tree_pairs, tree_pair}
 
@@ -127,13 +125,12 @@ IsFolded-tag : (t : ℕ) (c : Bool) (o : Option (List ℕ)) (m : Option Tree) �
     KeepsBytes o m → IsFolded m →
     IsFolded (tag_meaning t (cond c o None) m)
 IsFolded-tag t true (Some b) m is short keeps h = IsFolded-bignum t b short
-IsFolded-tag t true None None is short keeps h = tt
 IsFolded-tag t true None (Some w) is short keeps h =
     ap (λ c. tag_meaning t (cond c (short_bytes w) None) (folded w)) is ∙ ap (λ o. tag_meaning t o (folded w)) keeps ∙
     ap (option_map (tag t)) h
-IsFolded-tag t false o None is short keeps h = tt
 IsFolded-tag t false o (Some w) is short keeps h = ap (λ c. tag_meaning t (cond c (short_bytes w) None) (folded w)) is ∙
     ap (option_map (tag t)) h
+IsFolded-tag t u v w is short keeps h = tt
 
 IsFolded-array : (o : Option Trees) → AreFolded o → IsFolded (option_map array o)
 IsFolded-array None h = tt
@@ -144,19 +141,16 @@ IsFolded-map None h = tt
 IsFolded-map (Some ps) h = ap (option_map map) h
 
 AreFolded-more : (m : Option Tree) (ms : Option Trees) → IsFolded m → AreFolded ms → AreFolded (trees_more m ms)
-AreFolded-more None ms h k = tt
-AreFolded-more (Some v) None h k = tt
 AreFolded-more (Some v) (Some vs) h k = ap (λ o. trees_more o (trees_folded vs)) h ∙ ap (trees_more (Some v)) k
+AreFolded-more u v h k = tt
 
 PairsAreFolded-more : (m n : Option Tree) (ms : Option TreePairs) → IsFolded m → IsFolded n → PairsAreFolded ms →
     PairsAreFolded (tree_pairs_more m n ms)
-PairsAreFolded-more None n ms h i j = tt
-PairsAreFolded-more (Some k) None ms h i j = tt
-PairsAreFolded-more (Some k) (Some v) None h i j = tt
 PairsAreFolded-more (Some k) (Some v) (Some ps) h i j =
     ap (λ o. tree_pairs_more o (folded v) (tree_pairs_folded ps)) h ∙
     ap (λ o. tree_pairs_more (Some k) o (tree_pairs_folded ps)) i ∙
     ap (tree_pairs_more (Some k) (Some v)) j
+PairsAreFolded-more u v w h i j = tt
 
 IsShort-short_bytes : (v : Tree) → IsShort (short_bytes v)
 IsShort-short_bytes (bytes b) = by (leb (length b) 16) refl

@@ -91,13 +91,10 @@ sorted_forms-exchanged o k v l w ps =
 
 -- trees that are equal but for the order of pairs and folding are the same byte string, if one is short
 short-alike : {v w : Tree} → IsAlike v w → short_bytes v ≡ short_bytes w
-short-alike same.itself = refl
 short-alike (turned h) = sym (short-alike h)
 short-alike (through h l) = short-alike h ∙ short-alike l
 short-alike (folds {t} {v} {w} b is e) = sym (bignum-no_bytes t b w e)
-short-alike (in_tag h) = refl
-short-alike (in_array h) = refl
-short-alike (in_map h) = refl
+short-alike u = refl
 
 -- a tag over contents that have one form, or both none
 tagged-alike : (o : KeyOrder) (t : ℕ) (v w : Tree) → short_bytes v ≡ short_bytes w →

@@ -90,12 +90,11 @@ pub all_made : (o : KeyOrder) (vs ws : List Value) → length vs ≡ length ws
     → ((k : ℕ) (d : Value) → k < length vs → deterministic_form o (tree_of (get_or vs k d)) ≡ gives
     (tree_of (get_or ws k d))) → deterministic_forms o (trees_of vs) ≡ gives (trees_of ws)
 all_made o [] [] e h = refl
-all_made o [] (w ∷ ws) e h = absurd (omega (arith, e))
-all_made o (v ∷ vs) [] e h = absurd (omega (arith, e))
 all_made o (v ∷ vs) (w ∷ ws) e h =
     let rest = all_made o vs ws (omega (arith, e)) (λ k d l. h (suc k) d (omega (arith, l))) in
     ap (λ r. one_more r (deterministic_forms o (trees_of vs))) (h zero v (omega arith)) ∙
     ap (one_more (gives (tree_of w))) rest
+all_made o u v e h = absurd (omega (arith, e))
 
 -- the first that is refused
 pub one_refused : (o : KeyOrder) (i : ℕ) (j : Kind) (vs ws : List Value) → i < length vs → length vs ≡ length ws
@@ -134,8 +133,6 @@ pub all_pairs_made : (o : KeyOrder) (ps qs : List (Value × Value)) → length p
     (tree_of (get_or qs k d).1))
     → pair_forms o (tree_pairs_of ps) ≡ gives (tree_pairs_of qs)
 all_pairs_made o [] [] e h m = refl
-all_pairs_made o [] (q ∷ qs) e h m = absurd (omega (arith, e))
-all_pairs_made o (p ∷ ps) [] e h m = absurd (omega (arith, e))
 all_pairs_made o (p ∷ ps) (q ∷ qs) e h m =
     let rest = all_pairs_made o ps qs (omega (arith, e)) (λ k d l. h (suc k) d (omega (arith, l)))
     (λ k d l. m (suc k) d (omega (arith, l))) in
@@ -143,6 +140,7 @@ all_pairs_made o (p ∷ ps) (q ∷ qs) e h m =
     (h zero p (omega arith))
     ∙ ap (λ r. one_pair_more (gives (tree_of q.0)) r (pair_forms o (tree_pairs_of ps))) (m zero p (omega arith))
     ∙ ap (one_pair_more (gives (tree_of q.0)) (gives (tree_of q.1))) rest
+all_pairs_made o u v e h m = absurd (omega (arith, e))
 
 -- the first key that is refused
 pub one_key_refused : (o : KeyOrder) (i : ℕ) (j : Kind) (ps qs : List (Value × Value)) → i < length ps →

@@ -36,10 +36,9 @@ short_bytes-proper u b h e = absurd cc
 
 -- there are as many
 reordered-count : {ps qs : TreePairs} → AreReordered ps qs → tree_pairs_count ps ≡ tree_pairs_count qs
-reordered-count as_they_are = refl
 reordered-count (behind r) = ap suc (reordered-count r)
-reordered-count neighbours = refl
 reordered-count (then_again r s) = reordered-count r ∙ reordered-count s
+reordered-count u = refl
 
 -- a program can hold each of them, if it can hold each of the pairs
 reordered-proper : {ps qs : TreePairs} → AreReordered ps qs → AreProperTreePairs ps → AreProperTreePairs qs

@@ -7,7 +7,7 @@ use Rattle.ciborium_value.specs.Folded.{folded, trees_folded, tree_pairs_folded,
 use Rattle.ciborium_value.specs.laws.FormLaws.{FormOrRefused, RefusedByDuplicates}
 use Rattle.ciborium_value.specs.Meaning.{bignum_meaning, tag_meaning, trees_more, tree_pairs_more}
 use Rattle.ciborium_value.specs.Taken.{Outcome, gives, refuses, nests, then_take, outcome_map, of_meaning}
-use Rattle.ciborium_value.specs.Tree.{Tree, integer, bytes, text, boolean, null, tag, array, map, Trees, no_trees, tree}
+use Rattle.ciborium_value.specs.Tree.{Tree, tag, array, map, Trees, no_trees, tree}
 use Rattle.ciborium_value.specs.Tree.{TreePairs, no_tree_pairs, tree_pair}
 use Rattle.ciborium_value.specs.declared.key_order.KeyOrder.{KeyOrder}
 use Rattle.ciborium_value.specs.declared.kind.Kind.{Kind}
@@ -123,8 +123,7 @@ HasReason nests = ⊥
 
 reason_mapped : {A B : Type 0} (f : A → B) (r : Outcome A) → HasReason r → HasReason (outcome_map f r)
 reason_mapped f (gives v) h = tt
-reason_mapped f (refuses k) h = h
-reason_mapped f nests h = h
+reason_mapped f u h = h
 
 reason_meant : (r : Option Tree) → HasReason (of_meaning kinds.TooLarge r)
 reason_meant (Some v) = tt
@@ -132,8 +131,7 @@ reason_meant None = inr refl
 
 reason_more : (r : Outcome Tree) (s : Outcome Trees) → HasReason r → HasReason s → HasReason (one_more r s)
 reason_more (gives v) s h i = reason_mapped (tree v) s i
-reason_more (refuses k) s h i = h
-reason_more nests s h i = h
+reason_more u s h i = h
 
 reason_pair : (q r : Outcome Tree) (s : Outcome TreePairs) → HasReason q → HasReason r → HasReason s →
     HasReason (one_pair_more q r s)

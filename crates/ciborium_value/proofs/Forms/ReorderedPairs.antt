@@ -86,8 +86,6 @@ stands_before-orders o = ranks_by (key_order_total o) (λ p. tree_of p.0)
 
 pub sorted-in_order : (o : KeyOrder) (ps : List (Value × Value)) → IsSortedBy (stands_before o) ps →
     AreInOrder o (tree_pairs_of ps)
-sorted-in_order o [] h = tt
-sorted-in_order o (p ∷ []) h = tt
 sorted-in_order o (p ∷ (q ∷ ps)) h = (
   h 0 p (omega arith) (omega arith),
   sorted-in_order o (q ∷ ps) (λ k d le below.
@@ -95,6 +93,7 @@ sorted-in_order o (p ∷ (q ∷ ps)) h = (
       subst (λ n. stands_before o (get_or (p ∷ (q ∷ ps)) n d) (get_or (p ∷ (q ∷ ps)) (suc k) d) ≡ false) next
       (h (suc k) d (omega arith) (omega (arith, below)))),
 )
+sorted-in_order o u h = tt
 
 -- ---- what sorting by the definition gives
 

@@ -75,8 +75,7 @@ behind_first : (f : TreePairs → Outcome TreePairs) (p x : Tree) →
     → (r : Outcome TreePairs) → then_take (outcome_map (tree_pair p x) r) f ≡ outcome_map (tree_pair p x)
     (then_take r f)
 behind_first f p x stays (gives qs) = stays qs
-behind_first f p x stays (refuses j) = refl
-behind_first f p x stays nests = refl
+behind_first f p x stays u = refl
 
 -- a pair that goes before it
 before_first : (f : TreePairs → Outcome TreePairs) (k v p x : Tree) →
@@ -84,8 +83,7 @@ before_first : (f : TreePairs → Outcome TreePairs) (k v p x : Tree) →
     → (r : Outcome TreePairs) → then_take (outcome_map (tree_pair p x) r) f ≡ outcome_map (tree_pair k v)
     (outcome_map (tree_pair p x) r)
 before_first f k v p x goes (gives qs) = goes qs
-before_first f k v p x goes (refuses j) = refl
-before_first f k v p x goes nests = refl
+before_first f k v p x goes u = refl
 
 -- a pair that ties with it
 ties_first : (f : TreePairs → Outcome TreePairs) (p x : Tree) →
@@ -185,10 +183,9 @@ sorted-exchanged o k v l w ps = behind (sorted_pairs o ps)
 
 -- pairs whose keys rise are sorted
 pub rising-sorted : (o : KeyOrder) (ps : TreePairs) → AreRising o (keys_of ps) → sorted_pairs o ps ≡ gives ps
-rising-sorted o no_tree_pairs h = refl
-rising-sorted o (tree_pair k v no_tree_pairs) h = refl
 rising-sorted o (tree_pair k v (tree_pair l w ps)) h =
     ap (λ r. then_take r (inserted o k v)) (rising-sorted o (tree_pair l w ps) h.1) ∙ inserted-Less o k v l w ps h.0
+rising-sorted o u h = refl
 
 -- ---- neighbours that tie
 
@@ -282,12 +279,11 @@ eq_where_equal u e h = absurd cc
 
 -- keys that rise differ
 pub rising_apart : (o : KeyOrder) (ps : TreePairs) → AreRising o (keys_of ps) → AreApart (keys_of ps)
-rising_apart o no_tree_pairs h = tt
-rising_apart o (tree_pair k v no_tree_pairs) h = tt
 rising_apart o (tree_pair k v (tree_pair l w ps)) h = (
   not-at (bytewise_order k l) (λ e. let no : Less ≡ Equal = sym h.0 ∙ bytewise_tied o k l e in cc),
   rising_apart o (tree_pair l w ps) h.1,
 )
+rising_apart o u h = tt
 
 -- and keys in order that differ rise
 pub apart_rising : (o : KeyOrder) (ps : TreePairs) → AreInOrder o ps → AreApart (keys_of ps) → AreRising o (keys_of ps)

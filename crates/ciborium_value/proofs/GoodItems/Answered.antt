@@ -232,12 +232,11 @@ end-meets (values n) b p = tt
 
 due-next : (now : Due) (b : List ℕ) (p : ℕ) → IsDue now b p → (next : Due) × (next_due now ≡ Some next)
 due-next (items None) b p h = (items None, refl)
-due-next (items (Some zero)) b p h = let never : ⊥ = omega (arith, h) in absurd never
 due-next (items (Some (suc n))) b p h = (items (Some n), refl)
 due-next (keys None) b p h = (values None, refl)
-due-next (keys (Some zero)) b p h = let never : ⊥ = omega (arith, h) in absurd never
 due-next (keys (Some (suc n))) b p h = (values (Some n), refl)
 due-next (values n) b p h = (keys n, refl)
+due-next u b p h = let never : ⊥ = omega (arith, h) in absurd never
 
 module _ (spelling : Spelling) where
   abbrev pub Meets : List ℕ → ℕ → Limit → Answer Tree → Type 0

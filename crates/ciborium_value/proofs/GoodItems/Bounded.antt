@@ -57,16 +57,13 @@ tagged-fits t (Some v) m n h k = omega (arith, h, k)
 
 more-fit : (o : Option Tree) (os : Option Trees) (j k n : ℕ) → Fits j o → TreesFit k os → n ≡ j + k →
     TreesFit n (trees_more o os)
-more-fit None os j k n f g e = tt
-more-fit (Some v) None j k n f g e = tt
 more-fit (Some v) (Some vs) j k n f g e = omega (arith, f, g, e)
+more-fit u v j k n f g e = tt
 
 more_pairs-fit : (o u : Option Tree) (os : Option TreePairs) (i j k n : ℕ) → Fits i o → Fits j u → PairsFit k os →
     n ≡ i + j + k → PairsFit n (tree_pairs_more o u os)
-more_pairs-fit None u os i j k n f g h e = tt
-more_pairs-fit (Some v) None os i j k n f g h e = tt
-more_pairs-fit (Some v) (Some w) None i j k n f g h e = tt
 more_pairs-fit (Some v) (Some w) (Some ps) i j k n f g h e = omega (arith, f, g, h, e)
+more_pairs-fit u v w i j k n f g h e = tt
 
 -- ---- strings
 

@@ -1,5 +1,5 @@
 -- What a spelling asks of the head at the front.
-use Rattle.std.proofs.Common.{◌≡◌, ℕ, zero, suc, ◌+◌, ◌*◌, ◌%◌, ◌<◌, ◌≤◌, cond, ltb, leb, eqb, Bool, true, false}
+use Rattle.std.proofs.Common.{◌≡◌, ℕ, suc, ◌+◌, ◌*◌, ◌%◌, ◌<◌, ◌≤◌, cond, ltb, leb, eqb, Bool, true, false}
 use Rattle.std.proofs.Common.{◌&&◌, List, ◌∷◌, ◌++◌, length, Option, Some, None, refl, sym, ap, ◌∙◌, arith}
 use Rattle.std.proofs.Common.{lt-ltb, le-ltb, ltb-false, ne_eqb, inl, inr}
 use Rattle.std.proofs.lemmas.Nat.{div-mul-add, mod-mul-add}
@@ -80,11 +80,8 @@ fault-break any r = refl
 fault-break (deterministic order) r = refl
 
 pub fault-float : (spelling : Spelling) (j : ℕ) (r : List ℕ) → j < 3 → spelling_fault spelling ((249 + j) ∷ r) ≡ None
-fault-float any j r h = refl
-fault-float (deterministic order) zero r h = refl
-fault-float (deterministic order) (suc zero) r h = refl
-fault-float (deterministic order) (suc (suc zero)) r h = refl
 fault-float (deterministic order) (suc (suc (suc j))) r h = let never : ⊥ = omega (arith, h) in absurd never
+fault-float u v r h = refl
 
 pub fault-simple : (spelling : Spelling) (s : List ℕ) (n : ℕ) (r : List ℕ) → IsSimple s n → (n ≡ 23 → ⊥) →
     spelling_fault spelling (s ++ r) ≡ None

@@ -100,8 +100,7 @@ module _ (spelling : Spelling) where
       by : (t u : Bool) → (t ≡ true → u ≡ true → ⊥) → ◌≡◌ {A = Option (List ℕ × ℕ)}
           (cond (t && u) (Some (b, p + 1)) None) None
       by true true f = absurd (f refl refl)
-      by true false f = refl
-      by false u f = refl
+      by u v f = refl
 
   open-on : (d p q : ℕ) (now next : Due) (b r : List ℕ) (v : Tree) (l : Limit) → next_due now ≡ Some next →
       read spelling d b p l ≡ ends v r q → end_at now b p ≡ None

@@ -147,15 +147,12 @@ chosen t true m h = some-mapped t m h
 chosen t false m h = some-mapped t m h
 
 content-means : (t : ℕ) (i : Item) → IsSome (meaning (item.tag t i)) → IsSome (meaning i)
-content-means t (item.unsigned n) h = refl
-content-means t (item.negative n) h = refl
-content-means t (item.bytes o y) h = refl
-content-means t (item.text o y) h = refl
 content-means t (item.array o is) h = chosen t (is_bignum_tag t) (meaning (item.array o is)) h
 content-means t (item.map o ps) h = chosen t (is_bignum_tag t) (meaning (item.map o ps)) h
 content-means t (item.tag u j) h = chosen t (is_bignum_tag t) (meaning (item.tag u j)) h
 content-means t (item.simple n) h = chosen t (is_bignum_tag t) (meaning (item.simple n)) h
 content-means t (item.float raw) h = chosen t (is_bignum_tag t) None h
+content-means t u h = refl
 
 some-array : (m : Option Trees) → IsSome (option_map array m) → IsSome m
 some-array None h = absurd cc

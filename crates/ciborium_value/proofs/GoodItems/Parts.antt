@@ -3,7 +3,7 @@ use Rattle.std.proofs.Common.{◌≡◌, ℕ, zero, suc, ◌+◌, ◌≤◌, max
 use Rattle.std.proofs.Common.{option_and_then, refl, sym, ap, ◌∙◌, subst, arith, length-append, append_assoc}
 use Rattle.std.proofs.Common.{append-nil, true, ◌&&◌}
 use Rattle.std.specs.declared.cmp.Ordering.{Ordering}
-use Rattle.std.specs.declared.cmp.Ordering.TheVariants.{Less, Equal, Greater}
+use Rattle.std.specs.declared.cmp.Ordering.TheVariants.{Less}
 use Rattle.ciborium_ll.specs.Bytes.{greatest_offset}
 use Rattle.ciborium_ll.specs.Item.{Items, no_items, item, Pairs, no_pairs, pair, items_count, pairs_count}
 use Rattle.ciborium_ll.specs.Spells.{SpellsItems, SpellsPairs}
@@ -49,10 +49,9 @@ raise (Some l) (Some m) n h k = omega arith
 
 pub levels-below : {A : Type 0} (l m : Limit) (f : Limit → Answer A) → IsOneLess l m → levels l f ≡ f m
 levels-below None None f h = refl
-levels-below None (Some m) f h = absurd h
-levels-below (Some l) None f h = absurd h
 levels-below (Some zero) (Some m) f h = let never : ⊥ = omega arith in absurd never
 levels-below (Some (suc l)) (Some m) f h = let e : l ≡ m = omega arith in ap (λ k. f (Some k)) e
+levels-below u v f h = absurd h
 
 -- ---- what is due
 
@@ -157,10 +156,9 @@ keys_in-value u n w v h = absurd cc
 
 pub keys-value : (start : Due) (vs : List Tree) (v : Tree) (n : Option ℕ) → due_after start vs ≡ Some (values n) →
     keys_among start (vs ++ (v ∷ [])) ≡ keys_among start vs
-keys-value (items m) vs v n h = refl
 keys-value (keys m) vs v n h = keys_in-value m n vs v h
-keys-value (values m) [] v n h = refl
 keys-value (values m) (u ∷ vs) v n h = keys_in-value m n vs v h
+keys-value u w v n h = refl
 
 -- ---- order of keys
 
@@ -169,34 +167,26 @@ less-is Less h = refl
 less-is u h = absurd cc
 
 pub in_order-is : (spelling : Spelling) (ks : List Tree) → in_order spelling ks ≡ true → AreInOrder spelling ks
-in_order-is any ks h = tt
-in_order-is (deterministic order) [] h = tt
-in_order-is (deterministic order) (k ∷ []) h = tt
 in_order-is (deterministic order) (k ∷ (j ∷ ks)) h = let a = both _ _ h in
     (less-is (key_order order k j) a.0, in_order-is (deterministic order) (j ∷ ks) a.1)
+in_order-is u v h = tt
 
 pub is-in_order : (spelling : Spelling) (ks : List Tree) → AreInOrder spelling ks → in_order spelling ks ≡ true
-is-in_order any ks h = refl
-is-in_order (deterministic order) [] h = refl
-is-in_order (deterministic order) (k ∷ []) h = refl
 is-in_order (deterministic order) (k ∷ (j ∷ ks)) h = ap (λ o. is_less o && rising order (j ∷ ks)) h.0 ∙
     is-in_order (deterministic order) (j ∷ ks) h.1
+is-in_order u v h = refl
 
 rising-before : (order : KeyOrder) (vs ws : List Tree) → AreRising order (keys_in (vs ++ ws)) →
     AreRising order (keys_in vs)
-rising-before order [] ws h = tt
-rising-before order (k ∷ []) ws h = tt
-rising-before order (k ∷ (v ∷ [])) ws h = tt
 rising-before order (k ∷ (v ∷ (j ∷ vs))) ws h = (h.0, rising-before order (j ∷ vs) ws h.1)
+rising-before order u ws h = tt
 
 -- the parts before others are in order
 pub order-before : (spelling : Spelling) (start : Due) (vs ws : List Tree) →
     AreInOrder spelling (keys_among start (vs ++ ws)) → AreInOrder spelling (keys_among start vs)
-order-before any start vs ws h = tt
-order-before (deterministic order) (items n) vs ws h = tt
 order-before (deterministic order) (keys n) vs ws h = rising-before order vs ws h
-order-before (deterministic order) (values n) [] ws h = tt
 order-before (deterministic order) (values n) (v ∷ vs) ws h = rising-before order vs ws h
+order-before u v w ws h = tt
 
 -- ---- lists of what is read, one more
 

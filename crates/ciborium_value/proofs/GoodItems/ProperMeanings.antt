@@ -56,17 +56,14 @@ tagged-proper t (Some v) h k = (h, k)
 
 more-proper : (o : Option Tree) (os : Option Trees) (j k n : ℕ) → Proper o → ProperTrees k os → 0 < j → n ≡ j + k →
     ProperTrees n (trees_more o os)
-more-proper None os j k n f g some e = tt
-more-proper (Some v) None j k n f g some e = tt
 more-proper (Some v) (Some vs) j k n f g some e = let few = g.0 in (omega (arith, few, some, e), (f, g.1))
+more-proper u v j k n f g some e = tt
 
 more_pairs-proper : (o u : Option Tree) (os : Option TreePairs) (j k n : ℕ) → Proper o → Proper u → ProperPairs k os →
     0 < j → n ≡ j + k → ProperPairs n (tree_pairs_more o u os)
-more_pairs-proper None u os j k n f g h some e = tt
-more_pairs-proper (Some v) None os j k n f g h some e = tt
-more_pairs-proper (Some v) (Some w) None j k n f g h some e = tt
 more_pairs-proper (Some v) (Some w) (Some ps) j k n f g h some e = let few = h.0 in
     (omega (arith, few, some, e), (f, g, h.1))
+more_pairs-proper u v w j k n f g h some e = tt
 
 -- ---- bytes
 

@@ -195,7 +195,6 @@ module _ (spelling : Spelling) where
 
     -- behind the parts vs of a container that began so, where this is due
     pub parts : ℕ → Due → Option Due → List Tree → List ℕ → ℕ → Limit → Answer Tree
-    parts zero start now vs b p l = refused io
-    parts (suc d) start None vs b p l = refused io
     parts (suc d) start (Some now) vs b p l = or_end (end_at now b p) (container_of now vs)
         (and_then (next_part (parts d start) start now vs p l) (read d b p l))
+    parts u start v vs b p l = refused io

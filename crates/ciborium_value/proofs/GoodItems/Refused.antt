@@ -59,8 +59,7 @@ other-refused c b q more x y (counted k n r) f = pass _ _ _
     (not_so _ (λ t. x (n, f.1, r, subst (λ j. HasHead b j n f.1 r) (eqb-true k (string_major c) t) f.2)))
 other-refused c b q more x y (opened k r) f = pass _ _ _
     (not_so _ (λ t. y (r, f.0 ∙ ap (λ j. (j * 32 + 31) ∷ r) (eqb-true k 7 t))))
-other-refused c b q more x y (plain n r) f = refl
-other-refused c b q more x y (raw w r) f = refl
+other-refused c b q more x y u f = refl
 
 part-refused : (k : StringKind) (c : ℕ) → 0 < c → {b : List ℕ} {q : ℕ} {e : Refusal} → ChunkRefuses k b q e →
     EachIsByte b → pieces c (string_major k) b q ≡ refused e

@@ -26,9 +26,8 @@ then-then Greater p q = refl
 -- where the first part does not decide, two orders agree
 by_first : (o p q r : Ordering) → (o ≡ Equal → p ≡ ordering_then q r) →
     ordering_then o p ≡ ordering_then (ordering_then o q) r
-by_first Less p q r h = refl
 by_first Equal p q r h = h refl
-by_first Greater p q r h = refl
+by_first u p q r h = refl
 
 -- the elements before the rest decide, and where they are equal the rest
 pub fronts_decide : (a b x y : List ℕ) → BeginsOnlyItself a b → BeginsOnlyItself b a

@@ -1,5 +1,5 @@
 -- The order of trees ties a tree with itself alone.
-use Rattle.std.proofs.Common.{◌≡◌, Bool, true, false, refl, sym, ap, ◌∙◌, Ordering, Less, Equal, Greater, is_eq, IsTrue}
+use Rattle.std.proofs.Common.{◌≡◌, Bool, true, false, refl, sym, ap, ◌∙◌, Ordering, Equal, is_eq, IsTrue}
 use Rattle.std.proofs.Common.{◌↔◌}
 use Rattle.std.proofs.lemmas.Cmp.{tied_itself, nat_list_cmp_total, nat_cmp_total, int_cmp_total}
 use Rattle.std.specs.Cmp.{bool_cmp_total}

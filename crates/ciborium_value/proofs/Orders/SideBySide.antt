@@ -2,7 +2,7 @@
 -- apart are one.
 use Rattle.std.proofs.Common.{◌≡◌, ℕ, suc, ◌+◌, ◌^◌, ◌<◌, ◌≤◌, List, [], ◌∷◌, ◌++◌, length, take, drop, get_or, map}
 use Rattle.std.proofs.Common.{Bool, true, false, ℤ, pos, negsuc, ◌⊎◌, inl, inr, Vec, vec_len, String, string_bytes, Box}
-use Rattle.std.proofs.Common.{Global, rules, refl, sym, ap, ◌∙◌, subst, lit<, arith, Ordering, Less, Equal, Greater}
+use Rattle.std.proofs.Common.{Global, rules, refl, sym, ap, ◌∙◌, subst, lit<, arith, Ordering, Equal}
 use Rattle.std.proofs.Common.{nat_cmp, append_assoc, append-nil}
 use Rattle.std.proofs.lemmas.List.{map-append, take_all}
 use Rattle.std.proofs.lemmas.Cmp.{tied_itself, nat_cmp_total, nat_list_cmp_total}
@@ -31,9 +31,8 @@ use Rattle.ciborium_ll.proofs.HeadOrder.{then_equal}
 -- ---- orders that decide
 
 pub tied : (o : Ordering) (b : Bool) → b ≡ is_ne o → b ≡ false → o ≡ Equal
-tied Less b e f = absurd (let no : true ≡ false = sym e ∙ f in cc)
 tied Equal b e f = refl
-tied Greater b e f = absurd (let no : true ≡ false = sym e ∙ f in cc)
+tied u b e f = absurd (let no : true ≡ false = sym e ∙ f in cc)
 
 pub both_tied : (o p : Ordering) → ordering_then o p ≡ Equal → (o ≡ Equal) × (p ≡ Equal)
 both_tied Equal p e = (refl, e)
@@ -49,9 +48,8 @@ behind_front (n ∷ a) x y = ap (λ o. ordering_then o (slice_cmp nat_cmp (a ++ 
 
 -- an order that decides leaves nothing to what follows
 pub nothing_left : (o p q : Ordering) (b : Bool) → b ≡ is_ne o → b ≡ true → ordering_then o p ≡ ordering_then o q
-nothing_left Less p q b e f = refl
 nothing_left Equal p q b e f = absurd (let no : false ≡ true = sym e ∙ f in cc)
-nothing_left Greater p q b e f = refl
+nothing_left u p q b e f = refl
 
 -- one list of bytes on both sides
 pub same_decides : (a b : List ℕ) → a ≡ b → Decides Equal a b

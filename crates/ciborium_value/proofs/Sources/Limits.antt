@@ -1,7 +1,6 @@
 -- A limit decides nothing but nesting: what is read, or refused, does not depend on it.
-use Rattle.std.proofs.Common.{◌≡◌, ℕ, zero, suc, Bool, true, false, Some, None, refl, sym, ap, subst, ◌⊎◌}
-use Rattle.std.proofs.Common.{inl, inr}
-use Rattle.ciborium_value.specs.Taken.{Outcome, gives, refuses, nests, Steps, decided, leveled, mapped, chosen}
+use Rattle.std.proofs.Common.{◌≡◌, ℕ, zero, suc, Bool, true, false, Some, None, refl, sym, ap, subst, ◌⊎◌, inl, inr}
+use Rattle.ciborium_value.specs.Taken.{Outcome, gives, nests, Steps, decided, leveled, mapped, chosen}
 use Rattle.ciborium_value.specs.Taken.{deeper_if, outcome, outcome_map, then_inside, then_read, then_take}
 
 -- an outcome within a limit is nesting, or the outcome without one
@@ -15,8 +14,7 @@ same-map f o p (inr e) = inr (ap (outcome_map f) e)
 same-behind : {A B : Type 0} (p : Outcome A) (g f : A → Outcome B) → ((v : A) → IsSame (g v) (f v)) →
     IsSame (then_take p g) (then_take p f)
 same-behind (gives v) g f h = h v
-same-behind (refuses k) g f h = inr refl
-same-behind nests g f h = inr refl
+same-behind u g f h = inr refl
 
 same-then : {A B : Type 0} (o p : Outcome A) (g f : A → Outcome B) → IsSame o p → ((v : A) → IsSame (g v) (f v)) →
     IsSame (then_take o g) (then_take p f)

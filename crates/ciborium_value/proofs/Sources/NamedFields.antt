@@ -35,8 +35,7 @@ label-placed place l i = by (label_kind i)
 name_at : {A P : Type 0} (place : A → P) {p : P} (o : Outcome A) → outcome_map place o ≡ gives p →
     (name : A) × (place name ≡ p) × (o ≡ gives name)
 name_at place (gives name) h = (name, cc, refl)
-name_at place (refuses k) h = absurd (cc)
-name_at place nests h = absurd (cc)
+name_at place u h = absurd (cc)
 
 -- where the place of a label is to blame, what is made of the label is
 fault_place : {A P B : Type 0} (end : ℕ) (fault : Fault) (place : A → P) (o : Outcome A) (f : A → Outcome B) →

@@ -163,8 +163,7 @@ none_listed nests = refl
 one_more_listed : {A : Type 0} (vs : List A) (v : A) (r : Outcome (List A)) →
     outcome_map (λ ws. vs ++ ws) (and_take (gives v) r) ≡ outcome_map (λ ws. (vs ++ v ∷ []) ++ ws) r
 one_more_listed vs v (gives ws) = ap gives (sym (append_assoc vs (v ∷ []) ws))
-one_more_listed vs v (refuses k) = refl
-one_more_listed vs v nests = refl
+one_more_listed vs v u = refl
 
 one_more_dropped : {A : Type 0} (v : A) (r : Outcome (List A)) →
     then_take (and_take (gives v) r) (λ _. gives (tt {0})) ≡ then_take r (λ _. gives tt)

@@ -8,7 +8,7 @@ use Rattle.ciborium_value.specs.Encoding.{item_of, pairs_of}
 use Rattle.ciborium_value.specs.Taken.{gives, refuses, taken_name, bare_name, lone_pair, taken_variant, bare_variant}
 use Rattle.ciborium_value.specs.Taken.{outcome, settled, untagged}
 use Rattle.std.specs.Borrow.{Bor}
-use Rattle.ciborium_value.specs.Ahead.{Rest, bottom, parts, pairs, entry, held, past}
+use Rattle.ciborium_value.specs.Ahead.{Rest, entry, past}
 use Rattle.ciborium_value.specs.inner.TreeSources.{IsTreeAhead, IsDueValue, IsPending, pending_due}
 use Rattle.ciborium_value.specs.TreeAnswers.{value_item}
 use Rattle.ciborium_value.specs.declared.deserialized.TreeSource.{TreeSource}
@@ -56,9 +56,6 @@ variant_of_map v ps qs i is h e =
 
 pub due_is_ahead : (new : TreeSource) (due : Option (Bor Value)) (f : Rest) → IsDueValue due f →
     new.ahead ≡ pending_due due → IsTreeAhead new (past f)
-due_is_ahead new due (bottom reader b) h e = tt
-due_is_ahead new due (parts form is f) h e = tt
-due_is_ahead new due (pairs form ps f) h e = tt
 due_is_ahead new None (entry v form ps f) h e = elim h [ ]
 due_is_ahead new (Some w) (entry v form ps f) h e = subst (λ o. IsPending o v × Unit {0}) (sym e) (h, tt)
-due_is_ahead new due (held f) h e = tt
+due_is_ahead new due u h e = tt

@@ -1,7 +1,6 @@
 -- The innermost frame stands last.
-use Rattle.std.proofs.Common.{◌≡◌, ℕ, suc, ◌+◌, ◌-◌, ◌<◌, List, [], ◌∷◌, ◌++◌, length, map}
-use Rattle.std.proofs.Common.{slice_index_or, slice_set, reverse, Bool, true, Option, None, Some, refl, sym, ap, ◌∙◌}
-use Rattle.std.proofs.Common.{arith, length-append}
+use Rattle.std.proofs.Common.{◌≡◌, ℕ, suc, ◌+◌, ◌-◌, ◌<◌, List, [], ◌∷◌, ◌++◌, length, map, slice_index_or, slice_set}
+use Rattle.std.proofs.Common.{reverse, Bool, true, Option, None, Some, refl, sym, ap, ◌∙◌, arith, length-append}
 use Rattle.std.proofs.lemmas.List.{map-append, reverse-append, reverse-reverse}
 use Rattle.ciborium_value.specs.inner.Frames as frames
 use Rattle.ciborium_value.specs.inner.Frames.{Filled, Placed, fill, fill_map, placed, more, still, waiting_keys, whole}
@@ -82,11 +81,10 @@ waiting-filled ps n p v behind b waits size some at waiting there =
 -- a list of two at least has a last element and one before it
 snoc-two : {A : Type 0} (xs : List A) → 1 < length xs →
     (zs : List A) × (z : A) × (y : A) × (xs ≡ zs ++ z ∷ y ∷ [])
-snoc-two [] h = absurd (omega (arith, h))
-snoc-two (x ∷ []) h = absurd (omega (arith, h))
 snoc-two (x ∷ y ∷ []) h = ([], x, y, refl)
 snoc-two {A} (w ∷ x ∷ y ∷ xs) h =
     let s = snoc-two (x ∷ y ∷ xs) (omega arith) in (w ∷ s.0, s.1, s.2, ap (λ (l : List A). w ∷ l) s.3)
+snoc-two u h = absurd (omega (arith, h))
 
 at-second : {A : Type 0} (zs : List A) (z y d : A) → slice_index_or (zs ++ z ∷ y ∷ []) (length zs) d ≡ z
 at-second [] z y d = refl
@@ -97,9 +95,8 @@ at-first [] z y d = refl
 at-first (x ∷ zs) z y d = at-first zs z y d
 
 with-last-of : (ps : List (Tree × Tree)) (p : Tree × Tree) (k : Tree) → with_last (ps ++ p ∷ []) k ≡ Some (p.0, k)
-with-last-of [] p k = refl
-with-last-of (q ∷ []) p k = refl
 with-last-of (q ∷ r ∷ ps) p k = with-last-of (r ∷ ps) p k
+with-last-of u p k = refl
 
 -- the keys of the last two pairs
 pub last-two : (ps : List (Value × Value)) (d e : Value × Value) → 1 < length ps →

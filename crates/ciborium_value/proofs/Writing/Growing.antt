@@ -29,9 +29,8 @@ trees-from [] = refl
 trees-from (i ∷ is) = ap (trees.tree (written_tree i)) (trees-from is)
 
 tree_pairs-from : (is : List Item) → tree_pairs_from (tree_pair_list is) ≡ written_pairs (pairs_from is)
-tree_pairs-from [] = refl
-tree_pairs-from (k ∷ []) = refl
 tree_pairs-from (k ∷ v ∷ is) = ap (trees.tree_pair (written_tree k) (written_tree v)) (tree_pairs-from is)
+tree_pairs-from u = refl
 
 put_all-snoc : (s : Placed) (is : List Item) (i : Item) →
     put_items s (is ++ i ∷ []) ≡ put_tree (put_items s is) (written_tree i)
@@ -57,50 +56,44 @@ array_still (suc m) vs (i ∷ is) os h = array_still m (vs ++ written_tree i ∷
 
 array_whole : (m : ℕ) (vs : List Tree) (is : List Item) (os : List TreeFrame) → length is ≡ suc m →
     put_items (more (frames.array vs (Some m) ∷ os)) is ≡ placed os (trees.array (trees_from (vs ++ tree_list is)))
-array_whole m vs [] os h = absurd (omega (arith, h))
 array_whole zero vs (i ∷ []) os h = refl
-array_whole zero vs (i ∷ j ∷ is) os h = absurd (omega (arith, h))
 array_whole (suc m) vs (i ∷ is) os h =
     array_whole m (vs ++ written_tree i ∷ []) is os (omega (arith, h)) ∙
     ap (λ l. placed os (trees.array (trees_from l))) (append_assoc vs (written_tree i ∷ []) (tree_list is))
+array_whole u vs v os h = absurd (omega (arith, h))
 
 -- ---- maps
 
 map_open : (n : ℕ) (ps : List (Tree × Tree)) (is : List Item) (os : List TreeFrame) → length is ≡ n + n →
     put_items (more (frames.map ps None None ∷ os)) is ≡ more (frames.map (ps ++ tree_pair_list is) None None ∷ os)
 map_open n ps [] os h = ap (λ l. more (frames.map l None None ∷ os)) (sym (append-nil ps))
-map_open n ps (k ∷ []) os h = absurd (omega (arith, h))
-map_open zero ps (k ∷ v ∷ is) os h = absurd (omega (arith, h))
 map_open (suc n) ps (k ∷ v ∷ is) os h =
     map_open n (ps ++ (written_tree k, written_tree v) ∷ []) is os (omega (arith, h)) ∙
     ap (λ l. more (frames.map l None None ∷ os)) (append_assoc ps ((written_tree k, written_tree v) ∷ [])
     (tree_pair_list is))
+map_open u ps v os h = absurd (omega (arith, h))
 
 map_open_still : (ps : List (Tree × Tree)) (is : List Item) (os : List TreeFrame) →
     IsStill (put_items (more (frames.map ps None None ∷ os)) is)
-map_open_still ps [] os = (_, refl)
-map_open_still ps (k ∷ []) os = (_, refl)
 map_open_still ps (k ∷ v ∷ is) os = map_open_still (ps ++ (written_tree k, written_tree v) ∷ []) is os
+map_open_still ps u os = (_, refl)
 
 map_still : (m : ℕ) (ps : List (Tree × Tree)) (is : List Item) (os : List TreeFrame) → length is < suc m + suc m →
     IsStill (put_items (more (frames.map ps (Some m) None ∷ os)) is)
-map_still m ps [] os h = (_, refl)
-map_still m ps (k ∷ []) os h = (_, refl)
 map_still zero ps (k ∷ v ∷ is) os h = absurd (omega (arith, h))
 map_still (suc m) ps (k ∷ v ∷ is) os h = map_still m (ps ++ (written_tree k, written_tree v) ∷ []) is os
     (omega (arith, h))
+map_still m ps u os h = (_, refl)
 
 map_whole : (m : ℕ) (ps : List (Tree × Tree)) (is : List Item) (os : List TreeFrame) → length is ≡ suc m + suc m →
     put_items (more (frames.map ps (Some m) None ∷ os)) is ≡ placed os
     (trees.map (tree_pairs_from (ps ++ tree_pair_list is)))
-map_whole m ps [] os h = absurd (omega (arith, h))
-map_whole m ps (k ∷ []) os h = absurd (omega (arith, h))
 map_whole zero ps (k ∷ v ∷ []) os h = refl
-map_whole zero ps (k ∷ v ∷ i ∷ is) os h = absurd (omega (arith, h))
 map_whole (suc m) ps (k ∷ v ∷ is) os h =
     map_whole m (ps ++ (written_tree k, written_tree v) ∷ []) is os (omega (arith, h)) ∙
     ap (λ l. placed os (trees.map (tree_pairs_from l)))
     (append_assoc ps ((written_tree k, written_tree v) ∷ []) (tree_pair_list is))
+map_whole u ps v os h = absurd (omega (arith, h))
 
 -- ---- where an item may come, something is still open
 
@@ -108,10 +101,9 @@ begun_still : (s : Shape) (n : Option ℕ) (is : List Item) (os : List TreeFrame
     HasRoom (within s n is around) → IsStill (put_items (begun s n (more os)) is)
 begun_still sequence None is os around h = (_, array_open [] is os)
 begun_still dictionary None is os around h = map_open_still [] is os
-begun_still sequence (Some zero) is os around h = absurd (omega (arith, h))
-begun_still dictionary (Some zero) is os around h = absurd (omega (arith, h))
 begun_still sequence (Some (suc m)) is os around h = array_still m [] is os h
 begun_still dictionary (Some (suc m)) is os around h = map_still m [] is os h
+begun_still u v is os around h = absurd (omega (arith, h))
 
 pub still_open : (p : Place) → HasRoom p → IsSound p → IsStill (built p)
 still_open (top name before []) room sound = ([], refl)

@@ -9,7 +9,7 @@ use Rattle.ciborium_value.specs.Places.{Shape, sequence, dictionary, size_of, co
 use Rattle.ciborium_value.specs.Places.{added, is_open, IsFull, IsOutAt, Out}
 use Rattle.ciborium_value.specs.Progress.{oks, BreaksAll, CanTake, IsSized, Owes, TakesAll, counted, counted_of}
 use Rattle.ciborium_value.specs.Sinks.{Named, and_then, all_named, contained, container_of, in_turn, tag_of, Cause}
-use Rattle.ciborium_value.specs.Sinks.{value, memory, device, IsOwed, IsReady, Begins, Tags, CanEnd, Ends, Breaks}
+use Rattle.ciborium_value.specs.Sinks.{value, IsOwed, IsReady, Begins, Tags, CanEnd, Ends, Breaks}
 use Rattle.ciborium_value.specs.Sinks.{BreaksBegin, BreaksTag, BreaksEnd, AddsNamed, BreaksNamed}
 use Rattle.ciborium_value.specs.declared.kind.Kind.{Kind}
 use Rattle.ciborium_value.specs.declared.kind.Kind.TheVariants.{Other}
@@ -152,8 +152,7 @@ module _ {S : Type 0} (StandsAt : S → Place → Type 0) (out : S → Out) (s :
       IsOwed cause (contained s (is_open n) (all_named parts))
   owes_owed mid x rest (value k) w h = ap (contained s (is_open n))
       (ap all_named (w.split ∙ ap (λ y. oks w.done ++ y ∷ rest) h) ∙ refused_at w.done rest k)
-  owes_owed mid x rest memory w h = tt
-  owes_owed mid x rest device w h = tt
+  owes_owed mid x rest u w h = tt
 
   oks-named : (mid : S) (w : Owes StandsAt s n parts old mid []) → all_named parts ≡ Ok w.done
   oks-named mid w = ap all_named (w.split ∙ append-nil (oks w.done)) ∙ each w.done

@@ -93,9 +93,8 @@ unfolding bytes_at
 bytes_at-top name before = append-nil before
 
 pub writer_at-added : (p : Place) (i : Item) → writer_at (added p i) ≡ writer_at p
-writer_at-added (top name before done) i = refl
-writer_at-added (within s n done around) i = refl
 writer_at-added (tagged t p) i = writer_at-added p (item.tag t i)
+writer_at-added u i = refl
 
 -- ---- one place comes before another
 

@@ -98,12 +98,11 @@ broken_at s k is around st full =
 
 pub can_close : (s : TreeSink) (n : Option ℕ) → n ≡ None → (p : Place) → IsBuiltAt s p → IsComplete p n →
     closed (frames_of s.stack) ≡ None → ⊥
-can_close s n none (top name before is) st full h = full
-can_close s n none (places.tagged t p) st full h = full
 can_close s n none (within k (Some m) is around) st full h = let e : Some m ≡ None = full.0 ∙ none in cc
 can_close s n none (within k None is around) st full h =
     let b = broken_at s k is around st full.1 in
     let e : None ≡ Some (b.0, b.1) = sym h ∙ b.2 in cc
+can_close s n u v st full h = full
 
 pub close_ends : {E : Type 0} (r : Result (Unit {0}) E) (s new : TreeSink) (n : Option ℕ) (v : Tree)
     (os : List TreeFrame) → n ≡ None → closed (frames_of s.stack) ≡ Some (v, os) → OnOk r (state_of new ≡ placed os v) →
@@ -123,14 +122,13 @@ close_ends r s new n v os none h = on_ok_weaker r (λ e p st full. by p st full 
         )
 
 pub whole_ends : (s : TreeSink) (n : Option ℕ) (m : ℕ) → n ≡ Some m → Ends IsBuiltAt s s n
-whole_ends s n m some (top name before is) st full = absurd full
-whole_ends s n m some (places.tagged t p) st full = absurd full
 whole_ends s n m some (within k None is around) st full = let e : None ≡ Some m = full.0 ∙ some in cc
 whole_ends s n m some (within k (Some j) is around) st full = (
   writer_at-added around (container k false is) ∙ st.0,
   sound-added around (container k false is) st.1.1,
   st.2 ∙ built-ended k j is around st.1 full.1,
 )
+whole_ends s n m some u st full = absurd full
 
 -- ---- the whole tree
 

@@ -61,8 +61,7 @@ level_agrees (Value-F.Map vs) (Value-F.Map ws) = let e = pairs_agree vs.items ws
     cmp_unfolded _ _ ∙ search (rules, the_lemmas, e)
 level_agrees (Value-F.Tag t v) (Value-F.Tag u w) = let e = v.value.1 w.value in cmp_unfolded _ _ ∙
     search (rules, the_lemmas, e)
-level_agrees (Value-F.Text x) (Value-F.Text z) = cmp_unfolded _ _ ∙ search (rules, the_lemmas)
-level_agrees y z = cmp_unfolded _ _ ∙ search (rules, the_lemmas)
+level_agrees u v = cmp_unfolded _ _ ∙ search (rules, the_lemmas)
 
 pub value_cmp-is : (v w : Value) → value_cmp v w ≡ tree_cmp (tree_of v) (tree_of w)
 value_cmp-is = ind-Value IsOfTrees (λ x y is w.

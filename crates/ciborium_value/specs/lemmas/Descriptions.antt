@@ -20,8 +20,7 @@ use Rattle.ciborium_value.specs.Readings.{tuple4_of}
 use Rattle.ciborium_value.specs.ReadsBack.{IsNameRead, IsReadBack}
 use Rattle.ciborium_value.specs.Sinks.{Named, container_of, number_item, or_null}
 use Rattle.ciborium_value.specs.StructReadings.{Fields, FieldsTaken, end_of_fields, field, field_or}
-use Rattle.ciborium_value.specs.StructReadings.{no_field_taken}
-use Rattle.ciborium_value.specs.StructReadings.{no_other_taken, optional_field}
+use Rattle.ciborium_value.specs.StructReadings.{no_field_taken, no_other_taken, optional_field}
 use Rattle.ciborium_value.specs.StructReadings.{struct_of, taken_struct}
 use Rattle.ciborium_value.specs.Taken.{Taken}
 use Rattle.ciborium_value.specs.WrittenContents.{AreFieldsAlike, IsWrittenByContent, field_alike}

@@ -187,11 +187,10 @@ module _ {K V A B : Type 0} (key : K → A) (value : V → B) (take : Item × It
         outcome None (take_each take (unpack_pairs (pairs_of ps))) ≡ gives
         (contents key value es)
     each-read no_tree_pairs [] h = refl
-    each-read no_tree_pairs (e ∷ es) h = absurd h
-    each-read (tree_pair k v ps) [] h = absurd h
     each-read (tree_pair k v ps) (e ∷ es) h =
         ap (λ o. and_take o (outcome None (take_each take (unpack_pairs (pairs_of ps))))) h.0 ∙
         ap (and_take (gives (key e.0, value e.1))) (each-read ps es h.1)
+    each-read u v h = absurd h
 
 -- ---- maps
 
@@ -225,9 +224,7 @@ module _ (o : KeyOrder) where
           entry-read (item_of k) (item_of v) e (h.back i refl k one) (m.back j refl v other),
           rest qs more,
         )
-    pair-form (Ok i) (Ok j) (Err k) e es h m rest = tt
-    pair-form (Ok i) (Err k) t e es h m rest = tt
-    pair-form (Err k) s t e es h m rest = tt
+    pair-form u v w e es h m rest = tt
 
     inside : (once : Bool) (order : A → A → Ordering) (s : Result (List Item) Kind)
         (es : List (K × V)) → ((fs : List (K × V)) → AreReordered es fs →

@@ -63,8 +63,7 @@ module _ (o : KeyOrder) where
         (deterministic_forms o (written_trees (items_from is))) ts forms in
         subst (λ us. outcome None (k (unpack (items_of us))) ≡ gives c) same
         (h i is refl refl w ws one rest)
-    both (Ok i) (Err e) h = tt
-    both (Err e) s h = tt
+    both u v h = tt
 
   rest-read : {C : Type 0} (s : Result (List Item) Kind) (k : List Item → Steps C) (c : C) →
       AreFormsRead s k c → (is : List Item) → s ≡ Ok is → (ts : Trees) →

@@ -19,9 +19,7 @@ use Rattle.ciborium_value.specs.ReadsBack.{of_ok}
 use Rattle.ciborium_value.specs.Sinks.{Named, and_then, bignum_item, contained}
 use Rattle.ciborium_value.specs.StructReadings.{Fields, FieldsTaken, end_of_fields, field}
 use Rattle.ciborium_value.specs.StructReadings.{field_filled, field_or, field_taken, no_field}
-use Rattle.ciborium_value.specs.StructReadings.{no_field_taken}
-use Rattle.ciborium_value.specs.StructReadings.{required, take_fields}
-use Rattle.ciborium_value.specs.StructReadings.{taken_fields}
+use Rattle.ciborium_value.specs.StructReadings.{no_field_taken, required, take_fields, taken_fields}
 use Rattle.ciborium_value.specs.Taken.{Outcome, Taken, chosen, decided, give, gives, outcome}
 use Rattle.ciborium_value.specs.Taken.{outcome_map, refuse, refuses, settled, then_take}
 use Rattle.ciborium_value.specs.Taken.{unpack_pairs}
@@ -106,14 +104,13 @@ module _ {C : Type 0} where
       AreRead (IsActRead fields) ps xs → AllAreFree xs → (c : C) → NoneIsBarred c xs →
       outcome None (take_fields fields c (unpack_pairs (pairs_of ps))) ≡ gives (after_all xs c)
   all-read fields no_tree_pairs [] h free c none = refl
-  all-read fields no_tree_pairs (a ∷ xs) h free c none = absurd h
-  all-read fields (tree_pair k v ps) [] h free c none = absurd h
   all-read fields (tree_pair k v ps) (a ∷ xs) h free c none =
       ap (λ o. then_take (then_take o (λ name. outcome None (fields name c (item_of v))))
       (λ d. outcome None (take_fields fields d (unpack_pairs (pairs_of ps))))) h.0.0 ∙
       ap (λ o. then_take o (λ d. outcome None (take_fields fields d (unpack_pairs (pairs_of ps)))))
       (h.0.1 c none.0) ∙
       all-read fields ps xs h.1 free.1 (act a c) (still-none a xs c free.0 none.1)
+  all-read fields u v h free c w = absurd h
 
 -- ---- fields
 
@@ -209,8 +206,6 @@ module _ (o : KeyOrder) where
     lifted-read : (ps : TreePairs) (xs : List (Act C)) → is_named name xs ≡ false →
         AreRead (IsActRead behind.read) ps xs → AreRead (IsActRead all) ps (lifted xs)
     lifted-read no_tree_pairs [] e h = tt
-    lifted-read no_tree_pairs (a ∷ xs) e h = absurd h
-    lifted-read (tree_pair k v ps) [] e h = absurd h
     lifted-read (tree_pair k v ps) (a ∷ xs) e h =
         let both = neither (is_label a.0 name) (is_named name xs) e in (
           (
@@ -221,6 +216,7 @@ module _ (o : KeyOrder) where
           ),
           lifted-read ps xs both.1 h.1,
         )
+    lifted-read u v e h = absurd h
 
     -- the act of this field
     abbrev own : A → Act (Option A × C)
@@ -254,9 +250,7 @@ module _ (o : KeyOrder) where
           ),
           lifted-read qs xs new (more qs these),
         )
-    own-read a (Ok key) (Ok i) (Err j) xs keyed same new h more = tt
-    own-read a (Ok key) (Err j) rest xs keyed same new h more = tt
-    own-read a (Err j) w rest xs keyed same new h more = tt
+    own-read a u v w xs keyed same new h more = tt
 
     left-read : (rest : Result (List Item) Kind) (xs : List (Act C)) → is_named name xs ≡ false →
         IfOk rest (λ is. (ps : TreePairs) → pair_forms o (written_pairs (pairs_from is)) ≡ gives ps →

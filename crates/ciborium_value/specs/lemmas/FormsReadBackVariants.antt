@@ -3,8 +3,7 @@ use Rattle.std.proofs.Common.{ap, subst, ◌∙◌}
 use Rattle.std.specs.Prelude.{◌≡◌, ℕ, List, [], ◌∷◌, None, Ok, Err, IfOk, refl}
 use Rattle.ciborium_ll.specs.Item as items
 use Rattle.ciborium_ll.specs.Item.{Item}
-use Rattle.ciborium_value.specs.DeterministicForms.{deterministic_form, pair_forms}
-use Rattle.ciborium_value.specs.DeterministicForms.{sorted_pairs}
+use Rattle.ciborium_value.specs.DeterministicForms.{deterministic_form, pair_forms, sorted_pairs}
 use Rattle.ciborium_value.specs.Encoding.{item_of, written_tree}
 use Rattle.ciborium_value.specs.FormsReadBack.{IsFormRead}
 use Rattle.ciborium_value.specs.Labels.{fields_of, named}

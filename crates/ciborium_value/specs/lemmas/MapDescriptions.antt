@@ -9,8 +9,7 @@ use Rattle.ciborium_value.specs.Places.{dictionary}
 use Rattle.ciborium_value.specs.Readings.{map_by}
 use Rattle.ciborium_value.specs.Sinks.{container_of, in_turn}
 use Rattle.ciborium_value.specs.WrittenContents.{map-alike}
-use Rattle.ciborium_value.specs.lemmas.Descriptions.{both, signed_description}
-use Rattle.ciborium_value.specs.lemmas.Descriptions.{unsigned_description}
+use Rattle.ciborium_value.specs.lemmas.Descriptions.{both, signed_description, unsigned_description}
 use Rattle.ciborium_value.specs.lemmas.FormsReadBackMaps.{map-form}
 use Rattle.ciborium_value.specs.lemmas.FormsReadBackNumbers.{IsSignedForm, IsUnsignedForm}
 use Rattle.ciborium_value.specs.lemmas.ReadsBackMaps.{IsMapHeld, entry_levels, map-back}

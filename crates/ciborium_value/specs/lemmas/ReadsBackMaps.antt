@@ -20,8 +20,7 @@ use Rattle.ciborium_value.specs.ReadsBack.{IsNameRead, IsReadBack, Way, met, of_
 use Rattle.ciborium_value.specs.lemmas.ReadsBackParts.{at, greatest, met-container, within-left}
 use Rattle.ciborium_value.specs.lemmas.ReadsBackParts.{within-right}
 use Rattle.ciborium_value.specs.Sinks.{Named, and_then, all_named, contained, container_of, in_turn}
-use Rattle.ciborium_value.specs.lemmas.GivenOutcomes.{and_take, mapped_gives, one_given}
-use Rattle.ciborium_value.specs.lemmas.GivenOutcomes.{then_gives}
+use Rattle.ciborium_value.specs.lemmas.GivenOutcomes.{and_take, mapped_gives, one_given, then_gives}
 use Rattle.ciborium_value.specs.lemmas.ReadsBackStructs.{nothing-twice}
 use Rattle.ciborium_value.specs.Taken.{Outcome, Steps, Taken, chosen, gives, outcome, outcome_map}
 use Rattle.ciborium_value.specs.Taken.{refuse, refuses, take_each, then_read, then_take}
@@ -110,9 +109,8 @@ module _ {K V A B : Type 0} (cmp : K → K → Ordering) (order : A → A → Or
 -- ---- keys that are apart
 
 pub not-at : (o : Ordering) → (o ≡ Equal → ⊥) → is_eq o ≡ false
-not-at Less h = refl
 not-at Equal h = absurd (h refl)
-not-at Greater h = refl
+not-at u h = refl
 
 none-first : {B : Type 0} (t : Bool) (b : B) (x : Option B) → t ≡ false → is_some x ≡ false →
     is_some (cond t (Some b) x) ≡ false
@@ -237,9 +235,8 @@ module _ {K V A B : Type 0} (cmp : K → K → Ordering) (order : A → A → Or
       ((key p.0, value e.1) ∷ contents key value es) ((key p.0, value p.1) ∷ cs) ≡ contents
       key value (match_ordering a ((e.0, e.1) ∷ p ∷ es) ((p.0, e.1) ∷ es)
       (p ∷ insert_entry cmp es e.0 e.1))
-  matched Less e p es cs h = refl
-  matched Equal e p es cs h = refl
   matched Greater e p es cs h = ap (λ ds. (key p.0, value p.1) ∷ ds) h
+  matched u e p es cs h = refl
 
   pub one-put : (es : List (K × V)) (e : K × V) →
       insert_entry order (contents key value es) (key e.0) (value e.1) ≡ contents key value
@@ -311,9 +308,7 @@ module _ {A B : Type 0} (f : Taken A) (h : Taken B) (g : Item → Item) where
       ap (λ o. and_take (then_take o (λ x. then_take (outcome l (h (g j))) (λ y. gives (x, y))))
       rest) p
       ∙ ap (λ o. and_take (then_take o (λ y. gives (a, y))) rest) q ∙ ap (and_take (gives (a, b))) m
-  pair-back l (Ok i) (Ok j) (Err e) a b ps p q m = tt
-  pair-back l (Ok i) (Err e) t a b ps p q m = tt
-  pair-back l (Err e) s t a b ps p q m = tt
+  pair-back l u v w a b ps p q m = tt
 
 -- what the entries are: their keys rise, and each key and value is held
 abbrev pub IsMapHeld : {K V : Type 0} → (K → K → Ordering) → (K → Type 0) → (V → Type 0) →

@@ -52,9 +52,8 @@ module _ where
 
   pairs-met : (is : List Item) → pairs_of (written_pairs (pairs_from is)) ≡ pairs_from
       (map (met by_tree) is)
-  pairs-met [] = refl
-  pairs-met (k ∷ []) = refl
   pairs-met (k ∷ v ∷ is) = ap (λ js. pair (met by_tree k) (met by_tree v) js) (pairs-met is)
+  pairs-met u = refl
 
 pub met-container : (way : Way) (s : Shape) (is : List Item) →
     met way (container s false is) ≡ container s false (map (met way) is)
@@ -129,8 +128,7 @@ and-back : {C : Type 0} (f : Taken C) (g : Item → Item) (l : Limit) (r : Named
     IfOk (and_then r s) (λ is. outcome l (take_each f (map g is)) ≡ gives (c ∷ cs))
 and-back f g l (Ok i) (Ok is) c cs h k =
     ap (λ o. and_take o (outcome l (take_each f (map g is)))) h ∙ ap (and_take (gives c)) k
-and-back f g l (Ok i) (Err e) c cs h k = tt
-and-back f g l (Err e) s c cs h k = tt
+and-back f g l u v c cs h k = tt
 
 module _ {T C : Type 0} {IsHeld : T → Type 0} {written : T → Named} {taken : Taken C}
     {content : T → C} {levels : T → ℕ} (back : IsReadBack IsHeld written taken content levels) where
@@ -171,8 +169,7 @@ both-read taken behind way l (Ok i) (Ok is) v c h j =
     ap (λ o. then_take o (λ x. outcome_map (λ d. (x, d)) (outcome l (behind (map (met way) is)))))
     h ∙
     ap (outcome_map (λ d. (v, d))) j
-both-read taken behind way l (Ok i) (Err e) v c h j = tt
-both-read taken behind way l (Err e) s v c h j = tt
+both-read taken behind way l u w v c h j = tt
 
 module _ {A : Type 0} {r : Named} {taken : Taken A} {a : A} {n : ℕ}
     (h : IsNameRead r taken a n) where

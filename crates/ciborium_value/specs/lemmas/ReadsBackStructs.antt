@@ -18,9 +18,8 @@ use Rattle.ciborium_value.specs.lemmas.ReadsBackParts.{at, met-container, within
 use Rattle.ciborium_value.specs.Sinks.{Named, all_named, and_then, bignum_item, contained, in_turn}
 use Rattle.ciborium_value.specs.StructReadings.{Fields, FieldsTaken, end_of_fields, field}
 use Rattle.ciborium_value.specs.StructReadings.{field_filled, field_or, field_taken, no_field}
-use Rattle.ciborium_value.specs.StructReadings.{no_field_taken}
-use Rattle.ciborium_value.specs.StructReadings.{required, take_fields, taken_fields}
-use Rattle.ciborium_value.specs.Taken.{Outcome, Taken, decided, gives, nests, outcome, outcome_map}
+use Rattle.ciborium_value.specs.StructReadings.{no_field_taken, required, take_fields, taken_fields}
+use Rattle.ciborium_value.specs.Taken.{Outcome, Taken, decided, gives, outcome, outcome_map}
 use Rattle.ciborium_value.specs.Taken.{refuses, settled, then_take, unpack_pairs}
 use Rattle.ciborium_value.specs.TakenParts.{taken_then}
 use Rattle.ciborium_value.specs.declared.kind.Kind.{Kind}
@@ -63,8 +62,6 @@ IsKeyOf name i = (l : Limit) → outcome l (taken_label i) ≡ gives name
 -- a label is met as it was written
 label-met : (way : Way) (name : Label) → is_proper name ≡ true →
     IfOk (label_item name) (λ i. IsKeyOf name (met way i))
-label-met by_bytes (named a) h = λ l. refl
-label-met by_tree (named a) h = λ l. refl
 label-met by_bytes (numbered (pos n)) h = subst (λ t. IfOk {E = Kind} (Ok (if t then items.unsigned n
     else bignum_item 2 n)) (λ i. IsKeyOf (numbered (pos n)) i)) (sym h) (λ l. refl)
 label-met by_tree (numbered (pos n)) h = subst (λ t. IfOk {E = Kind} (Ok (if t then items.unsigned n
@@ -75,6 +72,7 @@ label-met by_tree (numbered (negsuc n)) h = subst (λ t. IfOk {E = Kind} (Ok (if
     else bignum_item 3 n)) (λ i. IsKeyOf (numbered (negsuc n)) (met by_tree i))) (sym h)
     (λ l. refl)
 label-met way other h = tt
+label-met u v h = λ l. refl
 
 -- ---- a field leaves what stands under other labels to those behind it
 
@@ -96,8 +94,7 @@ module _ {A C : Type 0} (once : Bool) (wanted : Label) (taken : Taken A) (behind
       then_take (outcome_map (λ d. (x, d)) o) (λ d. outcome l (take_fields all d (pairs way is))) ≡
       outcome_map (λ d. (x, d)) (then_take o (λ d. outcome l (take_fields behind d (pairs way is))))
   left-then (gives d) is h = h d
-  left-then (refuses k) is h = refl
-  left-then nests is h = refl
+  left-then u is h = refl
 
   left-pair : (name : Label) → is_label name wanted ≡ false → (k : Named) →
       IfOk k (λ i. IsKeyOf name (met way i)) → (r : Named) (rest : Result (List Item) Kind) →
@@ -112,9 +109,7 @@ module _ {A C : Type 0} (once : Bool) (wanted : Label) (taken : Taken A) (behind
       ∙ ap (outcome_map (λ d. (x, d))) (sym (ap (λ o. then_take (then_take o
       (λ name. outcome l (behind name c (met way i))))
       (λ d. outcome l (take_fields behind d (pairs way is)))) (key l)))
-  left-pair name e (Ok k) key (Ok i) (Err j) h = tt
-  left-pair name e (Ok k) key (Err j) rest h = tt
-  left-pair name e (Err j) key r rest h = tt
+  left-pair name e u key v w h = tt
 
   left : (fs : List (Label × Named)) → is_named wanted fs ≡ false → are_apart fs ≡ true →
       IfOk (parts_of fs) IsLeft
@@ -201,9 +196,7 @@ module _ {T A C D : Type 0} (name : Label) (r : Reading T A) (fill : Option A �
       ∙ ap (λ o. with way (outcome_map (λ v. (Some v, behind.start)) o) is) given
       ∙ ap (λ o. then_take o completed) (leaves behind.start)
       ∙ with-first (Some a) full (outcome l (take_fields behind.read behind.start (pairs way is))) h
-  from-first way (Ok k) (Ok i) (Err j) key own full given leaves h = tt
-  from-first way (Ok k) (Err j) rest key own full given leaves h = tt
-  from-first way (Err j) w rest key own full given leaves h = tt
+  from-first way u v w key own full given leaves h = tt
 
   without : (way : Way) (rest : Result (List Item) Kind) → fill None ≡ Some a →
       IfOk rest (IsLeft behind.once name r.taken behind.read way l None) →

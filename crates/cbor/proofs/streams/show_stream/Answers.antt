@@ -1,8 +1,7 @@
 use Rattle.std.proofs.Common.{◌≡◌, ◌+◌, ap, arith, ◌∙◌, Err, Ok, Some}
 use Rattle.ciborium_value.specs.View.{tree_of}
 use Rattle.cbor.specs.Answer.{refusal_behind}
-use Rattle.cbor.proofs.StreamedItems.{all-shown, first-formless, first-refused, none-shown, one-more-shown}
-use Rattle.cbor.proofs.StreamedItems.{shown-still}
+use Rattle.cbor.proofs.StreamedItems.{all-shown, first-formless, first-refused, none-shown, one-more-shown, shown-still}
 use Rattle.cbor.proofs.streams.show_stream.Goals as goal
 
 pub items-init : goal.items-init
