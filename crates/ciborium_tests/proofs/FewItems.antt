@@ -5,7 +5,8 @@ use Rattle.ciborium_value.specs.Ahead.{Ahead, Rest}
 use Rattle.ciborium_value.specs.Nesting.{Limit}
 use Rattle.ciborium_value.specs.Sources.{Fault, of_kind, TakesAhead, RefusesAhead, GoesOn, Leaves}
 use Rattle.ciborium_value.specs.lemmas.GivenOutcomes.{and_take}
-use Rattle.ciborium_value.specs.Taken.{Outcome, Steps, Taken, gives, mapped, nests, outcome, outcome_map, refuses}
+use Rattle.ciborium_value.specs.Taken.{Outcome, Steps, Taken, gives, mapped, nests, outcome, outcome_map}
+use Rattle.ciborium_value.specs.Taken.{refuses}
 use Rattle.ciborium_value.specs.declared.kind.Kind.TheVariants as kinds
 use Rattle.ciborium_value.proofs.Sources.Sequences.{so, Follows, IsPast, IsInside, IsBlamed, goes_on, reads}
 use Rattle.ciborium_value.proofs.Sources.Sequences.{blames_part, leaves, fault_map, fault_then}

@@ -1,5 +1,6 @@
 -- An item under tag 18, read with its tag or where that tag is required.
-use Rattle.std.proofs.Common.{◌≡◌, refl, ℕ, List, Bool, true, false, Option, Some, None, ◌==◌, if◌then◌else◌}
+use Rattle.std.proofs.Common.{◌≡◌, refl, ℕ, List, Bool, true, false, Option, Some, None, ◌==◌}
+use Rattle.std.proofs.Common.{if◌then◌else◌}
 use Rattle.std.proofs.lemmas.Bool.{eqb-true}
 use Rattle.ciborium.specs.TagReadings.{if_tag, is_tag, taken_with_tag}
 use Rattle.ciborium.specs.Taken.{Outcome, gives, nests, outcome, refuses, taken_value, then_take}

@@ -1,4 +1,5 @@
-use Rattle.std.proofs.Common.{ap, ◌∙◌, is_some}
+use Rattle.std.proofs.Common.{ap, ◌∙◌}
+use Rattle.std.proofs.Common.{is_some}
 use Rattle.ciborium_uses.proofs.LabelMaps.{found_by_tree, is_some-by_tree}
 use Rattle.ciborium_uses.proofs.envelopes.labels.has_label.Goals as goal
 
