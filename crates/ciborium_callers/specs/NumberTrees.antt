@@ -14,7 +14,7 @@ use Rattle.ciborium.specs.View.{trees_from}
 use Rattle.ciborium_value.specs.declared.key_order.KeyOrder.{KeyOrder}
 use Rattle.ciborium_callers.specs.declared.tree_types.NumberTree.{NumberTree, fold-NumberTree}
 use Rattle.ciborium_callers.specs.declared.tree_types.NumberTree.TheOpen.{NumberTree-F}
-use Rattle.ciborium_value.specs.lemmas.Descriptions.{both}
+use Rattle.ciborium.specs.lemmas.Descriptions.{both}
 
 -- one level, where each value inside is its tree already
 abbrev pub number_level_tree : NumberTree-F Tree → Tree
