@@ -1,6 +1,7 @@
 -- The heads of an item are read and dumped one by one.
 use Rattle.std.proofs.Common.{◌≡◌, ℕ, zero, suc, ◌+◌, ◌<◌, ◌≤◌, List, [], ◌∷◌, ◌++◌, length, drop}
-use Rattle.std.proofs.Common.{Option, Some, None, Result, Ok, Err, OnOk, inl, if◌then◌else◌, is_ok, inr, refl, sym, ap, ◌∙◌, subst, arith, append-nil, append_assoc}
+use Rattle.std.proofs.Common.{Option, Some, None, Result, Ok, Err, OnOk, inl, if◌then◌else◌, is_ok, inr, refl, sym, ap}
+use Rattle.std.proofs.Common.{◌∙◌, subst, arith, append-nil, append_assoc}
 use Rattle.std.proofs.Common.{length-append, take-append-drop, add-one}
 use Rattle.std.proofs.lemmas.List.{flat_map_more, length-drop}
 use Rattle.std.specs.List.{flat_map, repeat}
@@ -19,7 +20,8 @@ use Rattle.ciborium_ll.specs.declared.item_heads.NoItem.TheVariants.{Incomplete,
 use Rattle.ciborium_ll.specs.declared.levels.Level.{Level}
 use Rattle.ciborium_ll.specs.declared.levels.Level.TheVariants.{Items}
 use Rattle.ciborium_value.proofs.Trees.Notations.{encode_lower-append}
-use Rattle.cbor.specs.Dumped.{AreHeads, AreHeadsAt, AreLinesOf, Entry, IsBrokenDump, IsEntryAt, ShowsAt, entry_bytes, entry_of}
+use Rattle.cbor.specs.Dumped.{AreHeads, AreHeadsAt, AreLinesOf, Entry, IsBrokenDump, IsEntryAt, ShowsAt, entry_bytes}
+use Rattle.cbor.specs.Dumped.{entry_of}
 use Rattle.cbor.specs.Dumped.{hex_column, line_of, reason_text}
 use Rattle.cbor.specs.Laws.{DumpKeepsBytes, DumpKeepsHex}
 use Rattle.cbor.specs.Line.{trailing_text}

@@ -98,12 +98,16 @@ same-entry levels p b e f more other left rest is also split apart =
 one-list : (es fs : List Entry) (levels : List Level) (p : ℕ) (b : List ℕ) → AreHeadsAt levels p b es [] [] →
     AreHeadsAt levels p b fs [] [] → es ≡ fs
 one-list [] [] levels p b h k = refl
-one-list [] (f ∷ fs) levels p b (none, whole) (more, left, is, split, others) = absurd (no-entry levels p f more none is)
-one-list (e ∷ es) [] levels p b (more, left, is, split, others) (none, whole) = absurd (no-entry levels p e more none is)
+one-list [] (f ∷ fs) levels p b (none, whole) (more, left, is, split, others) =
+    absurd (no-entry levels p f more none is)
+one-list (e ∷ es) [] levels p b (more, left, is, split, others) (none, whole) =
+    absurd (no-entry levels p e more none is)
 one-list (e ∷ es) (f ∷ fs) levels p b (more, left, is, split, others) (other, rest, also, apart, further) =
     let same = same-entry levels p b e f more other left rest is also split apart in
-    let moved = subst (λ (g : Entry). AreHeadsAt other (p + length (entry_bytes g)) rest fs [] []) (sym same.0) further in
-    let there = subst (λ (ls : List Level). AreHeadsAt ls (p + length (entry_bytes e)) rest fs [] []) (sym same.1) moved in
+    let moved = subst (λ (g : Entry). AreHeadsAt other (p + length (entry_bytes g)) rest fs [] []) (sym same.0) further
+    in
+    let there = subst (λ (ls : List Level). AreHeadsAt ls (p + length (entry_bytes e)) rest fs [] []) (sym same.1)
+    moved in
     let here = subst (λ (c : List ℕ). AreHeadsAt more (p + length (entry_bytes e)) c fs [] []) (sym same.2) there in
     ap₂ (λ (g : Entry) (gs : List Entry). g ∷ gs) same.0
     (one-list es fs more (p + length (entry_bytes e)) left others here)

@@ -25,7 +25,8 @@ abbrev pub item_trees : Result (Vec Value Global) Error → Result (List Tree) E
 item_trees = read_as (λ vs. map tree_of vs.items)
 
 -- the trees of pairs
-abbrev pub trees_in_pairs : Result (Vec (Value × Value) Global) Error → Result (List (Tree × Tree)) Error
+abbrev pub trees_in_pairs : Result (Vec (Value × Value) Global) Error →
+    Result (List (Tree × Tree)) Error
 trees_in_pairs = read_as (λ ps. map pair_trees ps.items)
 
 -- the tree of the item that is named

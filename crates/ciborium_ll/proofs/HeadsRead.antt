@@ -1,6 +1,8 @@
 -- What a reader of an item's heads has read, and what its answers say of all the bytes.
-use Rattle.std.proofs.Common.{◌≡◌, ℕ, ◌+◌, ◌-◌, ◌<◌, ◌≤◌, List, [], ◌∷◌, ◌++◌, length, take, drop, Some, None, Err, Bool, true, false, IsTrue}
-use Rattle.std.proofs.Common.{refl, sym, ap, subst, eqb, ◌∙◌, ◌%◌, inl, inr, arith, append_assoc, drop-drop, take-append-drop, length-take-le}
+use Rattle.std.proofs.Common.{◌≡◌, ℕ, ◌+◌, ◌-◌, ◌<◌, ◌≤◌, List, [], ◌∷◌, ◌++◌, length, take, drop, Some, None, Err}
+use Rattle.std.proofs.Common.{Bool, true, false, IsTrue}
+use Rattle.std.proofs.Common.{refl, sym, ap, subst, eqb, ◌∙◌, ◌%◌, inl, inr, arith, append_assoc, drop-drop}
+use Rattle.std.proofs.Common.{take-append-drop, length-take-le}
 use Rattle.std.proofs.Math.Seq.{take-add}
 use Rattle.std.proofs.lemmas.Bool.{eqb-false}
 use Rattle.std.proofs.lemmas.List.{length-drop, take_rest}
@@ -19,7 +21,8 @@ use Rattle.ciborium_ll.specs.Head.{break_byte}
 use Rattle.ciborium_ll.specs.Header.{SpellsHeader}
 use Rattle.ciborium_ll.specs.Refusal.{argument_length}
 use Rattle.ciborium_ll.specs.ItemHeads.{HasRead, open_in, unread, was_read}
-use Rattle.ciborium_ll.specs.ItemLengths.{BeginNoItem, BeginText, EndInside, IsNoItem, Misfits, OpensTooMany, StandsOpen}
+use Rattle.ciborium_ll.specs.ItemLengths.{BeginNoItem, BeginText, EndInside, IsNoItem, Misfits, OpensTooMany}
+use Rattle.ciborium_ll.specs.ItemLengths.{StandsOpen}
 use Rattle.ciborium_ll.specs.Levels.{AreItem, EndAll, IsOpenBehind, IsPayloadOf, behind_head, incomplete}
 use Rattle.ciborium_ll.specs.inner.Fronts.{IsCut, IsCutPayload, IsNoChunk, MayBeChunk}
 use Rattle.ciborium_ll.specs.inner.KeptLevels.{IsPassed, levels_in}
@@ -143,7 +146,8 @@ head-read heads header size n levels h spelled room (there, payload) (more, plac
     let rest = unread heads in
     let read : take (heads.offset + (size + n)) heads.bytes.now
     ≡ was_read heads ++ (take size rest ++ take n (drop size rest)) =
-    take-add heads.offset (size + n) heads.bytes.now ∙ ap (λ (b : List ℕ). was_read heads ++ b) (take-add size n rest) in
+    take-add heads.offset (size + n) heads.bytes.now ∙
+    ap (λ (b : List ℕ). was_read heads ++ b) (take-add size n rest) in
     let state = open-incomplete _ more (open-behind (was_read heads) header (take size rest) (take n (drop size rest))
     (open_in heads) more spelled payload placed h.levels) in
     record {

@@ -47,7 +47,8 @@ pub step-here : (header : Header) (k : ℕ) (room : List Level) (level : Level) 
     top_of (drop k room) ≡ Some level →
     ((around : List Level) → behind_head header (level ∷ around) ≡ levels_by step around) → IsStep header k room step
 step-here header k room level step e f =
-    ap (behind_head header) (top-first k room level e ∙ ap (λ n. level ∷ drop n room) (one-more k)) ∙ f (drop (k + 1) room)
+    ap (behind_head header) (top-first k room level e ∙ ap (λ n. level ∷ drop n room) (one-more k)) ∙
+    f (drop (k + 1) room)
 
 pub not-zero : (k : ℕ) → ¬ (k ≡ 0) → 0 < k
 not-zero zero h = absurd (h refl)
@@ -64,7 +65,8 @@ pub kept-opened : (header : Header) (k : ℕ) (room : List Level) (level inner :
 kept-opened header k room level inner less some s =
     let behind : k - 1 + 1 ≡ k = omega (arith, some) in
     s ∙ ap Some (sym (drop-set (set room k level) (k - 1) inner (omega (arith, less, some, length-set room k level)) ∙
-    ap (λ n. inner ∷ drop n (set room k level)) behind ∙ ap (λ (ls : List Level). inner ∷ ls) (drop-set room k level less)))
+    ap (λ n. inner ∷ drop n (set room k level)) behind ∙
+    ap (λ (ls : List Level). inner ∷ ls) (drop-set room k level less)))
 
 -- one level more than there is room for
 pub one-too-many : (header : Header) (k : ℕ) (room : List Level) (level inner : Level) → k ≡ 0 → length room ≡ 257 →

@@ -1,5 +1,5 @@
--- What a type is, as data: what counts of its values, how they are read and written, and the laws of
--- that. The laws of types made of others follow from the descriptions of their parts.
+-- What a type is, as data: what counts of its values, how they are read and written, and the laws
+-- of that. The laws of types made of others follow from the descriptions of their parts.
 use Rattle.std.specs.Prelude.{◌≡◌, ℕ, Bool, true, false, List, [], ◌∷◌, Option, Some, None, max}
 use Rattle.std.specs.Prelude.{length, ◌&&◌, if◌then◌else◌, bytes_eq}
 use Rattle.std.specs.Cmp.{IsTotalOrder}

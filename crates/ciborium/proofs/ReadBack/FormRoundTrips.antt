@@ -95,7 +95,8 @@ module _ {T C : Type 0} (written : T → Named) (reading : Reading T C) where
 -- of a type to which the order of pairs and folding make no difference
 module _ {T C : Type 0} (IsHeld : T → Type 0) (written : T → Named) (reading : Reading T C)
     (law : (o : KeyOrder) → IsReadFromForm o IsHeld written reading.taken reading.content) where
-  pub from-form : (o : KeyOrder) (v : T) → IsHeld v → (n : Named) → written v ≡ n → (t : Tree) → named_form o n ≡ gives t →
+  pub from-form : (o : KeyOrder) (v : T) → IsHeld v → (n : Named) → written v ≡ n → (t : Tree) →
+      named_form o n ≡ gives t →
       outcome None (reading.taken (item_of t)) ≡ gives (reading.content v)
   from-form o v held (Ok i) names t form = (law o v held).back i names t form
   from-form o v held (Err k) names t form = absurd cc

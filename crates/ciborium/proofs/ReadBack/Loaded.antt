@@ -135,7 +135,8 @@ store-folds o (e ∷ es) h =
     (store-folds o es (All-tail (λ e. IsCanonicalTree o (tree_of e.0) ×
     IsCanonicalTree o (tree_of e.1)) e es h))
 
-parts-rise : (o : KeyOrder) (es : List (Value × Value)) → AreCanonicalParts o es → PairsHaveRisingKeys o (tree_pairs_of es)
+parts-rise : (o : KeyOrder) (es : List (Value × Value)) → AreCanonicalParts o es →
+    PairsHaveRisingKeys o (tree_pairs_of es)
 parts-rise o [] h = tt
 parts-rise o (e ∷ es) h =
     let here = All-head (λ e. IsCanonicalTree o (tree_of e.0) × IsCanonicalTree o (tree_of e.1)) e

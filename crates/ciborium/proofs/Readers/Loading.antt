@@ -59,8 +59,10 @@ written-more bytes rest buf w is front =
     same = (slice_eq-Decides Decides-eqb buf (take (length buf) rest) true front).0 refl ∙ ap (take (length buf)) all
 
 -- all of the bytes were written
-pub written-all : {E : Type 0} (bytes now : List ℕ) (w : ℕ) (r : Result (Unit {0}) (WriteError E)) (form : Outcome Tree) →
-    WritesForm (Some []) (Some (take w now)) r form → true ≡ is_ok r → w ≡ length bytes → true ≡ pointwise eqb now bytes →
+pub written-all : {E : Type 0} (bytes now : List ℕ) (w : ℕ) (r : Result (Unit {0}) (WriteError E))
+    (form : Outcome Tree) →
+    WritesForm (Some []) (Some (take w now)) r form → true ≡ is_ok r → w ≡ length bytes →
+    true ≡ pointwise eqb now bytes →
     HasForm form (λ t. bytes ≡ encoding t)
 written-all bytes now w (Ok u) form (t, is, written) ok all same =
     let e : now ≡ bytes = (slice_eq-Decides Decides-eqb now bytes true same).0 refl in

@@ -63,7 +63,8 @@ so-open : (spelling : Spelling) (b : List ℕ) (m : ℕ) (r s : List ℕ) (v : T
     b ≡ (m * 32 + 31) ∷ r → spelling_fault spelling b ≡ None → IsSpelledSo spelling s v
 so-open any b m r s v low high e fine = tt
 so-open (deterministic order) b m r s v low high e fine =
-    let no : Some Open ≡ None = sym (fault-open order m r low high) ∙ ap (spelling_fault (deterministic order)) (sym e) ∙
+    let no : Some Open ≡ None = sym (fault-open order m r low high) ∙
+    ap (spelling_fault (deterministic order)) (sym e) ∙
     fine in
     absurd cc
 

@@ -15,7 +15,8 @@ use Rattle.ciborium_value.specs.NeverWritten.{never-number, never-option, nulls}
 use Rattle.ciborium_value.specs.Places.{Shape, dictionary, sequence}
 use Rattle.ciborium_value.specs.Progress.{counted_of}
 use Rattle.ciborium_value.specs.Readings.{IsBounded, Reading, below, bounded, list_of, option_of}
-use Rattle.ciborium_value.specs.Readings.{ordered_by, read_as, such_that, tuple1_of, tuple2_of, tuple3_of}
+use Rattle.ciborium_value.specs.Readings.{ordered_by, read_as, such_that, tuple1_of, tuple2_of}
+use Rattle.ciborium_value.specs.Readings.{tuple3_of}
 use Rattle.ciborium_value.specs.Readings.{tuple4_of}
 use Rattle.ciborium_value.specs.ReadsBack.{IsNameRead, IsReadBack}
 use Rattle.ciborium_value.specs.Sinks.{Named, container_of, number_item, or_null}
@@ -184,7 +185,8 @@ abbrev option_avoids : (Avoided → Bool) → Avoided → Bool
 option_avoids avoids nulls = false
 option_avoids avoids byte_strings = avoids byte_strings
 
-pub option-avoids : {T : Type 0} (d : Description T) (a : Avoided) → option_avoids d.avoids a ≡ true →
+pub option-avoids : {T : Type 0} (d : Description T) (a : Avoided) →
+    option_avoids d.avoids a ≡ true →
     (v : Option T) → IsNever a (or_null d.written v)
 option-avoids d nulls h v = cc
 option-avoids d byte_strings h v = never-option (d.never byte_strings h) v
@@ -351,7 +353,8 @@ module _ {T : Type 0} (label : Label) (behind : FieldsDescription T) where
       label_item label ∷ w ∷ behind.parts v
   first-parts v w = ap (λ ps. label_item label ∷ w ∷ ps) (behind.same_parts v)
 
-  pub first-number : (v : T) (w : Named) → length ((label, w) ∷ behind.named v) ≡ behind.number v + 1
+  pub first-number : (v : T) (w : Named) →
+      length ((label, w) ∷ behind.named v) ≡ behind.number v + 1
   first-number v w = one-more (length (behind.named v)) ∙ ap (λ n. n + 1) (behind.same_number v)
 
 -- a field of this label, whose value is this
@@ -428,7 +431,8 @@ pub maybe-number : {V : Type 0} (label : Label) (written : V → Named) (fs : Li
 maybe-number label written fs n h None = h
 maybe-number label written fs n h (Some v) = one-more (length fs) ∙ ap (λ k. k + 1) h
 
-pub maybe-unnamed : {T V : Type 0} (label : Label) (behind : FieldsDescription T) (written : V → Named)
+pub maybe-unnamed : {T V : Type 0} (label : Label) (behind : FieldsDescription T)
+    (written : V → Named)
     (x : Label) → with_label label behind x ≡ false → (v : T) (m : Option V) →
     is_named x (maybe_before label written m (behind.named v)) ≡ false
 maybe-unnamed label behind written x h v None =
@@ -436,7 +440,8 @@ maybe-unnamed label behind written x h v None =
 maybe-unnamed label behind written x h v (Some w) =
     first-unnamed label behind x h v (written w)
 
-pub maybe-apart : {T V : Type 0} (label : Label) (behind : FieldsDescription T) (written : V → Named)
+pub maybe-apart : {T V : Type 0} (label : Label) (behind : FieldsDescription T)
+    (written : V → Named)
     (sound : Bool) → is_new label behind sound ≡ true → (v : T) (m : Option V) →
     are_apart (maybe_before label written m (behind.named v)) ≡ true
 maybe-apart label behind written sound h v None = behind.apart (field-sound (behind.has label)
@@ -588,8 +593,10 @@ counted-never a s n parts = chosen-never a (nat_le n greatest_offset) (container
     (never-container a s parts)
 
 module _ {T : Type 0} (fs : FieldsDescription T) where
-  written-map : (v : T) → labeled_map (fs.named v) ≡ counted_of dictionary (fs.number v) (fs.parts v)
-  written-map v = ap (λ n. counted_of dictionary n (labeled_parts (fs.named v))) (fs.same_number v) ∙
+  written-map : (v : T) → labeled_map (fs.named v) ≡ counted_of dictionary (fs.number v)
+      (fs.parts v)
+  written-map v = ap (λ n. counted_of dictionary n (labeled_parts (fs.named v))) (fs.same_number v)
+      ∙
       ap (counted_of dictionary (fs.number v)) (fs.same_parts v)
 
   pub struct-back : fs.is_sound ≡ true → (v : T) → fs.is_held v →

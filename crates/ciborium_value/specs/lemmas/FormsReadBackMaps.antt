@@ -16,7 +16,8 @@ use Rattle.ciborium_value.specs.DeterministicForms.{deterministic_form, pair_for
 use Rattle.ciborium_value.specs.Encoding.{item_of, pairs_of, written_pairs, written_tree}
 use Rattle.ciborium_value.specs.FormsReadBack.{IsFormRead, IsReadFromForm}
 use Rattle.ciborium_value.specs.lemmas.FormedPairs.{AreRead, AreReordered, all-reordered}
-use Rattle.ciborium_value.specs.lemmas.FormedPairs.{as_they_are, first_stays, neighbours, then_again}
+use Rattle.ciborium_value.specs.lemmas.FormedPairs.{as_they_are, first_stays, neighbours}
+use Rattle.ciborium_value.specs.lemmas.FormedPairs.{then_again}
 use Rattle.ciborium_value.specs.lemmas.FormedPairs.{sorted-read}
 use Rattle.ciborium_value.specs.lemmas.GivenOutcomes.{and_take, mapped_gives, one_given}
 use Rattle.ciborium_value.specs.lemmas.GivenOutcomes.{pair_gives, then_gives}
@@ -143,8 +144,10 @@ module _ {K V : Type 0} (cmp : K → K → Ordering) (total : IsTotalOrder cmp) 
   apart-reordered : {ds es : List (K × V)} → AreReordered ds es → AreKeysApart cmp ds →
       AreKeysApart cmp es
   apart-reordered as_they_are h = h
-  apart-reordered (first_stays {x} r) h = (all-reordered (IsApart cmp x) r h.0, apart-reordered r h.1)
-  apart-reordered (neighbours {x} {y}) h = ((apart-turned cmp total x y h.0.0, h.1.0), (h.0.1, h.1.1))
+  apart-reordered (first_stays {x} r) h =
+      (all-reordered (IsApart cmp x) r h.0, apart-reordered r h.1)
+  apart-reordered (neighbours {x} {y}) h =
+      ((apart-turned cmp total x y h.0.0, h.1.0), (h.0.1, h.1.1))
   apart-reordered (then_again r s) h = apart-reordered s (apart-reordered r h)
 
   put-reordered : {ds es : List (K × V)} → AreReordered ds es → AreKeysApart cmp ds →
@@ -203,7 +206,8 @@ module _ (o : KeyOrder) where
 
     abbrev AreEntriesRead : Result (List Item) Kind → List (K × V) → Type 0
     AreEntriesRead s es = IfOk s (λ is. (ps : TreePairs) →
-        pair_forms o (written_pairs (pairs_from is)) ≡ gives ps → AreRead (IsEntryRead key value take) ps es)
+        pair_forms o (written_pairs (pairs_from is)) ≡ gives ps →
+        AreRead (IsEntryRead key value take) ps es)
 
     entry-read : (i j : Item) (e : K × V) → outcome None (f i) ≡ gives (key e.0) →
         outcome None (g j) ≡ gives (value e.1) → outcome None (take (i, j)) ≡ gives
@@ -238,7 +242,8 @@ module _ (o : KeyOrder) where
         (then_take (pair_forms o (written_pairs (pairs_from is))) (sorted_pairs o)) t form in
         let (ps, forms, sorted) = then_gives (pair_forms o (written_pairs (pairs_from is)))
         (sorted_pairs o) qs there in
-        let (fs, r, all) = sorted-read (IsEntryRead key value take) o ps qs es (each ps forms) sorted in
+        let (fs, r, all) = sorted-read (IsEntryRead key value take) o ps qs es (each ps forms)
+        sorted in
         let (put, new) = h fs r in
         subst (λ u. outcome None (taken_map once order f g (item_of u)) ≡
         gives (contents key value es)) same

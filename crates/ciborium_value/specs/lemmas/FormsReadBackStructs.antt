@@ -1,6 +1,6 @@
 -- What is written of a struct by the labels of its fields, in its deterministic form, is read back:
--- the form has the same pairs in another order, and of fields whose labels are apart no order makes a
--- difference to what is read.
+-- the form has the same pairs in another order, and of fields whose labels are apart no order makes
+-- a difference to what is read.
 use Rattle.std.proofs.Common.{ap, sym, subst, ◌∙◌}
 use Rattle.std.specs.List.{AllByRecursion}
 use Rattle.std.specs.Option.{is_some, unwrap_or}
@@ -30,7 +30,8 @@ use Rattle.ciborium_value.specs.declared.key_order.KeyOrder.{KeyOrder}
 use Rattle.ciborium_value.specs.declared.kind.Kind.{Kind}
 use Rattle.ciborium_value.specs.declared.kind.Kind.TheVariants as kinds
 use Rattle.ciborium_value.specs.lemmas.FormedPairs.{AreRead, AreReordered, all-reordered}
-use Rattle.ciborium_value.specs.lemmas.FormedPairs.{as_they_are, first_stays, neighbours, then_again}
+use Rattle.ciborium_value.specs.lemmas.FormedPairs.{as_they_are, first_stays, neighbours}
+use Rattle.ciborium_value.specs.lemmas.FormedPairs.{then_again}
 use Rattle.ciborium_value.specs.lemmas.FormedPairs.{sorted-read}
 use Rattle.ciborium_value.specs.lemmas.GivenOutcomes.{mapped_gives, one_given, pair_gives}
 use Rattle.ciborium_value.specs.lemmas.GivenOutcomes.{then_gives}
@@ -229,7 +230,8 @@ module _ (o : KeyOrder) where
     own-read : (a : A) (k w : Named) (rest : Result (List Item) Kind) (xs : List (Act C)) →
         IfOk k (IsKeyForm name) → is_label name name ≡ true → is_named name xs ≡ false →
         IsFormRead o w r.taken a →
-        IfOk rest (λ is. (ps : TreePairs) → pair_forms o (written_pairs (pairs_from is)) ≡ gives ps →
+        IfOk rest (λ is. (ps : TreePairs) →
+        pair_forms o (written_pairs (pairs_from is)) ≡ gives ps →
         AreRead (IsActRead behind.read) ps xs) →
         IfOk (and_then k (and_then w rest)) (λ is. (ps : TreePairs) →
         pair_forms o (written_pairs (pairs_from is)) ≡ gives ps →
@@ -253,9 +255,11 @@ module _ (o : KeyOrder) where
     own-read a u v w xs keyed same new h more = tt
 
     left-read : (rest : Result (List Item) Kind) (xs : List (Act C)) → is_named name xs ≡ false →
-        IfOk rest (λ is. (ps : TreePairs) → pair_forms o (written_pairs (pairs_from is)) ≡ gives ps →
+        IfOk rest (λ is. (ps : TreePairs) →
+        pair_forms o (written_pairs (pairs_from is)) ≡ gives ps →
         AreRead (IsActRead behind.read) ps xs) →
-        IfOk rest (λ is. (ps : TreePairs) → pair_forms o (written_pairs (pairs_from is)) ≡ gives ps →
+        IfOk rest (λ is. (ps : TreePairs) →
+        pair_forms o (written_pairs (pairs_from is)) ≡ gives ps →
         AreRead (IsActRead all) ps (lifted xs))
     left-read (Ok is) xs new more = λ ps forms. lifted-read ps xs new (more ps forms)
     left-read (Err k) xs new more = tt

@@ -66,5 +66,6 @@ module _ (o : KeyOrder) {C : Type 0} (vs : List (Variant C)) (name : List ℕ) w
   data_variant_form make r {w = w} {a = a} same law = record {
     back = of_ok (fields_of ((named name, w) ∷ [])) (λ i. (t : Tree) →
         deterministic_form o (written_tree i) ≡ gives t →
-        outcome None (taken_enum vs (item_of t)) ≡ gives (make a)) (alone r.taken make a w same law);
+        outcome None (taken_enum vs (item_of t)) ≡ gives (make a))
+        (alone r.taken make a w same law);
   }

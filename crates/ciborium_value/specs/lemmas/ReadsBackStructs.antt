@@ -62,13 +62,16 @@ IsKeyOf name i = (l : Limit) → outcome l (taken_label i) ≡ gives name
 -- a label is met as it was written
 label-met : (way : Way) (name : Label) → is_proper name ≡ true →
     IfOk (label_item name) (λ i. IsKeyOf name (met way i))
-label-met by_bytes (numbered (pos n)) h = subst (λ t. IfOk {E = Kind} (Ok (if t then items.unsigned n
+label-met by_bytes (numbered (pos n)) h =
+    subst (λ t. IfOk {E = Kind} (Ok (if t then items.unsigned n
     else bignum_item 2 n)) (λ i. IsKeyOf (numbered (pos n)) i)) (sym h) (λ l. refl)
 label-met by_tree (numbered (pos n)) h = subst (λ t. IfOk {E = Kind} (Ok (if t then items.unsigned n
     else bignum_item 2 n)) (λ i. IsKeyOf (numbered (pos n)) (met by_tree i))) (sym h) (λ l. refl)
-label-met by_bytes (numbered (negsuc n)) h = subst (λ t. IfOk {E = Kind} (Ok (if t then items.negative n
+label-met by_bytes (numbered (negsuc n)) h =
+    subst (λ t. IfOk {E = Kind} (Ok (if t then items.negative n
     else bignum_item 3 n)) (λ i. IsKeyOf (numbered (negsuc n)) i)) (sym h) (λ l. refl)
-label-met by_tree (numbered (negsuc n)) h = subst (λ t. IfOk {E = Kind} (Ok (if t then items.negative n
+label-met by_tree (numbered (negsuc n)) h =
+    subst (λ t. IfOk {E = Kind} (Ok (if t then items.negative n
     else bignum_item 3 n)) (λ i. IsKeyOf (numbered (negsuc n)) (met by_tree i))) (sym h)
     (λ l. refl)
 label-met way other h = tt
@@ -116,7 +119,8 @@ module _ {A C : Type 0} (once : Bool) (wanted : Label) (taken : Taken A) (behind
   left [] e apart = λ c. refl
   left (f ∷ fs) e apart =
       let both = neither (is_label f.0 wanted) (is_named wanted fs) e in
-      let (new, proper, more) = first-apart (is_named f.0 fs) (is_proper f.0) (are_apart fs) apart in
+      let (new, proper, more) = first-apart (is_named f.0 fs) (is_proper f.0) (are_apart fs) apart
+      in
       left-pair f.0 both.0 (label_item f.0) (label-met way f.0 proper) f.1 (parts_of fs)
       (left fs both.1 more)
 

@@ -159,7 +159,8 @@ returns-in_err-read_simple-in-Simple-clause-part g c =
     (λ z xs p a. subst (λ e. IsRefusedBy (Some z) e (RefusesPart g.S.Rules.spelling xs p c.args.levels))
     (sym c.in_err-read_simple-in-Simple.ensures.1)
     (subst (λ q. RefusesPart g.S.Rules.spelling xs p c.args.levels (semantic q refusal.Simple))
-    (sym (c.last_offset-in-Simple.ensures ∙ a.pulled.5)) (simple-refuses Some (with_left c.pull.new.decoder z) c.args.levels xs p
+    (sym (c.last_offset-in-Simple.ensures ∙ a.pulled.5))
+    (simple-refuses Some (with_left c.pull.new.decoder z) c.args.levels xs p
     c.in_ok-header.header g.S.Rules.spelling c.in-Simple.n c.in_err-read_simple-in-Simple.ensures.0 c.in-Simple.is
     a))))
 
@@ -170,7 +171,8 @@ returns-in-Float-clause-part g c =
     (sym (c.find_head_fault.ensures ∙ ap (head_fault g.S.Rules.spelling c.in_ok-header.header) c.head_len.ensures) ∙
     c.in_default.is) c.in_ok-header.ensures.head _
     (λ z xs p a. subst (λ q. RefusesPart g.S.Rules.spelling xs p c.args.levels (semantic q refusal.Float))
-    (sym (c.last_offset-in-Float.ensures ∙ a.pulled.5)) (float-refuses Some (with_left c.pull.new.decoder z) c.args.levels xs p
+    (sym (c.last_offset-in-Float.ensures ∙ a.pulled.5))
+    (float-refuses Some (with_left c.pull.new.decoder z) c.args.levels xs p
     c.in_ok-header.header g.S.Rules.spelling c.in-Float.field-0 c.in-Float.is a))
 
 pub returns-in-Break-clause-part : goal.returns-in-Break-clause-part

@@ -6,7 +6,8 @@ use Rattle.ciborium_ll.specs.ItemLengths.{Misfits}
 use Rattle.ciborium_ll.specs.Levels.{IsPayloadOf}
 use Rattle.ciborium_ll.specs.Refusal.{is_ill_formed}
 use Rattle.ciborium_ll.specs.inner.Fronts.{IsCut, IsCutPayload, IsNoChunk, IsNoText, MayBeChunk}
-use Rattle.ciborium_ll.proofs.HeadsRead.{behind-bytes, cut-inside-head, cut-inside-payload, ends-in-head, ends-in-payload, front-behind, head-read, malformed}
+use Rattle.ciborium_ll.proofs.HeadsRead.{behind-bytes, cut-inside-head, cut-inside-payload, ends-in-head}
+use Rattle.ciborium_ll.proofs.HeadsRead.{ends-in-payload, front-behind, head-read, malformed}
 use Rattle.ciborium_ll.proofs.HeadsRead.{misplaced, no-chunk, no-text, opens-too-many, some-open, too-deep}
 use Rattle.ciborium_ll.proofs.HeadsRead.{was-misplaced, was-too-deep, whole-read}
 use Rattle.ciborium_ll.proofs.item_heads.ItemHeads.next.Goals as goal
@@ -17,14 +18,18 @@ returns-then-is_empty c h =
 
 pub returns-in-IllFormed : goal.returns-in-IllFormed
 returns-in-IllFormed c h =
-    let some = some-open _ _ c.is_empty.ensures c.if-is_empty.false in
-    (malformed _ h some (Misfits.ill_formed (subst (λ b. is_ill_formed b ≡ true) c.rest-rest.ensures c.in-IllFormed.ensures.front)), refl)
+    let some = some-open _ _ c.is_empty.ensures c.if-is_empty.false in (
+      malformed _ h some (Misfits.ill_formed (subst (λ b. is_ill_formed b ≡ true) c.rest-rest.ensures
+          c.in-IllFormed.ensures.front)),
+      refl,
+    )
 
 pub returns-in-Cut : goal.returns-in-Cut
 returns-in-Cut c h =
     let some = some-open _ _ c.is_empty.ensures c.if-is_empty.false in (
       malformed _ h some (no-chunk _ _ (subst IsCut c.rest-rest.ensures c.in-Cut.ensures.front)
-          (subst (IsNoChunk (open_in c.args.self.now)) c.rest-rest.ensures (c.is_no_chunk.ensures.yes c.if-is_no_chunk.true))),
+          (subst (IsNoChunk (open_in c.args.self.now)) c.rest-rest.ensures
+          (c.is_no_chunk.ensures.yes c.if-is_no_chunk.true))),
       refl,
     )
 
@@ -33,7 +38,8 @@ returns-in-Cut-2 c h =
     let some = some-open _ _ c.is_empty.ensures c.if-is_empty.false in (
       cut-inside-head _ h some (subst AreBytes c.rest-rest.ensures c.in-Cut-2.ensures.bytes)
           (subst IsCut c.rest-rest.ensures c.in-Cut-2.ensures.front)
-          (subst (MayBeChunk (open_in c.args.self.now)) c.rest-rest.ensures (c.is_no_chunk.ensures.no c.if-is_no_chunk.false)),
+          (subst (MayBeChunk (open_in c.args.self.now)) c.rest-rest.ensures
+          (c.is_no_chunk.ensures.no c.if-is_no_chunk.false)),
       ends-in-head _ (subst IsCut c.rest-rest.ensures c.in-Cut-2.ensures.front),
     )
 
@@ -74,7 +80,8 @@ returns-in-NotText c h =
     let spelled = subst (λ b. SpellsHeader (take c.in-Head.size b) c.in-Head.header) c.rest-rest.ensures
     c.in-Head.ensures.front.0 in (
       malformed _ h some (no-text c.args.self.now c.in-Head.header c.in-Head.size spelled
-          (subst (IsNoText c.in-Head.header) (behind-bytes _ _ c.in-Head.size c.rest-rest.ensures) c.in-NotText.ensures)),
+          (subst (IsNoText c.in-Head.header) (behind-bytes _ _ c.in-Head.size c.rest-rest.ensures)
+          c.in-NotText.ensures)),
       refl,
     )
 
@@ -83,7 +90,8 @@ returns c h =
     let heads = c.args.self.now in
     let size = c.in-Head.size in
     let n = c.in-Whole.length in
-    let spelled = subst (λ b. SpellsHeader (take size b) c.in-Head.header) c.rest-rest.ensures c.in-Head.ensures.front.0 in
+    let spelled = subst (λ b. SpellsHeader (take size b) c.in-Head.header) c.rest-rest.ensures
+    c.in-Head.ensures.front.0 in
     let room = subst (λ b. size ≤ length b) c.rest-rest.ensures c.in-Head.ensures.front.1 in
     let payload = subst (λ b. (n ≤ length b) × IsPayloadOf c.in-Head.header (take n b))
     (behind-bytes _ _ size c.rest-rest.ensures) c.in-Whole.ensures in (

@@ -1,7 +1,8 @@
 use Rattle.std.proofs.Common.{sym, ap, subst, ◌∙◌, ◌≡◌, Some}
 use Rattle.ciborium_ll.specs.Levels.{behind_head}
 use Rattle.ciborium_ll.specs.inner.KeptLevels.{levels_in}
-use Rattle.ciborium_ll.proofs.KeptLevels.{IsStep, kept-opened, kept-within, not-zero, one-too-many, step-here, top-within}
+use Rattle.ciborium_ll.proofs.KeptLevels.{IsStep, kept-opened, kept-within, not-zero, one-too-many, step-here}
+use Rattle.ciborium_ll.proofs.KeptLevels.{top-within}
 use Rattle.ciborium_ll.proofs.levels.Levels.pass.Goals as goal
 use Rattle.ciborium_ll.proofs.levels.Levels.pass.Goals.{in-Within, in-Opens+else-self-eq0, in-Ends}
 

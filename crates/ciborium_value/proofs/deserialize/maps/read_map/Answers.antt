@@ -137,7 +137,8 @@ loop-entries-preserved g c = record {
       (again-is g c.args.once c.loop-entries.entries.entries c.in_ok-key.key ∙ sym c.occurs_again.ensures ∙
       c.if-occurs_again.false) c.in_ok-value.ensures.takes.ok));
   owed = owed_pair g.S.Source.is_unread g.S.Source.owes _ _ _ _ _ _ _ c.loop-entries.invariant.owed
-      (rw c.if-branch.true at c.in_ok-next.ensures.took) c.in_ok-key.ensures.takes.took c.in_ok-value.ensures.takes.took;
+      (rw c.if-branch.true at c.in_ok-next.ensures.took) c.in_ok-key.ensures.takes.took
+      c.in_ok-value.ensures.takes.took;
   only = λ first h. c.deserialize-in-loop-entries.ensures.takes.only first
       (c.deserialize.ensures.takes.only first (c.next.ensures.only first (c.loop-entries.invariant.only first h)));
   less = omega (

@@ -54,7 +54,8 @@ loop-values-preserved g c = record {
       g.T.Deserialize.reading.taken _ (rw c.if-branch.true at c.in_ok-next.ensures.ok) c.in_ok-value.ensures.takes.ok));
   owed = owed_more g.S.Source.is_unread g.S.Source.owes _ _ _ _ _ _ c.loop-values.invariant.owed
       (rw c.if-branch.true at c.in_ok-next.ensures.took) c.in_ok-value.ensures.takes.took;
-  only = λ first h. c.deserialize.ensures.takes.only first (c.next.ensures.only first (c.loop-values.invariant.only first h));
+  only = λ first h. c.deserialize.ensures.takes.only first
+      (c.next.ensures.only first (c.loop-values.invariant.only first h));
   less = omega (arith, c.in_ok-next.ensures.less, c.in_ok-value.ensures.takes.less, c.loop-values.invariant.less);
 }
 
