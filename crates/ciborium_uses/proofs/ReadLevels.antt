@@ -10,7 +10,7 @@ use Rattle.ciborium.specs.Taken.{Outcome, Steps, deeper, gives, outcome, outcome
 use Rattle.ciborium.specs.Taken.{taken_items, taken_tag, taken_tree_pairs, taken_value, then_take, within_level}
 use Rattle.ciborium.specs.Tree as trees
 use Rattle.ciborium.specs.Tree.{Tree, Trees, TreePairs}
-use Rattle.ciborium_value.proofs.FoldedTrees.Bignums.{stays}
+use Rattle.ciborium_value.specs.lemmas.ReadsBackBignums.{stays}
 use Rattle.ciborium_value.specs.Meaning.{big_endian, bignum_meaning, folding_bytes, is_bignum_tag}
 use Rattle.ciborium_value.specs.Meaning.{short_string, simple_meaning, without_zeros}
 use Rattle.ciborium_value.specs.declared.kind.Kind.TheVariants as kinds
