@@ -1,4 +1,7 @@
 //! An input and an output that may fail, and a run of the program on them.
+
+ghost use Rattle.std.specs.Prelude.{Some};
+
 use crate::files::Opener;
 use crate::run::run;
 use std::alloc::{AllocError, Global};
@@ -74,6 +77,29 @@ impl<'a> Opener for Shelf<'a> {
             }
         }
         Err(io::Error::from(ErrorKind::NotFound))
+    }
+}
+
+/// The same bytes under every name, so that it is known what each file holds.
+#[derive(Drop)]
+pub struct SameFile<'a> {
+    bytes: &'a [u8],
+}
+
+impl<'a> SameFile<'a> {
+    /// Files of these bytes.
+    pub fn new(bytes: &'a [u8]) -> SameFile<'a> {
+        SameFile { bytes }
+    }
+}
+
+impl<'a> Opener for SameFile<'a> {
+    type File = &'a [u8];
+
+    ghost held = { λ files name. Some files.bytes.now };
+
+    fn open(&self, _name: &str) -> io::Result<&'a [u8]> {
+        Ok(self.bytes)
     }
 }
 

@@ -1,7 +1,7 @@
 // Lines and their answers, words that are right and wrong, limits, and faults.
 use super::{refuse_words, run};
 use crate::test_devices::{
-    Asker, Device, Ended, Listener, Shelf, Source, run_on, run_on_files, run_on_text,
+    Asker, Device, Ended, Listener, SameFile, Shelf, Source, run_on, run_on_files, run_on_text,
 };
 use crate::topics::HELP;
 use std::alloc::Global;
@@ -644,6 +644,29 @@ fn shows_files(rt: HostRuntime) -> Result<(), Fail> {
         let ended = run_on_files(rt.alloc(), words, &mut input, &Shelf::new(FILES), device)?;
         expect_end(&rt, &ended, status, output.as_bytes(), errors, output);
     }
+    Ok(())
+}
+
+// Files whose bytes are known are shown one after the other.
+#[test]
+fn shows_known_files(rt: HostRuntime) -> Result<(), Fail> {
+    let mut words = Vec::new(rt.alloc());
+    for text in ["diag", "--binary", "a.cbor", "b.cbor"] {
+        words.push(String::from_str(rt.alloc(), text)?)?;
+    }
+    let mut input: &[u8] = b"";
+    let mut output = Vec::new(rt.alloc());
+    let mut errors = Vec::new(rt.alloc());
+    let status = run(
+        rt.alloc(),
+        &words,
+        &mut input,
+        &SameFile::new(b"\x01\x80"),
+        &mut output,
+        &mut errors,
+    );
+    assert_eq!(rt; status, 0);
+    assert_eq!(rt; output.as_slice(), b"1\n[]\n1\n[]\n".as_slice());
     Ok(())
 }
 
