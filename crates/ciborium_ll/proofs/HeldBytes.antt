@@ -24,26 +24,31 @@ front-of : (xs held : List ℕ) (n : ℕ) → n ≤ length held → take (length
 front-of xs held n fits is = sym (take-take n (length held) xs fits) ∙ ap (take n) is
 
 -- they were consumed
-pub consumed : (old mid new : Option (List ℕ)) (limit : Option ℕ) (held : List ℕ) (n : ℕ) (P : List ℕ → Type 0) →
-    n ≤ length held → AreBytes held → IfSome old (λ xs. StartsWith xs held) →
-    Keeps old mid × IfSome old (λ _. IfSome limit (λ k. length held ≤ k)) →
-    IfSome mid (λ xs. IfSome limit (λ k. n ≤ k) → new ≡ Some (drop n xs)) → P (take n held) → TakesSome old new n P
-consumed None mid new limit held n P fits bytes front kept gone h =
-    (take n held, tt, length-take-le n held fits, h, All-take (λ x. x < 256) n held bytes)
-consumed (Some xs) None new limit held n P fits bytes front kept gone h = absurd kept.0
-consumed (Some xs) (Some ys) new limit held n P fits bytes front kept gone h =
-    let is : new ≡ Some (drop n xs) = gone (within limit kept.1) ∙ ap (λ l. Some (drop n l)) kept.0 in (
-      take n held,
-      subst (λ o. Consumes (Some xs) o (take n held)) (sym is)
-          (sym (take-append-drop n xs) ∙ ap (λ l. l ++ drop n xs) (front-of xs held n fits front)),
-      length-take-le n held fits,
-      h,
-      All-take (λ x. x < 256) n held bytes,
-    )
+pub dropped : (old mid new : Option (List ℕ)) (limit : Option ℕ) (held : List ℕ) (n : ℕ) → n ≤ length held →
+    IfSome old (λ xs. StartsWith xs held) → Keeps old mid × IfSome old (λ _. IfSome limit (λ k. length held ≤ k)) →
+    IfSome mid (λ xs. IfSome limit (λ k. n ≤ k) → new ≡ Some (drop n xs)) → Consumes old new (take n held)
+dropped None mid new limit held n fits front kept gone = tt
+dropped (Some xs) None new limit held n fits front kept gone = absurd kept.0
+dropped (Some xs) (Some ys) new limit held n fits front kept gone =
+    let is : new ≡ Some (drop n xs) = gone (within limit kept.1) ∙ ap (λ l. Some (drop n l)) kept.0 in
+    subst (λ o. Consumes (Some xs) o (take n held)) (sym is)
+    (sym (take-append-drop n xs) ∙ ap (λ l. l ++ drop n xs) (front-of xs held n fits front))
   where
     within : (limit : Option ℕ) → IfSome limit (λ k. length held ≤ k) → IfSome limit (λ k. n ≤ k)
     within None k = tt
     within (Some m) k = omega (arith, fits, k)
+
+pub consumed : (old mid new : Option (List ℕ)) (limit : Option ℕ) (held : List ℕ) (n : ℕ) (P : List ℕ → Type 0) →
+    n ≤ length held → AreBytes held → IfSome old (λ xs. StartsWith xs held) →
+    Keeps old mid × IfSome old (λ _. IfSome limit (λ k. length held ≤ k)) →
+    IfSome mid (λ xs. IfSome limit (λ k. n ≤ k) → new ≡ Some (drop n xs)) → P (take n held) → TakesSome old new n P
+consumed old mid new limit held n P fits bytes front kept gone h = (
+  take n held,
+  dropped old mid new limit held n fits front kept gone,
+  length-take-le n held fits,
+  h,
+  All-take (λ x. x < 256) n held bytes,
+)
 
 -- they were taken off a slice
 pub cut : (held : List ℕ) (n : ℕ) (P : List ℕ → Type 0) → n ≤ length held → AreBytes held → P (take n held) →

@@ -26,3 +26,4 @@ pub mod LevelMisfits
 pub mod BegunTexts
 pub mod CutHeads
 pub mod HeadsRead
+pub mod CopiedItems

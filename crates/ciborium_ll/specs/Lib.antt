@@ -18,5 +18,6 @@ pub mod ProperItems
 pub mod HeadMessages
 pub mod Levels
 pub mod ItemLengths
+pub mod ItemBytes
 pub mod ItemHeads
 pub mod ReaderSteps

@@ -53,7 +53,7 @@ pub struct ItemHeads<'b> {
 }
 
 // What stands at the front of some bytes.
-enum Front {
+pub(crate) enum Front {
     // A head of so many bytes.
     Head(Header, usize),
     // No well-formed head, whatever follows.
@@ -64,7 +64,7 @@ enum Front {
 
 // What stands at the front.
 #[inline(always)]
-fn front_of(held: &[u8]) -> Front
+pub(crate) fn front_of(held: &[u8]) -> Front
     ensures front { IsFront held.now result }
     ensures bytes { AreBytes held.now }
 {

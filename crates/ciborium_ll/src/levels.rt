@@ -110,6 +110,7 @@ pub fn step_of(header: Header, level: Level) -> Step
 }
 
 // Why a head cannot be counted.
+#[derive(Drop)]
 pub(crate) enum Misfit {
     // It may not stand there.
     Misplaced,
