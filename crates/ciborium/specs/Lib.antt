@@ -82,6 +82,8 @@ pub use Rattle.ciborium_value.specs.SameContents
 pub use Rattle.ciborium_value.specs.FormsReadBack
 pub use Rattle.ciborium_value.specs.Described
 pub use Rattle.ciborium_value.specs.Notation
+pub use Rattle.ciborium_value.specs.Tokens
+pub use Rattle.ciborium_value.specs.Denotes
 pub use Rattle.ciborium_value.specs.TreeAnswers
 pub use Rattle.ciborium_value.specs.ProperTrees
 pub use Rattle.ciborium_value.specs.RefusalMessages

@@ -39,7 +39,7 @@ pub use ciborium_ll::spelling_laws::{
 };
 pub use ciborium_value::tree_laws::{
     bytes_of_bignums, deterministic_forms, good_or_refused, meaning_of_written_is_folded,
-    order_of_integers, order_of_values, worked_examples, written_reads_back,
+    order_of_integers, order_of_values, printed_is_denoted, worked_examples, written_reads_back,
 };
 pub use ciborium_value::{
     Avoidable, ByteString, FormReadsBack, NeverWrites, Null, ReadsBack, WritesContent,

@@ -2,5 +2,5 @@
 
 pub use ciborium_ll::{
     Access, Answered, Buffered, Decoder, Encoder, Error, Failed, Header, ItemHead, ItemHeads, Keep,
-    NoItem, Plain, Slice, is_well_formed, item_len, simple, tag,
+    NoItem, NotCopied, Plain, Slice, copy_item, is_well_formed, item_len, simple, tag,
 };

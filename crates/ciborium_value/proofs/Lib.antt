@@ -6,3 +6,4 @@ pub mod Writing
 pub mod Sources
 pub mod Trees
 pub mod LabelNumbers
+pub mod Denoting

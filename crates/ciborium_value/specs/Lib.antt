@@ -42,6 +42,8 @@ pub mod SameContents
 pub mod FormsReadBack
 pub mod Described
 pub mod Notation
+pub mod Tokens
+pub mod Denotes
 pub mod TreeAnswers
 pub mod laws
 pub mod inner

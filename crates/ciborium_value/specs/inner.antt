@@ -5,6 +5,7 @@ pub mod TreeHeads
 pub mod Frames
 pub mod OwnForms
 pub mod ReadItems
+pub mod ReadTokens
 pub mod SideBySide
 pub mod Stack
 pub mod TreeSinks

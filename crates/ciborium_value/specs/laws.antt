@@ -6,3 +6,4 @@ pub mod FormLaws
 pub mod NumberItems
 pub mod Examples
 pub mod NotationExamples
+pub mod NotationLaws

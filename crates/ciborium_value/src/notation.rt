@@ -20,7 +20,8 @@ use std::{fmt, str};
 ///
 /// Numbers are decimal, and byte strings base16 in lower case, as `h'0aff'`. Texts stand in
 /// quotation marks, escaped as in JSON. A tag is its number before its content in parentheses, and
-/// so is a bignum.
+/// so is a bignum. `Value::from_notation` reads what is printed as the value
+/// (`printed_is_denoted`).
 ///
 /// # Errors
 ///
@@ -246,8 +247,8 @@ fn write_text<W: fmt::Write>(text: &str, f: &mut fmt::Formatter<W>) -> fmt::Resu
     f.write_str("\"")
 }
 
-// Where the next byte stands that needs an escape; the bytes before it stand as they are.
-fn next_escape(bytes: &[u8]) -> Option<usize>
+/// Where the next byte stands that needs an escape; the bytes before it stand as they are.
+pub(crate) fn next_escape(bytes: &[u8]) -> Option<usize>
     ensures found { IfSome result (λ end. needs_escape (slice_index bytes.now end) ≡ true) }
     ensures within { IfSome result (λ end. end < length bytes.now) }
     ensures before { IfSome result (λ end. IsPlain (take end bytes.now)) }

@@ -15,6 +15,8 @@ ghost use Rattle.ciborium_value.specs.laws.RefusalLaws.{NeverBoth, OneReading};
 ghost use Rattle.ciborium_value.specs.laws.RefusalLaws.{OneRefusal};
 ghost use Rattle.ciborium_value.specs.laws.NotationExamples.{EscapeExamples, IndentedExamples};
 ghost use Rattle.ciborium_value.specs.laws.NotationExamples.{NotationExamples};
+ghost use Rattle.ciborium_value.specs.laws.NotationLaws.{OneTreeIsDenoted, PrintedAlikeIsEqual};
+ghost use Rattle.ciborium_value.specs.laws.NotationLaws.{PrintedIsDenoted};
 ghost use Rattle.ciborium_value.specs.Number.{BytesHoldNumber, NoLeadingZeros};
 ghost use Rattle.ciborium_value.specs.laws.NumberItems.{NumberTreeIsItem};
 ghost use Rattle.ciborium_value.specs.laws.OrderLaws.{EqualAsTrees, EqualityIsEquivalence};
@@ -113,4 +115,13 @@ pub fn deterministic_forms()
     ensures proper { FormIsProper }
     ensures refused { RefusedByDuplicates }
     ensures reasons { FormOrRefused }
+{}
+
+/// What is printed of a value, on one line or indented, denotes it, and a text denotes one value at
+/// most (RFC 8949, section 8). So what is printed is read by `Value::from_notation` as the value
+/// that was printed, and values that print alike are equal.
+pub fn printed_is_denoted()
+    ensures denoted { PrintedIsDenoted }
+    ensures one { OneTreeIsDenoted }
+    ensures alike { PrintedAlikeIsEqual }
 {}

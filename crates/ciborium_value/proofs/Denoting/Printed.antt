@@ -1,0 +1,650 @@
+-- What is printed of a tree denotes it.
+use Rattle.std.proofs.Common.{◌≡◌, ◌<◌, ◌≤◌, ◌+◌, ◌*◌, ◌/◌, ◌%◌, ◌^◌, ◌==◌, ℕ, zero, suc, Bool, true, false}
+use Rattle.std.proofs.Common.{List, [], ◌∷◌, ◌++◌, Option, Some, None, ℤ, pos, negsuc, codes, decimal}
+use Rattle.std.proofs.Common.{if◌then◌else◌, nat_lt, get_or, length, refl, sym, ap, ◌∙◌, subst, arith, rules}
+use Rattle.std.proofs.Common.{append_assoc}
+use Rattle.std.proofs.Common.{append-nil, All, slice_index}
+use Rattle.std.specs.Char.{digit_value}
+use Rattle.std.specs.Fmt.{signed_decimal}
+use Rattle.std.specs.List.{flat_map, repeat}
+use Rattle.std.specs.Str.Parse.{AllDigits, digits_value_after}
+use Rattle.std.proofs.lemmas.Bool.{lt-ltb}
+use Rattle.std.proofs.lemmas.Fmt.{decimal_is_IsNumeral_wide}
+use Rattle.std.proofs.lemmas.Str.{encode_ascii}
+use Rattle.hex.specs.Hex.{encode_lower, encode_with, lower_digits}
+use Rattle.ciborium_value.specs.Denotes.{AreTokens, Denote, DenoteItems, DenoteMoreItems, DenoteMorePairs, DenotePairs}
+use Rattle.ciborium_value.specs.Denotes.{alone, item, listed, mapped, no_item, no_more_items, no_more_pairs, no_pair}
+use Rattle.ciborium_value.specs.Denotes.{no_token, one_more_item, one_more_pair, pair, tagged, token}
+use Rattle.ciborium_value.specs.Notation.{comma as comma_text, escape, escaped, last_break, line_break, needs_escape}
+use Rattle.ciborium_value.specs.Notation.{notation_on, notations_on, one_level_more, pair_notations_on}
+use Rattle.ciborium_value.specs.ProperTrees.{AreProperTreePairs, AreProperTrees, IsProperTree}
+use Rattle.ciborium_value.specs.Tokens.{Token, begin_array, begin_map, begin_tag, begins_float, behind, behind_blanks}
+use Rattle.ciborium_value.specs.Tokens.{colon, comma, digit_of, digits_behind, end_array, end_map, end_tag, hex_at}
+use Rattle.ciborium_value.specs.Tokens.{is_white, leaf, prepended, text_at, token_at, unsigned_at, whole_at}
+use Rattle.ciborium_value.specs.Tree as trees
+use Rattle.ciborium_value.specs.Tree.{Tree, TreePairs, Trees, tree_pairs_count, trees_count}
+use Rattle.ciborium_value.specs.laws.NotationLaws.{PrintedAlikeIsEqual, PrintedIsDenoted}
+use Rattle.ciborium_value.specs.Denotes.{Denotes}
+use Rattle.ciborium_value.specs.Notation.{styled_notation}
+use Rattle.ciborium_value.specs.Tokens.{digits_at, is_high, minus_token, number_token, one_digit_more, plus_token}
+use Rattle.ciborium_value.specs.Tokens.{text_token, token_of, unit_in}
+use Rattle.ciborium_ll.specs.Integer.{IsInRange}
+use Rattle.std.proofs.Common.{inl, inr, nat_le, option_map}
+use Rattle.std.proofs.lemmas.Bool.Decides.{eqb_tells}
+use Rattle.std.proofs.lemmas.Fmt.{decimal_by_steps_wide}
+use Rattle.std.proofs.lemmas.List.Elements.{All-head, All-tail}
+use Rattle.std.proofs.lemmas.Str.Parse.{tells_digits}
+use Rattle.std.specs.Str.Parse.{IsNumeral, digits_value}
+use Rattle.ciborium_value.proofs.Denoting.OneTree.{one_tree_is_denoted}
+use Rattle.ciborium_value.proofs.Denoting.Texts.{plain_byte, unit_character, utf8_token}
+
+-- ---- what may follow a tree: a comma, a closing bracket, a parenthesis, a colon or a line feed
+
+pub data Ends : ℕ → Type 0 where
+  comma_ends : Ends 44
+  array_ends : Ends 93
+  map_ends : Ends 125
+  tag_ends : Ends 41
+  colon_ends : Ends 58
+  line_ends : Ends 10
+
+abbrev pub Follows : List ℕ → Type 0
+Follows [] = Unit {0}
+Follows (b ∷ t) = Ends b
+
+-- what may follow the digits of a number
+abbrev pub Stops : List ℕ → Type 0
+Stops [] = Unit {0}
+Stops (b ∷ t) = (digit_of 10 b ≡ None) × (begins_float (b ∷ t) ≡ false) × ((b == 120) ≡ false) × ((b == 111) ≡ false) ×
+    ((b == 98) ≡ false)
+
+stops : (t : List ℕ) → Follows t → Stops t
+stops [] h = tt
+stops (b ∷ t) comma_ends = (refl, refl, refl, refl, refl)
+stops (b ∷ t) array_ends = (refl, refl, refl, refl, refl)
+stops (b ∷ t) map_ends = (refl, refl, refl, refl, refl)
+stops (b ∷ t) tag_ends = (refl, refl, refl, refl, refl)
+stops (b ∷ t) colon_ends = (refl, refl, refl, refl, refl)
+stops (b ∷ t) line_ends = (refl, refl, refl, refl, refl)
+
+no-parenthesis : (t : List ℕ) → Follows t → behind (codes "(") t ≡ None
+no-parenthesis [] h = refl
+no-parenthesis (b ∷ t) comma_ends = refl
+no-parenthesis (b ∷ t) array_ends = refl
+no-parenthesis (b ∷ t) map_ends = refl
+no-parenthesis (b ∷ t) tag_ends = refl
+no-parenthesis (b ∷ t) colon_ends = refl
+no-parenthesis (b ∷ t) line_ends = refl
+
+-- ---- digits
+
+digit : (base b : ℕ) → digit_value b < base → digit_of base b ≡ Some (digit_value b)
+digit base b h = ap (λ c. if c then Some (digit_value b) else None) (lt-ltb (digit_value b) base h)
+
+run : (m : ℕ) (ds r : List ℕ) → AllDigits 10 ds → Stops r → digits_behind 10 m (ds ++ r) ≡ (
+  digits_value_after 10 m ds,
+  r,
+)
+run m [] [] all s = refl
+run m [] (b ∷ r) all s =
+    ap (λ (o : Option ℕ). elim o [ None ↦ (m, b ∷ r) | Some d ↦ digits_behind 10 (m * 10 + d) r ]) s.0
+run m (c ∷ ds) r (h, all) s =
+    ap (λ (o : Option ℕ). elim o [ None ↦ (m, c ∷ (ds ++ r)) | Some d ↦ digits_behind 10 (m * 10 + d) (ds ++ r) ])
+    (digit 10 c h) ∙ run (m * 10 + digit_value c) ds r all s
+
+-- a digit of base16
+nibble : (d : ℕ) → d < 16 → (digit_of 16 (slice_index lower_digits d) ≡ Some d) ×
+    (is_white (slice_index lower_digits d) ≡ false)
+nibble zero h = (refl, refl)
+nibble (suc zero) h = (refl, refl)
+nibble (suc (suc zero)) h = (refl, refl)
+nibble (suc (suc (suc zero))) h = (refl, refl)
+nibble (suc (suc (suc (suc zero)))) h = (refl, refl)
+nibble (suc (suc (suc (suc (suc zero))))) h = (refl, refl)
+nibble (suc (suc (suc (suc (suc (suc zero)))))) h = (refl, refl)
+nibble (suc (suc (suc (suc (suc (suc (suc zero))))))) h = (refl, refl)
+nibble (suc (suc (suc (suc (suc (suc (suc (suc zero)))))))) h = (refl, refl)
+nibble (suc (suc (suc (suc (suc (suc (suc (suc (suc zero))))))))) h = (refl, refl)
+nibble (suc (suc (suc (suc (suc (suc (suc (suc (suc (suc zero)))))))))) h = (refl, refl)
+nibble (suc (suc (suc (suc (suc (suc (suc (suc (suc (suc (suc zero))))))))))) h = (refl, refl)
+nibble (suc (suc (suc (suc (suc (suc (suc (suc (suc (suc (suc (suc zero)))))))))))) h = (refl, refl)
+nibble (suc (suc (suc (suc (suc (suc (suc (suc (suc (suc (suc (suc (suc zero))))))))))))) h = (refl, refl)
+nibble (suc (suc (suc (suc (suc (suc (suc (suc (suc (suc (suc (suc (suc (suc zero)))))))))))))) h = (refl, refl)
+nibble (suc (suc (suc (suc (suc (suc (suc (suc (suc (suc (suc (suc (suc (suc (suc zero))))))))))))))) h = (refl, refl)
+nibble (suc (suc (suc (suc (suc (suc (suc (suc (suc (suc (suc (suc (suc (suc (suc (suc n)))))))))))))))) h = absurd
+    (omega (arith, h))
+
+-- ---- numbers
+
+in-decimal : (c : ℕ) (ds : List ℕ) → AllDigits 10 (c ∷ ds) → (48 ≤ c) × (c ≤ 57)
+in-decimal c ds all = let r = (tells_digits.parts c ds all).0 in (omega (arith, r), omega (arith, r))
+
+number-plus : (c : ℕ) (t : List ℕ) → (c == 45) ≡ false → number_token (c ∷ t) ≡ plus_token (whole_at (c ∷ t))
+number-plus c t minus = ap (λ (b : Bool). elim (if b then Some t else None) as (λ x. Option (Token × List ℕ)) [
+  | Some r ↦ minus_token (whole_at r)
+  | None ↦ plus_token (whole_at (c ∷ t))
+]) minus
+
+-- a token that begins with a digit
+digit-token : (c : ℕ) (t : List ℕ) → 48 ≤ c → c ≤ 57 → token_at (c ∷ t) ≡ plus_token (whole_at (c ∷ t))
+digit-token c t low high =
+    let quote : (c == 34) ≡ false = search (rules, low) in
+    let minus : (c == 45) ≡ false = search (rules, low) in
+    let from : nat_le 48 c ≡ true = search (rules, low) in
+    let to : nat_le c 57 ≡ true = search (rules, high) in
+    rw quote (rw minus (rw from (rw to (number-plus c t minus))))
+
+-- zero is one digit, and no other number begins with it
+abbrev BeginsRight : ℕ → List ℕ → Type 0
+BeginsRight n ds = (n ≡ 0 → ds ≡ 48 ∷ []) × (0 < n → (48 < get_or ds 0 0) × (0 < length ds))
+
+begins-right : (n : ℕ) → n < 10 ^ 64 → BeginsRight n (decimal n)
+begins-right = decimal_by_steps_wide BeginsRight one more
+  where
+    one : (n : ℕ) → n < 10 → BeginsRight n ((48 + n) ∷ [])
+    one n h = (λ e. ap (λ m. (48 + m) ∷ []) e, λ some. (omega (arith, some), omega arith))
+
+    more : (n : ℕ) (ds : List ℕ) → 10 ≤ n → BeginsRight (n / 10) ds → BeginsRight n (ds ++ ((48 + n % 10) ∷ []))
+    more n [] h p = absurd (let q = p.1 (omega (arith, h)) in omega (arith, q.1))
+    more n (d ∷ ds) h p = (
+      λ e. absurd (omega (arith, e, h)),
+      λ some. let q = p.1 (omega (arith, h)) in (q.0, omega arith),
+    )
+
+first-not-zero : (n c : ℕ) (ds : List ℕ) → 0 < n → n ≤ 2 ^ 64 → decimal n ≡ c ∷ ds → (c == 48) ≡ false
+first-not-zero n c ds some most e =
+    let first = ((begins-right n (omega (arith, most))).1 some).0 in
+    let same : get_or (decimal n) 0 0 ≡ c = ap (λ (l : List ℕ). get_or l 0 0) e in
+    let above : 48 < c = omega (arith, first, same) in
+    search (rules, above)
+
+zero-at : (r : List ℕ) → Stops r → unsigned_at (48 ∷ r) ≡ Some (0, r)
+zero-at [] s = refl
+zero-at (b ∷ r) s = ap (λ x. picked x (b == 111) (b == 98)) s.2 ∙ ap (λ x. picked false x (b == 98)) s.3 ∙
+    ap (picked false false) s.4
+  where
+    -- what stands there, where a letter for a base follows the zero or none does
+    picked : Bool → Bool → Bool → Option (ℕ × List ℕ)
+    picked hex octal binary = elim (if hex then Some r else None) [
+      | Some t ↦ digits_at 16 t
+      | None ↦ elim (if octal then Some r else None) [
+        | Some t ↦ digits_at 8 t
+        | None ↦ elim (if binary then Some r else None) [ Some t ↦ digits_at 2 t | None ↦ Some (0, b ∷ r) ]
+      ]
+    ]
+
+digits-at : (c n : ℕ) (ds r : List ℕ) → (c == 48) ≡ false → AllDigits 10 (c ∷ ds) → digits_value 10 (c ∷ ds) ≡ n →
+    Stops r → unsigned_at (c ∷ (ds ++ r)) ≡ Some (n, r)
+digits-at c n ds r other all value s = ap picked other ∙
+    ap (λ (o : Option ℕ). elim o as (λ x. Option (ℕ × List ℕ)) [
+      | None ↦ None
+      | Some d ↦ Some (digits_behind 10 0 (c ∷ (ds ++ r)))
+    ]) (digit 10 c all.0) ∙
+    ap Some (run 0 (c ∷ ds) r all s) ∙ ap (λ m. Some (m, r)) value
+  where
+    -- what stands there, where the first digit is zero or is not
+    picked : Bool → Option (ℕ × List ℕ)
+    picked b = elim (if b then behind (codes "x") (ds ++ r) else None) [
+      | Some t ↦ digits_at 16 t
+      | None ↦ elim (if b then behind (codes "o") (ds ++ r) else None) [
+        | Some t ↦ digits_at 8 t
+        | None ↦ elim (if b then behind (codes "b") (ds ++ r) else None) [
+          | Some t ↦ digits_at 2 t
+          | None ↦ if b then Some (0, ds ++ r) else digits_at 10 (c ∷ (ds ++ r))
+        ]
+      ]
+    ]
+
+no-float : (r : List ℕ) → Stops r → begins_float r ≡ false
+no-float [] s = refl
+no-float (b ∷ r) s = s.1
+
+-- the digits of a number, and that they make it
+decimal-whole : (n : ℕ) (r : List ℕ) → n ≤ 2 ^ 64 → Stops r →
+    (c : ℕ) × (ds : List ℕ) × (decimal n ≡ c ∷ ds) × (48 ≤ c) × (c ≤ 57) × (whole_at (c ∷ (ds ++ r)) ≡ Some (n, r))
+decimal-whole n r most s = of (decimal n) refl (decimal_is_IsNumeral_wide n (omega (arith, most)))
+  where
+    float : unsigned_at (decimal n ++ r) ≡ Some (n, r) → whole_at (decimal n ++ r) ≡ Some (n, r)
+    float e = ap (λ (o : Option (ℕ × List ℕ)). elim o as (λ x. Option (ℕ × List ℕ)) [
+      | None ↦ None
+      | Some p ↦ if begins_float p.1 then None else Some p
+    ]) e ∙ ap (λ b. if b then None else Some (n, r)) (no-float r s)
+
+    found : (m c : ℕ) (ds : List ℕ) → m ≡ n → decimal n ≡ c ∷ ds → AllDigits 10 (c ∷ ds) →
+        digits_value 10 (c ∷ ds) ≡ n → unsigned_at (c ∷ (ds ++ r)) ≡ Some (n, r)
+    found zero c ds m e all value =
+        let ten : c ∷ ds ≡ 48 ∷ [] = sym e ∙ (begins-right n (omega (arith, most))).0 (sym m) in
+        ap (λ (l : List ℕ). unsigned_at (l ++ r)) ten ∙ zero-at r s ∙ ap (λ x. Some (x, r)) m
+    found (suc k) c ds m e all value =
+        digits-at c n ds r (first-not-zero n c ds (omega (arith, m)) most e) all value s
+
+    of : (l : List ℕ) → l ≡ decimal n → IsNumeral 10 (decimal n) × (digits_value 10 (decimal n) ≡ n) →
+        (c : ℕ) × (ds : List ℕ) × (decimal n ≡ c ∷ ds) × (48 ≤ c) × (c ≤ 57) ×
+        (whole_at (c ∷ (ds ++ r)) ≡ Some (n, r))
+    of [] e (numeral, value) = let zero = ap length e in absurd (omega (arith, numeral.0, zero))
+    of (c ∷ ds) e (numeral, value) =
+        let all : AllDigits 10 (c ∷ ds) = subst (AllDigits 10) (sym e) numeral.1 in
+        let range = in-decimal c ds all in (
+          c,
+          ds,
+          sym e,
+          range.0,
+          range.1,
+          ap (λ (l : List ℕ). whole_at (l ++ r)) e ∙ float (ap (λ (l : List ℕ). unsigned_at (l ++ r)) (sym e) ∙
+              found n c ds refl (sym e) all (ap (digits_value 10) e ∙ value)),
+        )
+
+plus-number : (n : ℕ) (r : List ℕ) → n < 2 ^ 64 → Follows r →
+    plus_token (Some (n, r)) ≡ Some (leaf (trees.integer (pos n)), r)
+plus-number n r h f =
+    let less : nat_lt n (2 ^ 128) ≡ true = search (rules, h) in
+    let small : nat_lt n (2 ^ 64) ≡ true = search (rules, h) in
+    rw (no-parenthesis r f) (rw less (rw small refl))
+
+minus-number : (n : ℕ) (r : List ℕ) → n < 2 ^ 64 → minus_token (Some (suc n, r)) ≡ Some (
+  leaf (trees.integer (negsuc
+      n)),
+  r,
+)
+minus-number n r h =
+    let less : nat_le (suc n) (2 ^ 127) ≡ true = search (rules, h) in
+    let small : nat_lt n (2 ^ 64) ≡ true = search (rules, h) in
+    rw less (rw small refl)
+
+number-token : (z : ℤ) (r : List ℕ) → IsInRange z → Follows r →
+    token_at (signed_decimal z ++ r) ≡ Some (leaf (trees.integer z), r)
+number-token (pos n) r h f =
+    let (c, ds, e, low, high, whole) = decimal-whole n r (omega (arith, h)) (stops r f) in
+    ap (λ (l : List ℕ). token_at (l ++ r)) e ∙ digit-token c (ds ++ r) low high ∙ ap plus_token whole ∙
+    plus-number n r h f
+number-token (negsuc n) r h f =
+    let (c, ds, e, low, high, whole) = decimal-whole (suc n) r (omega (arith, h)) (stops r f) in
+    ap minus_token (ap (λ (l : List ℕ). whole_at (l ++ r)) e ∙ whole) ∙ minus-number n r h
+
+tag-token : (n : ℕ) (r : List ℕ) → n < 2 ^ 64 → token_at (decimal n ++ (40 ∷ r)) ≡ Some (begin_tag n, r)
+tag-token n r h =
+    let (c, ds, e, low, high, whole) = decimal-whole n (40 ∷ r) (omega (arith, h)) (refl, refl, refl, refl, refl) in
+    let small : nat_lt n (2 ^ 64) ≡ true = search (rules, h) in
+    ap (λ (l : List ℕ). token_at (l ++ (40 ∷ r))) e ∙ digit-token c (ds ++ (40 ∷ r)) low high ∙ ap plus_token whole ∙
+    rw small refl
+
+-- no blank begins a number
+not-blank : (c : ℕ) (t : List ℕ) → 48 ≤ c → c ≤ 57 → behind_blanks (c ∷ t) ≡ Some (c ∷ t)
+not-blank c t low high =
+    let space : (c == 32) ≡ false = search (rules, low) in
+    let tab : (c == 9) ≡ false = search (rules, low) in
+    let feed : (c == 10) ≡ false = search (rules, low) in
+    let return : (c == 13) ≡ false = search (rules, low) in
+    let slash : (c == 47) ≡ false = search (rules, low) in
+    let sign : (c == 35) ≡ false = search (rules, low) in
+    rw space (rw tab (rw feed (rw return (rw slash (rw sign refl)))))
+
+decimal-not-blank : (n : ℕ) (r : List ℕ) → n ≤ 2 ^ 64 → behind_blanks (decimal n ++ r) ≡ Some (decimal n ++ r)
+decimal-not-blank n r h = let (c, ds, e, low, high, whole) = decimal-whole n [] h tt in
+    subst (λ (l : List ℕ). behind_blanks (l ++ r) ≡ Some (l ++ r)) (sym e) (not-blank c (ds ++ r) low high)
+
+number-not-blank : (z : ℤ) (r : List ℕ) → IsInRange z →
+    behind_blanks (signed_decimal z ++ r) ≡ Some (signed_decimal z ++ r)
+number-not-blank (pos n) r h = decimal-not-blank n r (omega (arith, h))
+number-not-blank (negsuc n) r h = refl
+
+-- ---- byte strings
+
+hex-run : (b r : List ℕ) → All (λ x. x < 256) b → hex_at None (encode_lower b ++ (39 ∷ r)) ≡ Some (b, r)
+unfolding encode_with
+hex-run [] r all = refl
+hex-run (x ∷ b) r all =
+    let small = All-head (λ y. y < 256) x b all in
+    let high = nibble (x / 16) (omega (arith, small)) in
+    let low = nibble (x % 16) (omega arith) in
+    let whole : x / 16 * 16 + x % 16 ≡ x = omega arith in
+    rw high.1 (rw high.0 (rw low.1 (rw low.0 (rw whole
+    (ap (prepended (x ∷ [])) (hex-run b r (All-tail (λ y. y < 256) x b all)))))))
+
+-- ---- texts
+
+hex-pair : (b : ℕ) → encode_lower (b ∷ []) ≡ slice_index lower_digits (b / 16) ∷ slice_index lower_digits (b % 16) ∷ []
+unfolding encode_with
+hex-pair b = refl
+
+more-digit : (n c d : ℕ) → digit_of 16 c ≡ Some d → one_digit_more (Some n) c ≡ Some (n * 16 + d)
+more-digit n c d e = ap (λ (o : Option ℕ). elim o as (λ x. Option ℕ) [ None ↦ None | Some d ↦ Some (n * 16 + d) ]) e
+
+control : (b : ℕ) (x : List ℕ) → b < 32 →
+    text_at ((codes "\\u00" ++ encode_lower (b ∷ [])) ++ x) ≡ prepended (b ∷ []) (text_at x)
+control b x h =
+    let hi = slice_index lower_digits (b / 16) in
+    let lo = slice_index lower_digits (b % 16) in
+    let high = nibble (b / 16) (omega (arith, h)) in
+    let low = nibble (b % 16) (omega arith) in
+    let whole : (0 * 16 + b / 16) * 16 + b % 16 ≡ b = omega arith in
+    let pairs = λ (o : Option ℕ). option_map {U = ℕ × List ℕ} (λ n. (n, x)) o in
+    let unit : unit_in (48 ∷ 48 ∷ hi ∷ lo ∷ x) ≡ Some (b, x) =
+    ap (λ o. pairs (one_digit_more o lo)) (more-digit 0 hi (b / 16) high.0) ∙
+    ap pairs (more-digit (0 * 16 + b / 16) lo (b % 16) low.0) ∙ ap (λ n. Some (n, x)) whole in
+    let plain : is_high b ≡ false = search (rules, h) in
+    ap (λ (l : List ℕ). text_at ((codes "\\u00" ++ l) ++ x)) (hex-pair b) ∙
+    unit_character (48 ∷ 48 ∷ hi ∷ lo ∷ x) x b b unit plain (inl (omega (arith, h))) refl ∙
+    ap (λ (l : List ℕ). prepended l (text_at x)) (encode_ascii b (omega (arith, h)))
+
+escape-at : (b : ℕ) (x : List ℕ) → needs_escape b ≡ true → text_at (escape b ++ x) ≡ prepended (b ∷ []) (text_at x)
+escape-at b x needs = elim (eqb_tells b 34) [
+  | inl h ↦ is 34 h.1 refl
+  | inr h34 ↦ elim (eqb_tells b 92) [
+    | inl h ↦ is 92 h.1 refl
+    | inr h92 ↦ elim (eqb_tells b 8) [
+      | inl h ↦ is 8 h.1 refl
+      | inr h8 ↦ elim (eqb_tells b 9) [
+        | inl h ↦ is 9 h.1 refl
+        | inr h9 ↦ elim (eqb_tells b 10) [
+          | inl h ↦ is 10 h.1 refl
+          | inr h10 ↦ elim (eqb_tells b 12) [
+            | inl h ↦ is 12 h.1 refl
+            | inr h12 ↦ elim (eqb_tells b 13) [
+              | inl h ↦ is 13 h.1 refl
+              | inr h13 ↦ rw h34.0 (rw h92.0 (rw h8.0 (rw h9.0 (rw h10.0 (rw h12.0 (rw h13.0 (control b x
+                  (below h34.0 h92.0))))))))
+            ]
+          ]
+        ]
+      ]
+    ]
+  ]
+]
+  where
+    is : (k : ℕ) → b ≡ k → text_at (escape k ++ x) ≡ prepended (k ∷ []) (text_at x) →
+        text_at (escape b ++ x) ≡ prepended (b ∷ []) (text_at x)
+    is k e h = subst (λ c. text_at (escape c ++ x) ≡ prepended (c ∷ []) (text_at x)) (sym e) h
+
+    below : (b == 34) ≡ false → (b == 92) ≡ false → b < 32
+    below quote slash = search (rules, needs, quote, slash)
+
+escaped-at : (b : ℕ) (x : List ℕ) → text_at (escaped b ++ x) ≡ prepended (b ∷ []) (text_at x)
+escaped-at b x = of (needs_escape b) refl
+  where
+    of : (c : Bool) → c ≡ needs_escape b → text_at (escaped b ++ x) ≡ prepended (b ∷ []) (text_at x)
+    of true e = ap (λ c. text_at ((if c then escape b else b ∷ []) ++ x)) (sym e) ∙ escape-at b x (sym e)
+    of false e = ap (λ c. text_at ((if c then escape b else b ∷ []) ++ x)) (sym e) ∙ plain_byte b x (sym e)
+
+text-run : (t r : List ℕ) → text_at (flat_map escaped t ++ (34 ∷ r)) ≡ Some (t, r)
+text-run [] r = refl
+text-run (b ∷ t) r = ap text_at (append_assoc (escaped b) (flat_map escaped t) (34 ∷ r)) ∙
+    escaped-at b (flat_map escaped t ++ (34 ∷ r)) ∙ ap (prepended (b ∷ [])) (text-run t r)
+
+-- ---- rows of tokens
+
+-- a token and what follows it
+before : (s rest : List ℕ) (k : Token) (ks : List Token) → behind_blanks s ≡ Some s → token_at s ≡ Some (k, rest) →
+    AreTokens rest ks → AreTokens s (k ∷ ks)
+before s rest k ks b e are = token s s rest k ks b e are
+
+-- blanks before them
+behind-blanks : (t x : List ℕ) (ks : List Token) → behind_blanks t ≡ behind_blanks x → AreTokens x ks → AreTokens t ks
+behind-blanks t x ks b (no_token _ e) = no_token t (b ∙ e)
+behind-blanks t x ks b (token _ s rest k more e f are) = token t s rest k more (b ∙ e) f are
+
+indents : (level : ℕ) (x : List ℕ) → behind_blanks (repeat level (codes "  ") ++ x) ≡ behind_blanks x
+indents zero x = refl
+indents (suc level) x = indents level x
+
+breaks : (lines : Option ℕ) (x : List ℕ) → behind_blanks (line_break lines ++ x) ≡ behind_blanks x
+breaks None x = refl
+breaks (Some level) x = indents level x
+
+last-is : (lines : Option ℕ) (n : ℕ) → last_break lines (suc n) ≡ line_break lines
+last-is lines n = let some : (suc n == 0) ≡ false = search rules in ap (λ c. if c then [] else line_break lines) some
+
+last-breaks : (lines : Option ℕ) (n : ℕ) (x : List ℕ) → behind_blanks (last_break lines n ++ x) ≡ behind_blanks x
+last-breaks lines zero x = refl
+last-breaks lines (suc n) x = ap (λ (l : List ℕ). behind_blanks (l ++ x)) (last-is lines n) ∙ breaks lines x
+
+comma-breaks : (lines : Option ℕ) (x : List ℕ) → (t : List ℕ) × (comma_text lines ++ x ≡ 44 ∷ t) ×
+    (behind_blanks t ≡ behind_blanks x)
+comma-breaks None x = (32 ∷ x, refl, refl)
+comma-breaks (Some level) x = (x, refl, refl)
+
+-- ---- the tokens of a tree
+
+abbrev mutual
+  tokens_of : Tree → List Token
+  tokens_of (trees.tag n v) = begin_tag n ∷ (tokens_of v ++ (end_tag ∷ []))
+  tokens_of (trees.array vs) = begin_array ∷ (tokens_of_items vs ++ (end_array ∷ []))
+  tokens_of (trees.map ps) = begin_map ∷ (tokens_of_pairs ps ++ (end_map ∷ []))
+  tokens_of (trees.integer z) = leaf (trees.integer z) ∷ []
+  tokens_of (trees.bytes b) = leaf (trees.bytes b) ∷ []
+  tokens_of (trees.text b) = leaf (trees.text b) ∷ []
+  tokens_of (trees.boolean b) = leaf (trees.boolean b) ∷ []
+  tokens_of trees.null = leaf trees.null ∷ []
+
+  tokens_of_items : Trees → List Token
+  tokens_of_items trees.no_trees = []
+  tokens_of_items (trees.tree v vs) = tokens_of v ++ tokens_of_more vs
+
+  tokens_of_more : Trees → List Token
+  tokens_of_more trees.no_trees = []
+  tokens_of_more (trees.tree v vs) = comma ∷ (tokens_of v ++ tokens_of_more vs)
+
+  tokens_of_pairs : TreePairs → List Token
+  tokens_of_pairs trees.no_tree_pairs = []
+  tokens_of_pairs (trees.tree_pair k v ps) = tokens_of k ++ (colon ∷ (tokens_of v ++ tokens_of_more_pairs ps))
+
+  tokens_of_more_pairs : TreePairs → List Token
+  tokens_of_more_pairs trees.no_tree_pairs = []
+  tokens_of_more_pairs (trees.tree_pair k v ps) =
+      comma ∷ (tokens_of k ++ (colon ∷ (tokens_of v ++ tokens_of_more_pairs ps)))
+
+mutual
+  denoted : (v : Tree) → Denote (tokens_of v) v
+  denoted (trees.integer z) = alone _ _ refl
+  denoted (trees.bytes b) = alone _ _ refl
+  denoted (trees.text b) = alone _ _ refl
+  denoted (trees.boolean b) = alone _ _ refl
+  denoted trees.null = alone _ _ refl
+  denoted (trees.tag n v) = tagged n v (tokens_of v) _ (denoted v) refl
+  denoted (trees.array vs) = listed vs (tokens_of_items vs) _ (denoted-items vs) refl
+  denoted (trees.map ps) = mapped ps (tokens_of_pairs ps) _ (denoted-pairs ps) refl
+
+  denoted-items : (vs : Trees) → DenoteItems (tokens_of_items vs) vs
+  denoted-items trees.no_trees = no_item _ refl
+  denoted-items (trees.tree v vs) = item v vs (tokens_of v) (tokens_of_more vs) _ (denoted v) (denoted-more vs) refl
+
+  denoted-more : (vs : Trees) → DenoteMoreItems (tokens_of_more vs) vs
+  denoted-more trees.no_trees = no_more_items _ refl
+  denoted-more (trees.tree v vs) =
+      one_more_item v vs (tokens_of v) (tokens_of_more vs) _ (denoted v) (denoted-more vs) refl
+
+  denoted-pairs : (ps : TreePairs) → DenotePairs (tokens_of_pairs ps) ps
+  denoted-pairs trees.no_tree_pairs = no_pair _ refl
+  denoted-pairs (trees.tree_pair k v ps) = pair k v ps (tokens_of k) (tokens_of v) (tokens_of_more_pairs ps) _
+      (denoted k) (denoted v) (denoted-more-pairs ps) refl
+
+  denoted-more-pairs : (ps : TreePairs) → DenoteMorePairs (tokens_of_more_pairs ps) ps
+  denoted-more-pairs trees.no_tree_pairs = no_more_pairs _ refl
+  denoted-more-pairs (trees.tree_pair k v ps) = one_more_pair k v ps (tokens_of k) (tokens_of v)
+      (tokens_of_more_pairs ps) _ (denoted k) (denoted v) (denoted-more-pairs ps) refl
+
+-- ---- what is printed
+
+-- what follows the first items, or the first pairs, may follow a tree
+more-follow : (lines : Option ℕ) (vs : Trees) (x : List ℕ) → Follows x →
+    Follows (notations_on lines (comma_text lines) vs ++ x)
+more-follow lines trees.no_trees x f = f
+more-follow None (trees.tree v vs) x f = comma_ends
+more-follow (Some level) (trees.tree v vs) x f = comma_ends
+
+more-pairs-follow : (lines : Option ℕ) (ps : TreePairs) (x : List ℕ) → Follows x →
+    Follows (pair_notations_on lines (comma_text lines) ps ++ x)
+more-pairs-follow lines trees.no_tree_pairs x f = f
+more-pairs-follow None (trees.tree_pair k v ps) x f = comma_ends
+more-pairs-follow (Some level) (trees.tree_pair k v ps) x f = comma_ends
+
+last-follows : (lines : Option ℕ) (n b : ℕ) (x : List ℕ) → Ends b → Follows (last_break lines n ++ (b ∷ x))
+last-follows lines zero b x f = f
+last-follows None (suc n) b x f = subst (λ (l : List ℕ). Follows (l ++ (b ∷ x))) (sym (last-is None n)) f
+last-follows (Some level) (suc n) b x f =
+    subst (λ (l : List ℕ). Follows (l ++ (b ∷ x))) (sym (last-is (Some level) n)) line_ends
+
+-- a tree before what may follow it
+abbrev Before : Option ℕ → Tree → Type 0
+Before lines v = (r : List ℕ) (ks : List Token) → Follows r → AreTokens r ks →
+    AreTokens (notation_on lines v ++ r) (tokens_of v ++ ks)
+
+-- an item on its line, and others behind it
+one-printed : (lines : Option ℕ) (v : Tree) (vs : Trees) (x : List ℕ) (ks : List Token) → Before lines v → Follows x →
+    AreTokens (notations_on lines (comma_text lines) vs ++ x) (tokens_of_more vs ++ ks) →
+    AreTokens ((line_break lines ++ (notation_on lines v ++ notations_on lines (comma_text lines) vs)) ++ x)
+    ((tokens_of v ++ tokens_of_more vs) ++ ks)
+one-printed lines v vs x ks item-before f others =
+    let more = notations_on lines (comma_text lines) vs in
+    let inner = item-before (more ++ x) (tokens_of_more vs ++ ks) (more-follow lines vs x f) others in
+    subst (λ (t : List ℕ). AreTokens t ((tokens_of v ++ tokens_of_more vs) ++ ks))
+    (sym (append_assoc (line_break lines) (notation_on lines v ++ more) x ∙
+    ap (λ (t : List ℕ). line_break lines ++ t) (append_assoc (notation_on lines v) more x)))
+    (behind-blanks (line_break lines ++ (notation_on lines v ++ (more ++ x))) (notation_on lines v ++ (more ++ x)) _
+    (breaks lines (notation_on lines v ++ (more ++ x)))
+    (subst (AreTokens (notation_on lines v ++ (more ++ x))) (sym (append_assoc (tokens_of v) (tokens_of_more vs) ks))
+    inner))
+
+-- the same behind a comma
+behind-comma : (lines : Option ℕ) (rows x : List ℕ) (ks : List Token) → AreTokens (rows ++ x) ks →
+    AreTokens ((comma_text lines ++ rows) ++ x) (comma ∷ ks)
+behind-comma lines rows x ks are =
+    let (t, e, b) = comma-breaks lines (rows ++ x) in
+    subst (λ (l : List ℕ). AreTokens l (comma ∷ ks)) (sym (append_assoc (comma_text lines) rows x ∙ e))
+    (before (44 ∷ t) t comma _ refl refl (behind-blanks t (rows ++ x) _ b are))
+
+-- a pair on its line, and others behind it
+pair-printed : (lines : Option ℕ) (k v : Tree) (ps : TreePairs) (x : List ℕ) (ks : List Token) → Before lines k →
+    Before lines v → Follows x →
+    AreTokens (pair_notations_on lines (comma_text lines) ps ++ x) (tokens_of_more_pairs ps ++ ks) →
+    AreTokens ((line_break lines ++ (notation_on lines k ++ (codes ": " ++ (notation_on lines v ++
+    pair_notations_on lines (comma_text lines) ps)))) ++ x)
+    ((tokens_of k ++ (colon ∷ (tokens_of v ++ tokens_of_more_pairs ps))) ++ ks)
+pair-printed lines k v ps x ks key-before value-before f others =
+    let more = pair_notations_on lines (comma_text lines) ps in
+    let value = value-before (more ++ x) (tokens_of_more_pairs ps ++ ks) (more-pairs-follow lines ps x f) others in
+    let rest = notation_on lines v ++ (more ++ x) in
+    let behind-colon = before (58 ∷ 32 ∷ rest) (32 ∷ rest) colon (tokens_of v ++ (tokens_of_more_pairs ps ++ ks)) refl
+    refl
+    (behind-blanks (32 ∷ rest) rest (tokens_of v ++ (tokens_of_more_pairs ps ++ ks)) refl value) in
+    let key = key-before (58 ∷ 32 ∷ rest) (colon ∷ (tokens_of v ++ (tokens_of_more_pairs ps ++ ks))) colon_ends
+    behind-colon in
+    let pairs = tokens_of v ++ tokens_of_more_pairs ps in
+    let row = append_assoc (tokens_of k) (colon ∷ pairs) ks ∙
+    ap (λ (l : List Token). tokens_of k ++ (colon ∷ l)) (append_assoc (tokens_of v) (tokens_of_more_pairs ps) ks) in
+    let text = append_assoc (line_break lines) (notation_on lines k ++ (58 ∷ 32 ∷ (notation_on lines v ++ more))) x ∙
+    ap (λ (t : List ℕ). line_break lines ++ t)
+    (append_assoc (notation_on lines k) (58 ∷ 32 ∷ (notation_on lines v ++ more)) x ∙
+    ap (λ (t : List ℕ). notation_on lines k ++ (58 ∷ 32 ∷ t)) (append_assoc (notation_on lines v) more x)) in
+    subst (λ (t : List ℕ). AreTokens t ((tokens_of k ++ (colon ∷ pairs)) ++ ks)) (sym text)
+    (behind-blanks (line_break lines ++ (notation_on lines k ++ (58 ∷ 32 ∷ rest)))
+    (notation_on lines k ++ (58 ∷ 32 ∷ rest)) _ (breaks lines (notation_on lines k ++ (58 ∷ 32 ∷ rest)))
+    (subst (AreTokens (notation_on lines k ++ (58 ∷ 32 ∷ rest))) (sym row) key))
+
+mutual
+  printed : (lines : Option ℕ) (v : Tree) (r : List ℕ) (ks : List Token) → IsProperTree v → Follows r →
+      AreTokens r ks → AreTokens (notation_on lines v ++ r) (tokens_of v ++ ks)
+  printed lines (trees.integer z) r ks h f are =
+      before (signed_decimal z ++ r) r _ ks (number-not-blank z r h) (number-token z r h f) are
+  printed lines (trees.bytes b) r ks h f are =
+      subst (λ (t : List ℕ). AreTokens t (leaf (trees.bytes b) ∷ ks))
+      (sym (ap (λ (t : List ℕ). 104 ∷ 39 ∷ t) (append_assoc (encode_lower b) (39 ∷ []) r)))
+      (before (104 ∷ 39 ∷ (encode_lower b ++ (39 ∷ r))) r (leaf (trees.bytes b)) ks refl
+      (ap (token_of trees.bytes) (hex-run b r h.0)) are)
+  printed lines (trees.text b) r ks h f are =
+      subst (λ (t : List ℕ). AreTokens t (leaf (trees.text b) ∷ ks))
+      (sym (ap (λ (t : List ℕ). 34 ∷ t) (append_assoc (flat_map escaped b) (34 ∷ []) r)))
+      (before (34 ∷ (flat_map escaped b ++ (34 ∷ r))) r (leaf (trees.text b)) ks refl
+      (ap text_token (text-run b r) ∙ utf8_token b r h.0) are)
+  printed lines (trees.boolean true) r ks h f are = before _ r _ ks refl refl are
+  printed lines (trees.boolean false) r ks h f are = before _ r _ ks refl refl are
+  printed lines trees.null r ks h f are = before _ r _ ks refl refl are
+  printed lines (trees.tag n v) r ks h f are =
+      let inner = printed lines v (41 ∷ r) (end_tag ∷ ks) h.1 tag_ends (before (41 ∷ r) r end_tag ks refl refl are) in
+      subst (λ (t : List ℕ). AreTokens t (begin_tag n ∷ ((tokens_of v ++ (end_tag ∷ [])) ++ ks)))
+      (sym (append_assoc (decimal n) (40 ∷ (notation_on lines v ++ (41 ∷ []))) r ∙
+      ap (λ (t : List ℕ). decimal n ++ (40 ∷ t)) (append_assoc (notation_on lines v) (41 ∷ []) r)))
+      (before (decimal n ++ (40 ∷ (notation_on lines v ++ (41 ∷ r)))) (notation_on lines v ++ (41 ∷ r)) (begin_tag n) _
+      (decimal-not-blank n _ (omega (arith, h.0))) (tag-token n (notation_on lines v ++ (41 ∷ r)) h.0)
+      (subst (AreTokens (notation_on lines v ++ (41 ∷ r))) (sym (append_assoc (tokens_of v) (end_tag ∷ []) ks)) inner))
+  printed lines (trees.array vs) r ks h f are =
+      let n = trees_count vs in
+      let last = last_break lines n in
+      let rows = notations_on (one_level_more lines) [] vs in
+      let end = behind-blanks (last ++ (93 ∷ r)) (93 ∷ r) (end_array ∷ ks) (last-breaks lines n (93 ∷ r))
+      (before (93 ∷ r) r end_array ks refl refl are) in
+      let inner = printed-items (one_level_more lines) vs (last ++ (93 ∷ r)) (end_array ∷ ks) h.1
+      (last-follows lines n 93 r array_ends) end in
+      subst (λ (t : List ℕ). AreTokens t (begin_array ∷ ((tokens_of_items vs ++ (end_array ∷ [])) ++ ks)))
+      (sym (ap (λ (t : List ℕ). 91 ∷ t) (append_assoc rows (last ++ (93 ∷ [])) r ∙
+      ap (λ (t : List ℕ). rows ++ t) (append_assoc last (93 ∷ []) r))))
+      (before (91 ∷ (rows ++ (last ++ (93 ∷ r)))) (rows ++ (last ++ (93 ∷ r))) begin_array _ refl refl
+      (subst (AreTokens (rows ++ (last ++ (93 ∷ r)))) (sym (append_assoc (tokens_of_items vs) (end_array ∷ []) ks))
+      inner))
+  printed lines (trees.map ps) r ks h f are =
+      let n = tree_pairs_count ps in
+      let last = last_break lines n in
+      let rows = pair_notations_on (one_level_more lines) [] ps in
+      let end = behind-blanks (last ++ (125 ∷ r)) (125 ∷ r) (end_map ∷ ks) (last-breaks lines n (125 ∷ r))
+      (before (125 ∷ r) r end_map ks refl refl are) in
+      let inner = printed-pairs (one_level_more lines) ps (last ++ (125 ∷ r)) (end_map ∷ ks) h.1
+      (last-follows lines n 125 r map_ends) end in
+      subst (λ (t : List ℕ). AreTokens t (begin_map ∷ ((tokens_of_pairs ps ++ (end_map ∷ [])) ++ ks)))
+      (sym (ap (λ (t : List ℕ). 123 ∷ t) (append_assoc rows (last ++ (125 ∷ [])) r ∙
+      ap (λ (t : List ℕ). rows ++ t) (append_assoc last (125 ∷ []) r))))
+      (before (123 ∷ (rows ++ (last ++ (125 ∷ r)))) (rows ++ (last ++ (125 ∷ r))) begin_map _ refl refl
+      (subst (AreTokens (rows ++ (last ++ (125 ∷ r)))) (sym (append_assoc (tokens_of_pairs ps) (end_map ∷ []) ks))
+      inner))
+
+  printed-items : (lines : Option ℕ) (vs : Trees) (x : List ℕ) (ks : List Token) → AreProperTrees vs → Follows x →
+      AreTokens x ks → AreTokens (notations_on lines [] vs ++ x) (tokens_of_items vs ++ ks)
+  printed-items lines trees.no_trees x ks h f are = are
+  printed-items lines (trees.tree v vs) x ks h f are =
+      one-printed lines v vs x ks (λ r ls g a. printed lines v r ls h.0 g a) f (printed-more lines vs x ks h.1 f are)
+
+  printed-more : (lines : Option ℕ) (vs : Trees) (x : List ℕ) (ks : List Token) → AreProperTrees vs → Follows x →
+      AreTokens x ks → AreTokens (notations_on lines (comma_text lines) vs ++ x) (tokens_of_more vs ++ ks)
+  printed-more lines trees.no_trees x ks h f are = are
+  printed-more lines (trees.tree v vs) x ks h f are =
+      behind-comma lines (line_break lines ++ (notation_on lines v ++ notations_on lines (comma_text lines) vs)) x
+      ((tokens_of v ++ tokens_of_more vs) ++ ks)
+      (one-printed lines v vs x ks (λ r ls g a. printed lines v r ls h.0 g a) f (printed-more lines vs x ks h.1 f are))
+
+  printed-pairs : (lines : Option ℕ) (ps : TreePairs) (x : List ℕ) (ks : List Token) → AreProperTreePairs ps → Follows
+      x →
+      AreTokens x ks → AreTokens (pair_notations_on lines [] ps ++ x) (tokens_of_pairs ps ++ ks)
+  printed-pairs lines trees.no_tree_pairs x ks h f are = are
+  printed-pairs lines (trees.tree_pair k v ps) x ks h f are =
+      pair-printed lines k v ps x ks (λ r ls g a. printed lines k r ls h.0 g a) (λ r ls g a. printed lines v r ls h.1 g
+      a)
+      f (printed-more-pairs lines ps x ks h.2 f are)
+
+  printed-more-pairs : (lines : Option ℕ) (ps : TreePairs) (x : List ℕ) (ks : List Token) → AreProperTreePairs ps →
+      Follows x → AreTokens x ks → AreTokens (pair_notations_on lines (comma_text lines) ps ++ x) (tokens_of_more_pairs
+      ps ++ ks)
+  printed-more-pairs lines trees.no_tree_pairs x ks h f are = are
+  printed-more-pairs lines (trees.tree_pair k v ps) x ks h f are =
+      behind-comma lines (line_break lines ++ (notation_on lines k ++ (codes ": " ++ (notation_on lines v ++
+      pair_notations_on lines (comma_text lines) ps)))) x
+      ((tokens_of k ++ (colon ∷ (tokens_of v ++ tokens_of_more_pairs ps))) ++ ks)
+      (pair-printed lines k v ps x ks (λ r ls g a. printed lines k r ls h.0 g a) (λ r ls g a. printed lines v r ls h.1
+      g a)
+      f (printed-more-pairs lines ps x ks h.2 f are))
+
+-- what is printed on one line or over lines
+on-lines : (lines : Option ℕ) (v : Tree) → IsProperTree v → Denotes (notation_on lines v) v
+on-lines lines v h = (
+  tokens_of v,
+  subst (λ (t : List ℕ). AreTokens t (tokens_of v)) (append-nil (notation_on lines v))
+      (subst (AreTokens (notation_on lines v ++ [])) (append-nil (tokens_of v))
+      (printed lines v [] [] h tt (no_token [] refl))),
+  denoted v,
+)
+
+pub printed_is_denoted : PrintedIsDenoted
+printed_is_denoted true v h = on-lines (Some 0) v h
+printed_is_denoted false v h = on-lines None v h
+
+pub printed_alike_is_equal : PrintedAlikeIsEqual
+printed_alike_is_equal b v w h k e = one_tree_is_denoted (styled_notation b w) v w
+    (subst (λ t. Denotes t v) e (printed_is_denoted b v h)) (printed_is_denoted b w k)

@@ -1,0 +1,7 @@
+use Rattle.std.proofs.Common.{rules}
+use Rattle.ciborium_value.proofs.Denoting.Opened.{some_open}
+use Rattle.ciborium_value.proofs.Denoting.Steps.{ends}
+use Rattle.ciborium_value.proofs.from_notation.levels.Levels.end.Goals as goal
+
+pub returns-in-Some-clause-refused : goal.returns-in-Some-clause-refused
+returns-in-Some-clause-refused c = λ v h. some_open c.args.self.now.levels.items (search rules) (ends _ _ v h).0

@@ -1,0 +1,12 @@
+use Rattle.std.proofs.Common.{rules}
+use Rattle.ciborium_value.proofs.Denoting.Opened.{array_comma, array_end}
+use Rattle.ciborium_value.proofs.from_notation.levels.Levels.take_behind_item.Goals as goal
+
+pub returns-in_ok-push-in-Comma-2-clause-taken : goal.returns-in_ok-push-in-Comma-2-clause-taken
+returns-in_ok-push-in-Comma-2-clause-taken c = array_comma c.args.items.items c.args.value c.args.self.now.levels.items
+    c.push-in-Comma.new.self.items c.push.new.self
+    c.args.token (search rules) (search rules) (search rules)
+
+pub returns-in_ok-push-in-EndArray-clause-taken : goal.returns-in_ok-push-in-EndArray-clause-taken
+returns-in_ok-push-in-EndArray-clause-taken c =
+    array_end c.args.items.items c.args.value _ c.push-in-EndArray.new.self c.args.token (search rules) (search rules)

@@ -1,0 +1,21 @@
+use Rattle.std.proofs.Common.{rules}
+use Rattle.ciborium_value.proofs.Denoting.Opened.{array_begun, leaf_read, map_begun, tag_begun, too_deep}
+use Rattle.ciborium_value.proofs.from_notation.levels.Levels.take_item.Goals as goal
+
+pub returns-in-Leaf-clause-taken : goal.returns-in-Leaf-clause-taken
+returns-in-Leaf-clause-taken c = leaf_read _ _ c.args.token (search rules)
+
+pub returns-in_ok-push-in-BeginTag-clause-taken : goal.returns-in_ok-push-in-BeginTag-clause-taken
+returns-in_ok-push-in-BeginTag-clause-taken c = tag_begun c.args.self.now.levels.items c.push.new.self.items
+    c.in-BeginTag.tag c.args.token
+    (search rules) (search rules)
+
+pub returns-in-BeginArray-clause-taken : goal.returns-in-BeginArray-clause-taken
+returns-in-BeginArray-clause-taken c = array_begun _ c.args.token (search rules)
+
+pub returns-in-BeginMap-clause-taken : goal.returns-in-BeginMap-clause-taken
+returns-in-BeginMap-clause-taken c = map_begun _ c.args.token (search rules)
+
+pub returns-then-is_full-clause-refused : goal.returns-then-is_full-clause-refused
+returns-then-is_full-clause-refused c = too_deep c.args.self.now.levels.items c.args.token c.args.self.now.limit
+    c.args.place (search rules) (search rules)

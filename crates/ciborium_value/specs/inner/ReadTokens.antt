@@ -1,0 +1,167 @@
+-- What reading diagnostic notation keeps between two tokens, and what it promises of them.
+use Rattle.std.specs.Prelude.{◌≡◌, ℕ, ◌^◌, ◌≤◌, ◌<◌, List, [], ◌∷◌, ◌++◌, map, reverse}
+use Rattle.std.specs.Prelude.{Option, Some, None, ◌==◌, if◌then◌else◌, true, Bool, false}
+use Rattle.ciborium_value.specs.Denotes.{AreTokens, Denote, DenoteItems, DenoteMoreItems}
+use Rattle.ciborium_value.specs.Denotes.{DenoteMorePairs, DenotePairs, MayRefuse}
+use Rattle.ciborium_value.specs.Notation.{needs_escape}
+use Rattle.ciborium_value.specs.Tokens as tokens
+use Rattle.ciborium_value.specs.Tokens.{Token}
+use Rattle.ciborium_value.specs.Tree as trees
+use Rattle.ciborium_value.specs.Tree.{Tree, Trees, TreePairs}
+use Rattle.ciborium_value.specs.View.{pair_trees, tree_of}
+use Rattle.ciborium_value.specs.declared.from_notation.byte_strings.Group.{Group}
+use Rattle.ciborium_value.specs.declared.from_notation.error.NotationError.{NotationError}
+use Rattle.ciborium_value.specs.declared.from_notation.levels.Due.{Due}
+use Rattle.ciborium_value.specs.declared.from_notation.levels.Due.TheVariants as due
+use Rattle.ciborium_value.specs.declared.from_notation.levels.Level.{Level}
+use Rattle.ciborium_value.specs.declared.from_notation.levels.Level.TheVariants as level
+use Rattle.ciborium_value.specs.declared.from_notation.levels.Levels.{Levels}
+use Rattle.ciborium_value.specs.declared.from_notation.tokens.Token.{Token as Read}
+use Rattle.ciborium_value.specs.declared.from_notation.tokens.Token.TheVariants as read
+
+-- there is no number, or one of 2^128 at least
+abbrev pub IsNoNumber : Option (ℕ × List ℕ) → Type 0
+IsNoNumber None = Unit {0}
+IsNoNumber (Some p) = 2 ^ 128 ≤ p.0
+
+-- a token that was read
+abbrev pub token_read : Read → Token
+token_read (read.Leaf v) = tokens.leaf (tree_of v)
+token_read (read.BeginTag n) = tokens.begin_tag n
+token_read read.EndTag = tokens.end_tag
+token_read read.BeginArray = tokens.begin_array
+token_read read.EndArray = tokens.end_array
+token_read read.BeginMap = tokens.begin_map
+token_read read.EndMap = tokens.end_map
+token_read read.Comma = tokens.comma
+token_read read.Colon = tokens.colon
+
+-- ---- texts
+
+-- no byte that stands as it is begins these
+abbrev pub Stops : List ℕ → Type 0
+Stops [] = Unit {0}
+Stops (b ∷ t) = needs_escape b ≡ true
+
+-- ---- base64
+
+-- so many characters of a group of four leave a number below this
+abbrev pub bits_below : ℕ → ℕ
+bits_below count = if count == 0 then 1 else if count == 1 then 64 else if count == 2 then 16 else 4
+
+abbrev pub IsGroup : Group → Type 0
+IsGroup g = (g.count < 4) × (g.bits < bits_below g.count)
+
+-- the byte that a character completes, if it does, before others
+abbrev pub completed : Option ℕ → Option (List ℕ × List ℕ) → Option (List ℕ × List ℕ)
+completed None found = found
+completed (Some b) found = tokens.prepended (b ∷ []) found
+
+-- ---- what is open, the innermost first, with what is in it so far
+
+pub data Around : Type 0 where
+  in_array : List Tree → Around
+  -- a key is due
+  in_keys : List (Tree × Tree) → Around
+  -- the value of this key is due
+  in_values : List (Tree × Tree) → Tree → Around
+  in_tag : ℕ → Around
+
+abbrev pub around_of : Level → Around
+around_of (level.Array items) = in_array (map tree_of items.items)
+around_of (level.Keys pairs) = in_keys (map pair_trees pairs.items)
+around_of (level.Values pairs key) = in_values (map pair_trees pairs.items) (tree_of key)
+around_of (level.Tag n) = in_tag n
+
+abbrev pub open_in : Levels → List Around
+open_in levels = map around_of (reverse levels.levels.items)
+
+-- whether a token opens a level
+abbrev pub opens : Token → Bool
+opens (tokens.begin_tag n) = true
+opens tokens.begin_array = true
+opens tokens.begin_map = true
+opens _ = false
+
+-- ---- what is due
+
+pub data Await : Type 0 where
+  item : Await
+  -- the first item of an array, or its end
+  array_part : Await
+  -- the first key of a map, or its end
+  map_part : Await
+  -- what follows an item that has ended
+  behind : Tree → Await
+
+abbrev pub await_of : Due → Await
+await_of due.Item = item
+await_of due.ArrayPart = array_part
+await_of due.MapPart = map_part
+await_of (due.Behind v) = behind (tree_of v)
+
+-- of so many open levels no more are open than may be, and one more may be where an array or a map
+-- has begun
+abbrev pub IsRoom : ℕ → ℕ → Await → Type 0
+IsRoom limit count array_part = count < limit
+IsRoom limit count map_part = count < limit
+IsRoom limit count due = count ≤ limit
+
+-- ---- what the tokens that follow make of it
+
+-- trees, and others behind them
+abbrev pub trees_before : List Tree → Trees → Trees
+trees_before [] vs = vs
+trees_before (w ∷ ws) vs = trees.tree w (trees_before ws vs)
+
+abbrev pub pairs_before : List (Tree × Tree) → TreePairs → TreePairs
+pairs_before [] ps = ps
+pairs_before (q ∷ qs) ps = trees.tree_pair q.0 q.1 (pairs_before qs ps)
+
+-- behind an item that means w in these levels the tokens complete the tree v
+abbrev pub Complete : List Around → Tree → List Token → Tree → Type 0
+Complete [] w ks v = (ks ≡ []) × (v ≡ w)
+Complete (in_array ws ∷ levels) w ks v = (vs : Trees) × (s : List Token) × (r : List Token) ×
+    DenoteMoreItems s vs × (ks ≡ s ++ (tokens.end_array ∷ r)) ×
+    Complete levels (trees.array (trees_before ws (trees.tree w vs))) r v
+Complete (in_keys qs ∷ levels) w ks v = (x : Tree) × (ps : TreePairs) × (s : List Token) ×
+    (t : List Token) × (r : List Token) × Denote s x × DenoteMorePairs t ps ×
+    (ks ≡ tokens.colon ∷ (s ++ (t ++ (tokens.end_map ∷ r)))) ×
+    Complete levels (trees.map (pairs_before qs (trees.tree_pair w x ps))) r v
+Complete (in_values qs k ∷ levels) w ks v = (ps : TreePairs) × (t : List Token) ×
+    (r : List Token) × DenoteMorePairs t ps × (ks ≡ t ++ (tokens.end_map ∷ r)) ×
+    Complete levels (trees.map (pairs_before qs (trees.tree_pair k w ps))) r v
+Complete (in_tag n ∷ levels) w ks v = (r : List Token) × (ks ≡ tokens.end_tag ∷ r) ×
+    Complete levels (trees.tag n w) r v
+
+-- where this is due in these levels, the tokens complete the tree v
+abbrev pub Completes : List Around → Await → List Token → Tree → Type 0
+Completes levels item ks v = (w : Tree) × (s : List Token) × (r : List Token) × Denote s w ×
+    (ks ≡ s ++ r) × Complete levels w r v
+Completes levels array_part ks v = (vs : Trees) × (s : List Token) × (r : List Token) ×
+    DenoteItems s vs × (ks ≡ s ++ (tokens.end_array ∷ r)) × Complete levels (trees.array vs) r v
+Completes levels map_part ks v = (ps : TreePairs) × (s : List Token) × (r : List Token) ×
+    DenotePairs s ps × (ks ≡ s ++ (tokens.end_map ∷ r)) × Complete levels (trees.map ps) r v
+Completes levels (behind w) ks v = Complete levels w ks v
+
+-- a token leads from what is due in some levels to what is due in others: the same tokens behind it
+-- complete both, to the same tree
+pub record Leads (levels : List Around) (due : Await) (k : Token) (more : List Around)
+    (next : Await) : Type 0 where
+  pub on : (ks : List Token) (v : Tree) → Completes levels due (k ∷ ks) v →
+      Completes more next ks v
+  pub back : (ks : List Token) (v : Tree) → Completes more next ks v →
+      Completes levels due (k ∷ ks) v
+
+-- no tokens behind it complete a tree that is read within the limit
+abbrev pub IsMisplaced : List Around → Await → Token → ℕ → NotationError → Type 0
+IsMisplaced levels due k limit e = (ks : List Token) (v : Tree) →
+    Completes levels due (k ∷ ks) v → MayRefuse limit e v
+
+-- this is due in these levels where t is left of a text that denotes just what is completed here
+pub record IsReached (text : List ℕ) (levels : List Around) (due : Await) (t : List ℕ) :
+    Type 0 where
+  pub on : (ks : List Token) (v : Tree) → AreTokens text ks → Denote ks v →
+      (left : List Token) × AreTokens t left × Completes levels due left v
+  pub back : (left : List Token) (v : Tree) → AreTokens t left → Completes levels due left v →
+      (ks : List Token) × AreTokens text ks × Denote ks v
