@@ -27,7 +27,7 @@ const USAGE: &str = "usage: ciborium_bench KIND ROUNDS FILE [CALL]
        ciborium_bench deep CALL DEPTH
 KIND: value ints options records map texts structs
 CALL: read slice buffered plain_file write drop
-      and of value: form strict strict_slice
+      and of value: form strict strict_slice notation
 KIND: messages
 CALL: typed value typed_next value_next typed_slice value_slice
 KIND: sort

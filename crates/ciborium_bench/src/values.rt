@@ -18,7 +18,31 @@ pub fn measure_values(rt: &HostRuntime, run: &Run) -> Result<(), Fault> {
     measure::<Value>(rt, run)?;
     measure_forms(rt, run)?;
     measure_strict(rt, run)?;
-    measure_strict_slice(rt, run)
+    measure_strict_slice(rt, run)?;
+    measure_notation(rt, run)
+}
+
+// Prints the value on one line, and reads it from that text. As where a type is read, the last
+// value is not dropped.
+fn measure_notation(rt: &HostRuntime, run: &Run) -> Result<(), Fault> {
+    if !run.wants("notation") {
+        return Ok(());
+    }
+    let value: Value = from_slice(rt.alloc(), run.bytes.as_slice())?;
+    let text = value.to_string(rt.alloc())?;
+    let mut best = Duration::MAX;
+    let mut last = None;
+    for _ in 0..run.rounds {
+        drop(last.take());
+        let start = Instant::now(rt)?;
+        let Ok(value) = Value::from_notation(rt.alloc(), text.as_str()) else {
+            return Ok(());
+        };
+        best = best.min(start.elapsed(rt)?);
+        last = Some(value);
+    }
+    forget(last);
+    run.tell(rt, "notation", best)
 }
 
 fn measure_forms(rt: &HostRuntime, run: &Run) -> Result<(), Fault> {

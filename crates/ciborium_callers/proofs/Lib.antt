@@ -1,3 +1,4 @@
+pub mod ReadNotation
 mod LoneValue
 mod MemoryAlone
 mod OwnTypes
