@@ -55,7 +55,7 @@ abbrev pub AnswerIsHeld : Reading → List ℕ → Bool → Option (List ℕ) �
 AnswerIsHeld reading line is_ok held now = (ys : List ℕ) → held ≡ Some ys → (text : List ℕ) ×
     MayBeAnswer reading line is_ok text × (now ≡ Some (ys ++ text_line text))
 
-and-true : (x : Bool) → (x && true) ≡ x
+pub and-true : (x : Bool) → (x && true) ≡ x
 and-true true = refl
 and-true false = refl
 

@@ -7,7 +7,7 @@ use Rattle.std.specs.Bool.{MatchBool}
 use Rattle.std.specs.Char.{digit_value}
 use Rattle.ciborium_value.specs.declared.key_order.KeyOrder.TheVariants.{LengthFirst, Bytewise}
 use Rattle.cbor.specs.declared.command.Command.{Command}
-use Rattle.cbor.specs.declared.command.Command.TheVariants.{Answer, Sort, Show, Dump, Tell}
+use Rattle.cbor.specs.declared.command.Command.TheVariants.{Answer, Sort, Show, ShowExactly, Dump, Encode, Tell}
 use Rattle.cbor.specs.declared.command.Topic.TheVariants.{Help, Version}
 use Rattle.cbor.specs.declared.reading.Layout.TheVariants.{OneLine, Indented}
 use Rattle.cbor.specs.declared.reading.Reading.TheVariants as readings
@@ -82,6 +82,10 @@ named words (Answer (readings.Notation Indented n)) asked = asked
 named words (Answer readings.Dump) asked = subst (λ (ws : List (List ℕ)). NameLimitBehind
     (command_words (Answer readings.Dump)) ws 256) (sym asked)
     (no-others (command_words (Answer readings.Dump)))
+named words (Answer readings.Exact) asked = subst (λ (ws : List (List ℕ)). NameLimitBehind
+    (command_words (Answer readings.Exact)) ws 256) (sym asked)
+    (no-others (command_words (Answer readings.Exact)))
+named words (Answer (readings.Encode n)) asked = asked
 named words (Sort LengthFirst) asked = subst (λ (ws : List (List ℕ)). NameLimitBehind (command_words (Sort LengthFirst))
     ws 256) (sym asked) (no-others (command_words (Sort LengthFirst)))
 named words (Sort Bytewise) asked = subst (λ (ws : List (List ℕ)). NameLimitBehind (command_words (Sort Bytewise)) ws
@@ -93,8 +97,11 @@ named words (Show (showings.Notation OneLine) n) asked = asked
 named words (Show (showings.Notation Indented) n) asked = asked
 named words (Show (showings.Form LengthFirst) n) asked = asked
 named words (Show (showings.Form Bytewise) n) asked = asked
+named words ShowExactly asked = subst (λ (ws : List (List ℕ)). NameLimitBehind (command_words ShowExactly) ws 256)
+    (sym asked) (no-others (command_words ShowExactly))
 named words Dump asked = subst (λ (ws : List (List ℕ)). NameLimitBehind (command_words Dump) ws 256) (sym asked)
     (no-others (command_words Dump))
+named words (Encode n) asked = asked
 named words (Tell Help) asked = subst (λ (ws : List (List ℕ)). NameLimitBehind (command_words (Tell Help)) ws 256)
     (sym asked) (no-others (command_words (Tell Help)))
 named words (Tell Version) asked = subst (λ (ws : List (List ℕ)). NameLimitBehind (command_words (Tell Version)) ws 256)
@@ -111,6 +118,8 @@ are-names (Answer (readings.Form Bytewise n)) = (λ h. omega (arith, h), (λ h. 
 are-names (Answer (readings.Notation OneLine n)) = (λ h. omega (arith, h), tt)
 are-names (Answer (readings.Notation Indented n)) = (λ h. omega (arith, h), (λ h. omega (arith, h), tt))
 are-names (Answer readings.Dump) = (λ h. omega (arith, h), tt)
+are-names (Answer readings.Exact) = (λ h. omega (arith, h), (λ h. omega (arith, h), tt))
+are-names (Answer (readings.Encode n)) = (λ h. omega (arith, h), tt)
 are-names (Sort LengthFirst) = (λ h. omega (arith, h), tt)
 are-names (Sort Bytewise) = (λ h. omega (arith, h), (λ h. omega (arith, h), tt))
 are-names (Show (showings.Encoding Any) n) = (λ h. omega (arith, h), (λ h. omega (arith, h), tt))
@@ -128,7 +137,9 @@ are-names (Show (showings.Form Bytewise) n) = (
   λ h. omega (arith, h),
   (λ h. omega (arith, h), (λ h. omega (arith, h), tt)),
 )
+are-names ShowExactly = (λ h. omega (arith, h), (λ h. omega (arith, h), (λ h. omega (arith, h), tt)))
 are-names Dump = (λ h. omega (arith, h), (λ h. omega (arith, h), tt))
+are-names (Encode n) = (λ h. omega (arith, h), (λ h. omega (arith, h), tt))
 are-names (Tell Help) = (λ h. omega (arith, h), tt)
 are-names (Tell Version) = (λ h. omega (arith, h), tt)
 
@@ -147,6 +158,8 @@ command-of total n =
     else if total == 405 then Answer (readings.Notation OneLine n)
     else if total == 1137 then Answer (readings.Notation Indented n)
     else if total == 438 then Answer readings.Dump
+    else if total == 1028 then Answer readings.Exact
+    else if total == 622 then Answer (readings.Encode n)
     else if total == 456 then Sort LengthFirst
     else if total == 971 then Sort Bytewise
     else if total == 1147 then Show (showings.Encoding Any) n
@@ -156,7 +169,9 @@ command-of total n =
     else if total == 1872 then Show (showings.Notation Indented) n
     else if total == 1262 then Show (showings.Form LengthFirst) n
     else if total == 1777 then Show (showings.Form Bytewise) n
+    else if total == 1763 then ShowExactly
     else if total == 1173 then Dump
+    else if total == 1357 then Encode n
     else if total == 515 then Tell Help
     else if total == 149 then Tell Help
     else Tell Version
@@ -172,6 +187,8 @@ told-apart (Answer (readings.Form Bytewise n)) = refl
 told-apart (Answer (readings.Notation OneLine n)) = refl
 told-apart (Answer (readings.Notation Indented n)) = refl
 told-apart (Answer readings.Dump) = refl
+told-apart (Answer readings.Exact) = refl
+told-apart (Answer (readings.Encode n)) = refl
 told-apart (Sort LengthFirst) = refl
 told-apart (Sort Bytewise) = refl
 told-apart (Show (showings.Encoding Any) n) = refl
@@ -181,7 +198,9 @@ told-apart (Show (showings.Notation OneLine) n) = refl
 told-apart (Show (showings.Notation Indented) n) = refl
 told-apart (Show (showings.Form LengthFirst) n) = refl
 told-apart (Show (showings.Form Bytewise) n) = refl
+told-apart ShowExactly = refl
 told-apart Dump = refl
+told-apart (Encode n) = refl
 told-apart (Tell Help) = refl
 told-apart (Tell Version) = refl
 

@@ -3,6 +3,9 @@ pub mod AskedWords
 pub mod DigitPairs
 pub mod DumpedHeads
 pub mod DumpedInputs
+pub mod EncodedLines
+pub mod ExactNotation
+pub mod ExactlyStreamed
 pub mod HexDigits
 pub mod ItemsInRow
 pub mod JudgedAnswers
@@ -14,7 +17,6 @@ pub mod OneLineAnswer
 pub mod OneSequenceAnswer
 pub mod ReadBytes
 pub mod ShownFiles
-pub mod ShownItems
 pub mod SortedValues
 pub mod SpelledItems
 pub mod StreamedItems

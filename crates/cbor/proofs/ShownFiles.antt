@@ -4,9 +4,8 @@ use Rattle.std.proofs.Common.{drop, Option, Some, None, refl, sym, subst, ◌∙
 use Rattle.std.proofs.lemmas.List.{get_or-map, take_more}
 use Rattle.cbor.specs.Files.{AreFilesShown, AreInputs, AreInputsShown, Input, IsInputShown, given_by, is_input, left_by}
 use Rattle.cbor.specs.Files.{next, none}
-use Rattle.cbor.specs.Streams.{refused, whole}
 use Rattle.cbor.specs.declared.command.Command.{Command}
-use Rattle.cbor.specs.declared.command.Command.TheVariants.{Answer, Dump, Show, Sort, Tell}
+use Rattle.cbor.specs.declared.command.Command.TheVariants.{Answer, Dump, Encode, Show, ShowExactly, Sort, Tell}
 
 -- of the inputs so many are shown behind w, and the others are left
 abbrev pub AreShownSoFar : Command → (List ℕ → Option (List ℕ)) → List Input → ℕ → List ℕ → Bool →
@@ -38,11 +37,12 @@ behind held name old new inputs kept h = by (is_input name) refl h
 -- what is written is known
 known : (command : Command) (i : Input) (w : List ℕ) (all : Bool) (now : Option (List ℕ)) →
     IsInputShown command i w all now → (v : List ℕ) × (now ≡ Some v)
-known (Show showing limit) i w all now (whole trees shown after items of e) = (_, e)
-known (Show showing limit) i w all now (refused trees shown rest reason after items of more h e) = (_, e)
+known (Show showing limit) i w all now (lines, shows, e) = (_, e)
+known ShowExactly i w all now (lines, shows, e) = (_, e)
 known Dump i w all now (text, dump, e) = (_, e)
 known (Answer reading) i w all now h = absurd h
 known (Sort order) i w all now h = absurd h
+known (Encode limit) i w all now h = absurd h
 known (Tell topic) i w all now h = absurd h
 
 -- nothing is shown yet

@@ -3,16 +3,15 @@ use Rattle.std.proofs.Common.{◌≡◌, ◌<◌, List, [], ◌∷◌, length, g
 use Rattle.std.proofs.Common.{◌∙◌, arith}
 use Rattle.std.proofs.lemmas.List.{get_or-map, length-map}
 use Rattle.std.proofs.lemmas.List.Sorted.{ranks_by, sorted_far}
-use Rattle.std.specs.Cmp.{IsStrictWeakOrder, IsTotalOrder}
+use Rattle.std.specs.Cmp.{IsStrictWeakOrder}
 use Rattle.std.specs.List.Sorted.{IsSortedBy}
 use Rattle.std.specs.Ordering.{ordering_reverse}
 use Rattle.ciborium_value.specs.Canonical.{key_order}
 use Rattle.ciborium_value.specs.Tree.{Tree}
 use Rattle.ciborium_value.specs.View.{tree_of}
 use Rattle.ciborium_value.specs.declared.key_order.KeyOrder.{KeyOrder}
-use Rattle.ciborium_value.specs.declared.key_order.KeyOrder.TheVariants.{LengthFirst, Bytewise}
 use Rattle.ciborium_value.specs.declared.tree.Value.{Value}
-use Rattle.ciborium_value.proofs.Orders.TotalOrders.{bytewise_order_total, canonical_order_total, key_order_total}
+use Rattle.ciborium_value.proofs.Orders.TotalOrders.{key_order_total}
 use Rattle.cbor.specs.Sorted.{AreSorted}
 
 -- the test by which values are sorted

@@ -1,34 +1,38 @@
 -- Items of a stream are read and shown one by one.
-use Rattle.std.proofs.Common.{◌≡◌, ℕ, ◌<◌, ◌+◌, ◌-◌, Bool, true, false, List, [], ◌∷◌, ◌++◌, length, flat_map}
-use Rattle.std.proofs.Common.{arith, Option, Some, None, Result, Ok, Err, OnOk, inl, inr, refl, ap}
-use Rattle.std.proofs.Common.{length-append, ap₂, append-nil, sym, subst, ◌∙◌}
-use Rattle.std.proofs.lemmas.List.{flat_map_more, map-append}
-use Rattle.std.specs.Io.KnownBytes.{Consumes}
+use Rattle.std.proofs.Common.{◌≡◌, ℕ, ◌<◌, ◌+◌, ◌==◌, Bool, ◌&&◌, true, false, List, [], ◌++◌, length, take, drop}
+use Rattle.std.proofs.Common.{arith, Option, Some, None, Result, Ok, Err, IfErr, IfOk, OnOk, inl, refl, ap, append_assoc}
+use Rattle.std.proofs.Common.{append-nil, length-append, length-take-le, sym, subst, take-append-drop, ◌∙◌}
+use Rattle.std.proofs.lemmas.List.{drop_at, take_at}
+use Rattle.std.specs.Io.KnownBytes.{Consumes, prepend_known}
+use Rattle.ciborium_ll.specs.Levels.{AreItem}
+use Rattle.ciborium_ll.proofs.UniqueSpelling.{none_begins_another}
 use Rattle.ciborium.specs.NextItems.{TakesTo}
-use Rattle.ciborium_value.specs.Taken.{Outcome, gives, refuses}
 use Rattle.ciborium_value.specs.Tree.{Tree}
 use Rattle.ciborium_value.specs.View.{tree_of}
-use Rattle.ciborium_value.specs.declared.kind.Kind.{Kind}
 use Rattle.ciborium_value.specs.declared.tree.Value.{Value}
 use Rattle.cbor.specs.declared.answer.Refusal.{Refusal}
 use Rattle.cbor.specs.declared.answer.Refusal.TheVariants.{Memory}
 use Rattle.cbor.specs.declared.reading.Showing.{Showing}
+use Rattle.cbor.specs.declared.reading.Spelling.{Spelling}
+use Rattle.cbor.specs.declared.streams.Next.TheVariants.{Item, NoItem as NoNext}
 use Rattle.cbor.specs.Answer.{IsFrontRefused, refusal_behind, refused_text, wants_memory}
-use Rattle.cbor.specs.Forms.{formless_text}
 use Rattle.cbor.specs.Lines.{text_line}
-use Rattle.cbor.specs.Sequence.{AreItemsBefore, refused_item_text}
-use Rattle.cbor.specs.Shown.{shown_spelling, shown_tree}
-use Rattle.cbor.specs.Streams.{AreShownBehind, AreShownOf, IsReadNext, IsStreamShown, refused, shown_line, whole}
-use Rattle.cbor.proofs.ItemsInRow.{one-more-before}
+use Rattle.cbor.specs.Sequence.{refused_item_text}
+use Rattle.cbor.specs.Shown.{shown_spelling}
+use Rattle.cbor.specs.Spellings.{HasItemBefore, IsItem}
+use Rattle.cbor.specs.Streams.{AreItemsShown, IsFront, IsItemLine, IsJudged, IsStreamShown, IsTaken}
+use Rattle.cbor.specs.Streams.{ended, no_item, refused, refused_line, shown}
+use Rattle.cbor.proofs.AnsweredLines.{and-true}
+use Rattle.cbor.proofs.ReadBytes.{nothing-left}
 
 -- ---- one item
 
--- a reader of known bytes, of which some were taken, has others left
+-- a reader of known bytes, of which some were taken, has the others left
 pub what-is-left : (before after : Option (List ℕ)) (b s : List ℕ) → before ≡ Some b → Consumes before after s →
-    (left : List ℕ) × (after ≡ Some left)
+    (left : List ℕ) × (after ≡ Some left) × (b ≡ s ++ left)
 what-is-left None after b s e h = absurd cc
 what-is-left (Some xs) None b s e h = absurd h
-what-is-left (Some xs) (Some ys) b s e h = (ys, refl)
+what-is-left (Some xs) (Some ys) b s e h = (ys, refl, cc)
 
 -- as many were taken as the offset moved by
 pub taken-size : (before after : Option (List ℕ)) (b left : List ℕ) (size : ℕ) → before ≡ Some b → after ≡ Some left →
@@ -38,133 +42,168 @@ taken-size before after b left size e f (s, taken, count) =
     let sum : length b ≡ length s + length left = ap length split ∙ length-append s left in
     omega (arith, count, sum)
 
--- behind w the line of the item of this number is written, which is refused, but not for memory
-abbrev pub IsRefusalBehind : List ℕ → List ℕ → ℕ → Refusal → Option (List ℕ) → Type 0
-IsRefusalBehind place w n e after =
-    (wants_memory e ≡ false) × (after ≡ Some ((w ++ place) ++ text_line (refused_item_text n (refused_text e))))
+-- where nothing stands before a reader, all that is left is its own
+pub nothing-before : (taken : List ℕ) (held : Option (List ℕ)) (left : List ℕ) → (length taken == 0) ≡ true →
+    prepend_known taken held ≡ Some left → held ≡ Some left
+nothing-before taken None left e h = absurd cc
+nothing-before taken (Some xs) left e h = ap (λ (t : List ℕ). Some (t ++ xs)) (sym (nothing-left taken e)) ∙ h
+
+-- what is read at the front of an item is all of it
+whole-item : (spelling : Spelling) (s : List ℕ) (limit : ℕ) (v : Tree) (left : List ℕ) → AreItem s →
+    HasItemBefore spelling s limit v left → IsItem spelling s limit v
+whole-item spelling s limit v left i (t, item, is) =
+    let none : left ≡ [] = none_begins_another t left item.0 i.0 item.1 (rw (sym is) i.1) in
+    let same : t ≡ s = sym (append-nil t) ∙ ap (λ (x : List ℕ). t ++ x) (sym none) ∙ sym is in
+    subst (λ (x : List ℕ). IsItem spelling x limit v) same item
+
+pub item-judged : (spelling : Spelling) (s : List ℕ) (limit : ℕ) (r : Result Value Refusal) (left : List ℕ) →
+    AreItem s → IfOk r (λ v. HasItemBefore spelling s limit (tree_of v) left) →
+    IfErr r (λ e. IsFrontRefused spelling s limit e) → IsJudged spelling s limit r
+item-judged spelling s limit (Ok v) left i item refuses = whole-item spelling s limit (tree_of v) left i item
+item-judged spelling s limit (Err e) left i item refuses = refuses
+
+-- what is read at the front is there by its size
+pub front-read : (spelling : Spelling) (b : List ℕ) (limit : ℕ) (v : Value) (left : List ℕ) (size : ℕ) →
+    HasItemBefore spelling b limit (tree_of v) left → size + length left ≡ length b →
+    IsFront spelling b limit (Ok v) size × (drop size b ≡ left)
+front-read spelling b limit v left size (s, item, is) count =
+    let sum : length b ≡ length s + length left = ap length is ∙ length-append s left in
+    let long : length s ≡ size = omega (arith, sum, count) in
+    let same : s ≡ take size b = sym (take_at s left size long) ∙ ap (take size) (sym is) in (
+      (
+        omega (arith, count),
+        subst AreItem same (item.0, item.1),
+        subst (λ (x : List ℕ). IsItem spelling x limit (tree_of v)) same item,
+      ),
+      ap (drop size) is ∙ drop_at s left size long,
+    )
 
 -- a refusal is not one for memory where it is none with its offset counted so
 memory-behind : (p : ℕ) (e : Refusal) → wants_memory (refusal_behind p e) ≡ false → wants_memory e ≡ false
 memory-behind p Memory h = h
 memory-behind p other h = refl
 
-pub refused-shown : {E : Type 0} (place w : List ℕ) (n : ℕ) (e : Refusal) (text : List ℕ) (after : Option (List ℕ))
-    (r : Result Unit E) → (wants_memory e ≡ false) × (text ≡ refused_item_text n (refused_text e)) →
-    OnOk r (after ≡ Some ((w ++ place) ++ text_line text)) → OnOk r (IsRefusalBehind place w n e after)
-refused-shown place w n e text after (Ok u) (m, same) h =
-    (m, h ∙ ap (λ (t : List ℕ). Some ((w ++ place) ++ text_line t)) same)
-refused-shown place w n e text after (Err x) same h = tt
+pub refused-shown : {E : Type 0} (place w : List ℕ) (n offset : ℕ) (e f : Refusal) (text : List ℕ)
+    (after : Option (List ℕ)) (r : Result Unit E) → f ≡ refusal_behind offset e →
+    (wants_memory f ≡ false) × (text ≡ refused_item_text n (refused_text f)) →
+    OnOk r (after ≡ Some ((w ++ place) ++ text_line text)) →
+    OnOk r ((wants_memory e ≡ false) ×
+    (after ≡ Some (w ++ refused_line place n (refused_text (refusal_behind offset e)))))
+refused-shown place w n offset e f text after (Ok u) is (m, same) h = (
+  memory-behind offset e (rw is at m),
+  h ∙ ap Some (append_assoc w place (text_line text) ∙ ap (λ (t : List ℕ). w ++ (place ++ text_line t))
+      (same ∙ ap (λ (x : Refusal). refused_item_text n (refused_text x)) is)),
+)
+refused-shown place w n offset e f text after (Err x) is same h = tt
 
 -- ---- all items
 
--- of b this is left: the items before it are shown behind w, and the next has this number and begins at this offset
-abbrev pub AreShownSoFar : Showing → List ℕ → ℕ → List ℕ → Option (List ℕ) → Option (List ℕ) → ℕ → ℕ → Type 0
-AreShownSoFar showing b limit w left held number offset =
-    (trees : List Tree) × (shown : List Tree) × (rest : List ℕ) × (left ≡ Some rest) ×
-    AreItemsBefore (shown_spelling showing) b limit trees rest × AreShownOf showing trees shown ×
-    AreShownBehind showing w shown held ×
-    (number ≡ length trees + 1) × (offset + length rest ≡ length b)
-
--- one more is shown of one more item
-shown-of-more : (showing : Showing) (trees shown : List Tree) (v u : Tree) → AreShownOf showing trees shown →
-    shown_tree showing v ≡ gives u → AreShownOf showing (trees ++ (v ∷ [])) (shown ++ (u ∷ []))
-shown-of-more showing trees shown v u of form =
-    map-append (shown_tree showing) trees (v ∷ []) ∙
-    (ap₂ (λ (xs : List (Outcome Tree)) (x : Outcome Tree). xs ++ (x ∷ [])) of form ∙
-    sym (map-append (λ (t : Tree). gives t) shown (u ∷ [])))
-
--- at first nothing is shown
-pub none-shown : (showing : Showing) (b : List ℕ) (limit : ℕ) (w : List ℕ) (left held : Option (List ℕ)) →
-    left ≡ Some b → held ≡ Some w → AreShownSoFar showing b limit w left held 1 0
-none-shown showing b limit w left held e f =
-    ([], [], b, e, refl, refl, f ∙ ap Some (sym (append-nil w)), refl, omega arith)
+-- of b this is left, where the next item has this number and begins at this offset: with lines that show what is left,
+-- those so far show b behind w
+abbrev pub AreShownSoFar : List ℕ → Showing → ℕ → List ℕ → List ℕ → Option (List ℕ) → Option (List ℕ) → ℕ → ℕ →
+    Bool → Type 0
+AreShownSoFar place showing limit b w left held number offset whole =
+    (rest : List ℕ) × (lines : List ℕ) × (left ≡ Some rest) × (held ≡ Some (w ++ lines)) ×
+    ((all : Bool) (more : List ℕ) → AreItemsShown place showing limit number offset rest all more →
+    AreItemsShown place showing limit 1 0 b (whole && all) (lines ++ more))
 
 abbrev pub IsKept : Option (List ℕ) → Option (List ℕ) → Type 0
-IsKept left kept = (xs : List ℕ) → left ≡ Some xs → kept ≡ Some xs
+IsKept held kept = (xs : List ℕ) → held ≡ Some xs → kept ≡ Some xs
 
-module _ (place : List ℕ) (showing : Showing) (b : List ℕ) (limit : ℕ) (w : List ℕ) (left held : Option (List ℕ))
-    (number offset : ℕ) where
-  -- the output behind these items
-  abbrev behind : List Tree → List ℕ
-  behind trees = w ++ flat_map (shown_line showing) trees
+module _ (place : List ℕ) (showing : Showing) (limit : ℕ) where
+  -- at first nothing is shown
+  pub none-shown : (b w : List ℕ) (left held : Option (List ℕ)) → left ≡ Some b → held ≡ Some w →
+      AreShownSoFar place showing limit b w left held 1 0 true
+  none-shown b w left held e f = (b, [], e, f ∙ ap Some (sym (append-nil w)), λ all more h. h)
 
-  -- what is shown stays so where what waits is sent
-  pub shown-still : (now : Option (List ℕ)) → AreShownSoFar showing b limit w left held number offset →
-      IsKept held now → AreShownSoFar showing b limit w left now number offset
-  shown-still now (trees, shown, rest, e, a, of, same, count, at) keeps =
-      (trees, shown, rest, e, a, of, keeps (behind shown) same, count, at)
+  -- the line of an item, and those of what follows it
+  line-before : (number offset : ℕ) (s left line more : List ℕ) (is_shown all : Bool) → AreItem s →
+      IsItemLine place showing limit number offset s is_shown line →
+      AreItemsShown place showing limit (number + 1) (offset + length s) left all more →
+      AreItemsShown place showing limit number offset (s ++ left) (is_shown && all) (line ++ more)
+  line-before number offset s left line more true all i (v, u, item, form, is) h =
+      subst (λ (l : List ℕ). AreItemsShown place showing limit number offset (s ++ left) all (l ++ more)) (sym is)
+      (shown number offset s left v u all more item form h)
+  line-before number offset s left line more false all i (reason, tells, is) h =
+      subst (λ (l : List ℕ). AreItemsShown place showing limit number offset (s ++ left) false (l ++ more)) (sym is)
+      (refused number offset s left reason all more i tells h)
 
-  -- the input ends
-  pub all-shown : AreShownSoFar showing b limit w left held number offset →
-      ((xs : List ℕ) → left ≡ Some xs → xs ≡ []) → IsStreamShown place showing b limit w true held
-  all-shown (trees, shown, rest, e, a, of, same, count, at) ends =
-      whole trees shown held
-      (subst (λ (r : List ℕ). AreItemsBefore (shown_spelling showing) b limit trees r) (ends rest e) a) of same
-
-  module _ (now : Option (List ℕ)) where
-    -- one more item is read and shown
-    pub one-more-shown : (next : Option (List ℕ)) (v : Value) (size : ℕ) (u : Tree) (behind-it : ℕ) →
-        behind-it ≡ offset + size →
-        AreShownSoFar showing b limit w left held number offset →
-        ((xs : List ℕ) → left ≡ Some xs → IsReadNext (shown_spelling showing) xs limit next (Ok (v, size))) →
-        shown_tree showing (tree_of v) ≡ gives u →
-        ((ys : List ℕ) → held ≡ Some ys → now ≡ Some (ys ++ shown_line showing u)) →
-        AreShownSoFar showing b limit w next now (number + 1) behind-it
-    one-more-shown next v size u behind-it moved (trees, shown, rest, e, a, of, same, count, at) read form written =
-        let item = read rest e in
-        let more : length (trees ++ (tree_of v ∷ [])) ≡ length trees + 1 = length-append trees (tree_of v ∷ []) in (
-          trees ++ (tree_of v ∷ []),
-          shown ++ (u ∷ []),
-          item.0,
-          item.2,
-          one-more-before (shown_spelling showing) limit trees b rest item.0 (tree_of v) a item.1,
-          shown-of-more showing trees shown (tree_of v) u of form,
-          written (behind shown) same ∙ ap Some (flat_map_more (shown_line showing) w shown u),
-          omega (arith, more, count),
-          omega (arith, moved, item.3, at),
+  module _ (b w : List ℕ) (left held kept : Option (List ℕ)) (number offset : ℕ) (whole : Bool)
+      (so_far : AreShownSoFar place showing limit b w left held number offset whole) (keeps : IsKept held kept) where
+    -- the input ends
+    pub all-shown : ((xs : List ℕ) → left ≡ Some xs → xs ≡ []) → IsStreamShown place showing b limit w whole kept
+    all-shown ends =
+        let (rest, lines, e, f, so) = so_far in (
+          lines ++ [],
+          subst (λ (all : Bool). AreItemsShown place showing limit 1 0 b all (lines ++ [])) (and-true whole)
+              (so true [] (subst (λ (r : List ℕ). AreItemsShown place showing limit number offset r true [])
+              (sym (ends rest e)) (ended number offset))),
+          keeps _ f ∙ ap (λ (l : List ℕ). Some (w ++ l)) (sym (append-nil lines)),
         )
 
-    -- the next item is refused, and the line says so
-    pub first-refused : (e f : Refusal) → f ≡ refusal_behind offset e →
-        AreShownSoFar showing b limit w left held number offset →
-        ((xs : List ℕ) → left ≡ Some xs → (0 < length xs) × IsFrontRefused (shown_spelling showing) xs limit e) →
-        ((ys : List ℕ) → held ≡ Some ys → IsRefusalBehind place ys number f now) →
-        IsStreamShown place showing b limit w false now
-    first-refused e f behind-is (trees, shown, rest, is, a, of, same, count, at) read written =
-        let (some, why) = read rest is in
-        let line = written (behind shown) same in
-        let here : offset ≡ length b - length rest = omega (arith, at) in
-        let text = λ (n : ℕ). Some ((behind shown ++ place) ++ text_line (refused_item_text n (refused_text f))) in
-        refused trees shown rest (refused_text f) now a of some
-        (inl (
-          e,
-          why,
-          memory-behind offset e (rw behind-is at line.0),
-          ap refused_text (behind-is ∙ ap (λ (p : ℕ). refusal_behind p e) here),
-        ))
-        (line.1 ∙ ap text count)
-
-    -- the next item has no form, and the line says so
-    pub first-formless : (next : Option (List ℕ)) (v : Value) (size : ℕ) (k : Kind) →
-        AreShownSoFar showing b limit w left held number offset →
+    -- one more item has its line
+    pub one-more-shown : (next now : Option (List ℕ)) (judged : Result Value Refusal) (size behind : ℕ)
+        (is_shown : Bool) → behind ≡ offset + size →
         ((xs : List ℕ) → left ≡ Some xs →
-        (0 < length xs) × IsReadNext (shown_spelling showing) xs limit next (Ok (v, size))) →
-        shown_tree showing (tree_of v) ≡ refuses k →
-        ((ys : List ℕ) → held ≡ Some ys →
-        now ≡ Some ((ys ++ place) ++ text_line (refused_item_text number (formless_text k)))) →
-        IsStreamShown place showing b limit w false now
-    first-formless next v size k (trees, shown, rest, is, a, of, same, count, at) read form written =
-        let (some, item) = read rest is in
-        let text = λ (n : ℕ). Some ((behind shown ++ place) ++ text_line (refused_item_text n (formless_text k))) in
-        refused trees shown rest (formless_text k) now a of some
-        (inr (tree_of v, item.0, k, item.1, form, refl)) (written (behind shown) same ∙ ap text count)
+        (0 < length xs) × IsTaken (shown_spelling showing) xs limit next (Item judged size)) →
+        ((s ys : List ℕ) → IsJudged (shown_spelling showing) s limit judged → kept ≡ Some ys →
+        (line : List ℕ) × IsItemLine place showing limit number offset s is_shown line ×
+        (now ≡ Some (ys ++ line))) →
+        AreShownSoFar place showing limit b w next now (number + 1) behind (whole && is_shown)
+    one-more-shown next now judged size behind is_shown moved read written =
+        let (rest, lines, e, f, so) = so_far in
+        let (some, ((fits, item, is), after)) = read rest e in
+        let (line, tells, same) = written (take size rest) (w ++ lines) is (keeps _ f) in
+        let at : behind ≡ offset + length (take size rest) =
+        moved ∙ ap (λ (n : ℕ). offset + n) (sym (length-take-le size rest fits)) in (
+          drop size rest,
+          lines ++ line,
+          after,
+          same ∙ ap Some (append_assoc w lines line),
+          λ (all : Bool) (more : List ℕ) h.
+              subst (λ (l : List ℕ). AreItemsShown place showing limit 1 0 b ((whole && is_shown) && all) l)
+              (sym (append_assoc lines line more))
+              (subst (λ (t : Bool). AreItemsShown place showing limit 1 0 b t (lines ++ (line ++ more)))
+              (and-assoc whole is_shown all)
+              (so (is_shown && all) (line ++ more)
+              (subst
+              (λ (r : List ℕ). AreItemsShown place showing limit number offset r (is_shown && all) (line ++ more))
+              (take-append-drop size rest)
+              (line-before number offset (take size rest) (drop size rest) line more is_shown all item tells
+              (subst (λ (n : ℕ). AreItemsShown place showing limit (number + 1) n (drop size rest) all more) at h))))),
+        )
+      where
+        and-assoc : (t u v : Bool) → (t && (u && v)) ≡ ((t && u) && v)
+        and-assoc true u v = refl
+        and-assoc false u v = refl
 
--- what is shown stays so where what waits is sent at the end
+    -- no item comes next, and the line says so
+    pub none-follows : (now : Option (List ℕ)) (e : Refusal) →
+        ((xs : List ℕ) → left ≡ Some xs →
+        (0 < length xs) × IsTaken (shown_spelling showing) xs limit None (NoNext e)) →
+        ((ys : List ℕ) → kept ≡ Some ys → (wants_memory e ≡ false) ×
+        (now ≡ Some (ys ++ refused_line place number (refused_text (refusal_behind offset e))))) →
+        IsStreamShown place showing b limit w false now
+    none-follows now e read written =
+        let (rest, lines, is, f, so) = so_far in
+        let (some, (refuses, why, none)) = read rest is in
+        let (memory, same) = written (w ++ lines) (keeps _ f) in
+        let line = refused_line place number (refused_text (refusal_behind offset e)) in (
+          lines ++ line,
+          subst (λ (all : Bool). AreItemsShown place showing limit 1 0 b all (lines ++ line)) (and-false whole)
+              (so false line
+              (no_item number offset rest (refused_text (refusal_behind offset e)) why some none
+              (inl (e, refuses, memory, refl)))),
+          same ∙ ap Some (append_assoc w lines line),
+        )
+      where
+        and-false : (t : Bool) → (t && false) ≡ false
+        and-false true = refl
+        and-false false = refl
+
+-- what is shown stays so where what waits is sent, or the output is flushed
 pub shown-sent : (place : List ℕ) (showing : Showing) (b : List ℕ) (limit : ℕ) (w : List ℕ)
     (held now : Option (List ℕ)) →
     IsKept held now → (all : Bool) → IsStreamShown place showing b limit w all held →
     IsStreamShown place showing b limit w all now
-shown-sent place showing b limit w held now keeps all (whole trees shown was a of same) =
-    whole trees shown now a of (keeps (w ++ flat_map (shown_line showing) shown) same)
-shown-sent place showing b limit w held now keeps all (refused trees shown rest reason was a of some f line) =
-    refused trees shown rest reason now a of some f (keeps _ line)
+shown-sent place showing b limit w held now keeps all (lines, shows, e) = (lines, shows, keeps (w ++ lines) e)

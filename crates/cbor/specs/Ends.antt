@@ -1,7 +1,8 @@
 -- The status that a run ends with.
 use Rattle.std.specs.Prelude.{◌≡◌, ◌⊎◌, ℕ, ◌≤◌, Bool, true, false, if◌then◌else◌, Result, Ok, Err}
 use Rattle.cbor.specs.declared.command.Command.{Command}
-use Rattle.cbor.specs.declared.command.Command.TheVariants.{Answer, Sort, Show, Dump, Tell}
+use Rattle.cbor.specs.declared.command.Command.TheVariants.{Answer, Sort, Show, ShowExactly, Dump}
+use Rattle.cbor.specs.declared.command.Command.TheVariants.{Encode, Tell}
 use Rattle.cbor.specs.declared.fault.Fault.{Fault}
 use Rattle.cbor.specs.declared.fault.Fault.TheVariants as faults
 use Rattle.cbor.specs.declared.reading.Reading.TheVariants as readings
@@ -14,9 +15,13 @@ tells_devices (Answer readings.Sequence) = false
 tells_devices (Answer (readings.Form order n)) = true
 tells_devices (Answer (readings.Notation layout n)) = true
 tells_devices (Answer readings.Dump) = true
+tells_devices (Answer readings.Exact) = true
+tells_devices (Answer (readings.Encode n)) = true
 tells_devices (Sort order) = false
 tells_devices (Show showing n) = true
+tells_devices ShowExactly = true
 tells_devices Dump = true
+tells_devices (Encode n) = true
 tells_devices (Tell topic) = false
 
 -- the status that a fault ends a run with

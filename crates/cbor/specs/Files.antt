@@ -3,7 +3,8 @@
 use Rattle.std.specs.Prelude.{◌≡◌, ℕ, ◌==◌, ◌&&◌, Bool, true, List, [], ◌∷◌, ◌++◌, length, get_or}
 use Rattle.std.specs.Prelude.{if◌then◌else◌, Option, Some, None, codes}
 use Rattle.cbor.specs.declared.command.Command.{Command}
-use Rattle.cbor.specs.declared.command.Command.TheVariants.{Show, Dump}
+use Rattle.cbor.specs.declared.command.Command.TheVariants.{Show, ShowExactly, Dump}
+use Rattle.cbor.specs.ExactStreams.{IsShownExactly}
 use Rattle.cbor.specs.Streams.{IsDumpedBehind, IsStreamShown}
 
 -- a name, and the bytes that it stands for
@@ -33,6 +34,7 @@ AreInputs held input (i ∷ inputs) = (given_by held input i.0 ≡ Some i.1) ×
 abbrev pub IsInputShown : Command → Input → List ℕ → Bool → Option (List ℕ) → Type 0
 IsInputShown (Show showing limit) i w all after =
     IsStreamShown (i.0 ++ codes ": ") showing i.1 limit w all after
+IsInputShown ShowExactly i w all after = IsShownExactly (i.0 ++ codes ": ") i.1 w all after
 IsInputShown Dump i w all after = IsDumpedBehind i.1 w all after
 IsInputShown other i w all after = ⊥
 

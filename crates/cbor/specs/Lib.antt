@@ -1,6 +1,10 @@
 pub mod Answer
 pub mod Dumped
+pub mod Encoded
+pub mod EncodedLines
 pub mod Ends
+pub mod Exact
+pub mod ExactStreams
 pub mod Files
 pub mod Forms
 pub mod Line

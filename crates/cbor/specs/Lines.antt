@@ -8,11 +8,13 @@ use Rattle.std.specs.Io.BufRead.{first_piece, drop_through, strip_last}
 use Rattle.ciborium_value.specs.Tree.{Tree}
 use Rattle.cbor.specs.declared.reading.Reading.{Reading}
 use Rattle.cbor.specs.declared.reading.Reading.TheVariants.{Item, Sequence, Form, Notation}
-use Rattle.cbor.specs.declared.reading.Reading.TheVariants.{Dump}
+use Rattle.cbor.specs.declared.reading.Reading.TheVariants.{Dump, Encode, Exact}
 use Rattle.cbor.specs.declared.reading.Spelling.{Spelling}
 use Rattle.cbor.specs.declared.reading.Spelling.TheVariants.{Any}
 use Rattle.cbor.specs.Answer.{IsMeant, TellsRefusal}
 use Rattle.cbor.specs.Dumped.{IsDumpText, TellsNoDump}
+use Rattle.cbor.specs.Encoded.{IsEncodingText, TellsNoTree}
+use Rattle.cbor.specs.Exact.{IsExactText, TellsNotExact}
 use Rattle.cbor.specs.Forms.{IsFormText, TellsNoForm}
 use Rattle.cbor.specs.Line.{tree_text}
 use Rattle.cbor.specs.Sequence.{IsSequenceText, TellsNoSequence}
@@ -38,8 +40,8 @@ abbrev pub AreMeant : Spelling → List ℕ → ℕ → List ℕ → List Tree �
 AreMeant spelling b limit rest trees = AreLines (λ line tree. IsMeant spelling line limit tree) b
     rest trees
 
--- a line is an item, a sequence, or an item that has a form, as it is read, and the text is the
--- answer that says so
+-- a line is an item, a sequence, an item that has a form, or notation, as it is read, and the text
+-- is the answer that says so
 abbrev pub IsOkText : Reading → List ℕ → List ℕ → Type 0
 IsOkText (Item spelling limit) line text = (v : Tree) × IsMeant spelling line limit v ×
     (text ≡ tree_text v)
@@ -47,6 +49,8 @@ IsOkText Sequence line text = IsSequenceText line 256 text
 IsOkText (Form order limit) line text = IsFormText order line limit text
 IsOkText (Notation layout limit) line text = IsNotationText layout line limit text
 IsOkText Dump line text = IsDumpText line text
+IsOkText Exact line text = IsExactText line text
+IsOkText (Encode limit) line text = IsEncodingText line text
 
 -- it is not, and the text is the answer that says why
 abbrev pub IsRefusedText : Reading → List ℕ → List ℕ → Type 0
@@ -55,6 +59,8 @@ IsRefusedText Sequence line text = TellsNoSequence line 256 text
 IsRefusedText (Form order limit) line text = TellsNoForm order line limit text
 IsRefusedText (Notation layout limit) line text = TellsRefusal Any line limit text
 IsRefusedText Dump line text = TellsNoDump line text
+IsRefusedText Exact line text = TellsNotExact line text
+IsRefusedText (Encode limit) line text = TellsNoTree limit line text
 
 -- the text answers a line that is read so, and says whether it is as it is asked for
 abbrev pub AnswersLine : Reading → List ℕ → Bool → List ℕ → Type 0

@@ -1,8 +1,10 @@
 -- What is written for an input as bytes, not in hex: a sequence of items (RFC 8742), or one item,
 -- which is dumped.
-use Rattle.std.specs.Prelude.{◌≡◌, ◌⊎◌, ℕ, ◌+◌, ◌-◌, ◌<◌, Bool, true, false, List, [], ◌++◌, length}
-use Rattle.std.specs.Prelude.{map, Option, Some, Result, MatchResult}
-use Rattle.std.specs.List.{flat_map}
+use Rattle.std.specs.Prelude.{◌≡◌, ◌⊎◌, ℕ, ◌+◌, ◌<◌, ◌≤◌, Bool, true, false, List, [], ◌++◌, length}
+use Rattle.std.specs.Prelude.{take, drop, Option, Some, Result, MatchResult}
+use Rattle.ciborium_ll.specs.ItemLengths.{IsNoItem}
+use Rattle.ciborium_ll.specs.Levels.{AreItem}
+use Rattle.ciborium_ll.specs.declared.item_heads.NoItem.{NoItem}
 use Rattle.ciborium_value.specs.Taken.{gives, refuses}
 use Rattle.ciborium_value.specs.Tree.{Tree}
 use Rattle.ciborium_value.specs.View.{tree_of}
@@ -11,25 +13,23 @@ use Rattle.ciborium_value.specs.declared.tree.Value.{Value}
 use Rattle.cbor.specs.declared.answer.Refusal.{Refusal as Reason}
 use Rattle.cbor.specs.declared.reading.Showing.{Showing}
 use Rattle.cbor.specs.declared.reading.Spelling.{Spelling}
+use Rattle.cbor.specs.declared.streams.Next.{Next}
+use Rattle.cbor.specs.declared.streams.Next.TheVariants as next
 use Rattle.cbor.specs.Answer.{IsFrontRefused, refusal_behind, refused_text, wants_memory}
 use Rattle.cbor.specs.Dumped.{IsDumpOf}
 use Rattle.cbor.specs.Forms.{formless_text}
 use Rattle.cbor.specs.Lines.{text_line}
-use Rattle.cbor.specs.Sequence.{AreItemsBefore, refused_item_text}
+use Rattle.cbor.specs.Sequence.{refused_item_text}
 use Rattle.cbor.specs.Shown.{shown_spelling, shown_text, shown_tree}
-use Rattle.cbor.specs.Spellings.{HasItemBefore}
+use Rattle.cbor.specs.Spellings.{HasItemBefore, IsItem}
 
 -- a tree as it is shown, and a line feed
 abbrev pub shown_line : Showing → Tree → List ℕ
 shown_line showing v = text_line (shown_text showing v)
 
--- of items that mean these trees the others are shown, one of each and in order
-abbrev pub AreShownOf : Showing → List Tree → List Tree → Type 0
-AreShownOf showing trees shown = map (shown_tree showing) trees ≡ map gives shown
-
--- trees are shown behind w, and nothing else is written
-abbrev pub AreShownBehind : Showing → List ℕ → List Tree → Option (List ℕ) → Type 0
-AreShownBehind showing w trees after = after ≡ Some (w ++ flat_map (shown_line showing) trees)
+-- the line that says in which place an item of this number is refused, and why
+abbrev pub refused_line : List ℕ → ℕ → List ℕ → List ℕ
+refused_line place number reason = place ++ text_line (refused_item_text number reason)
 
 -- behind so many other bytes, b begins with no item within so many levels, and this is the reason,
 -- with an offset that is counted from the first of those; or with one that has no form
@@ -41,23 +41,59 @@ TellsNoItem showing skipped b limit reason =
     HasItemBefore (shown_spelling showing) b limit v left × (shown_tree showing v ≡ refuses k) ×
     (reason ≡ formless_text k))
 
--- the items of b are shown behind w, each within so many levels: of all of b, which is a sequence,
--- or of those before the first that is refused or has no form, and then comes the line that says
--- in which place, its number, counted from 1, and why, with an offset counted from the first byte
--- of b
-pub data IsStreamShown (place : List ℕ) (showing : Showing) (b : List ℕ) (limit : ℕ)
-    (w : List ℕ) : Bool → Option (List ℕ) → Type 0 where
-  whole : (trees shown : List Tree) (after : Option (List ℕ)) →
-      AreItemsBefore (shown_spelling showing) b limit trees [] → AreShownOf showing trees shown →
-      AreShownBehind showing w shown after →
-      IsStreamShown place showing b limit w true after
-  refused : (trees shown : List Tree) (rest reason : List ℕ) (after : Option (List ℕ)) →
-      AreItemsBefore (shown_spelling showing) b limit trees rest →
-      AreShownOf showing trees shown → 0 < length rest →
-      TellsNoItem showing (length b - length rest) rest limit reason →
-      after ≡ Some (((w ++ flat_map (shown_line showing) shown) ++ place) ++ text_line
-      (refused_item_text (length trees + 1) reason)) →
-      IsStreamShown place showing b limit w false after
+-- what is left of a stream is shown by these lines, where its next item has this number, counted
+-- from 1, and begins at this offset; and whether no item is refused
+pub data AreItemsShown (place : List ℕ) (showing : Showing) (limit : ℕ) :
+    ℕ → ℕ → List ℕ → Bool → List ℕ → Type 0 where
+  -- nothing is left
+  ended : (number offset : ℕ) → AreItemsShown place showing limit number offset [] true []
+  -- an item s at the front is shown, and then what follows it
+  shown : (number offset : ℕ) (s left : List ℕ) (v u : Tree) (all : Bool) (lines : List ℕ) →
+      IsItem (shown_spelling showing) s limit v → shown_tree showing v ≡ gives u →
+      AreItemsShown place showing limit (number + 1) (offset + length s) left all lines →
+      AreItemsShown place showing limit number offset (s ++ left) all
+      (shown_line showing u ++ lines)
+  -- a well-formed item s at the front is refused, and then what follows it is shown
+  refused : (number offset : ℕ) (s left reason : List ℕ) (all : Bool) (lines : List ℕ) →
+      AreItem s → TellsNoItem showing offset s limit reason →
+      AreItemsShown place showing limit (number + 1) (offset + length s) left all lines →
+      AreItemsShown place showing limit number offset (s ++ left) false
+      (refused_line place number reason ++ lines)
+  -- no well-formed item of at most 256 levels stands at the front: that is the end
+  no_item : (number offset : ℕ) (b reason : List ℕ) (why : NoItem) → 0 < length b →
+      IsNoItem b why → TellsNoItem showing offset b limit reason →
+      AreItemsShown place showing limit number offset b false (refused_line place number reason)
+
+-- the stream b is shown behind w, each item within so many levels, and nothing else is written
+abbrev pub IsStreamShown : List ℕ → Showing → List ℕ → ℕ → List ℕ → Bool → Option (List ℕ) →
+    Type 0
+IsStreamShown place showing b limit w all after = (lines : List ℕ) ×
+    AreItemsShown place showing limit 1 0 b all lines × (after ≡ Some (w ++ lines))
+
+-- the item s is judged so: it is a value, spelled so and within so many levels, or is refused
+abbrev pub IsJudged : Spelling → List ℕ → ℕ → Result Value Reason → Type 0
+IsJudged spelling s limit judged = MatchResult judged
+    (λ value. IsItem spelling s limit (tree_of value)) (λ e. IsFrontRefused spelling s limit e)
+
+-- an item of so many bytes begins b, and is judged so
+abbrev pub IsFront : Spelling → List ℕ → ℕ → Result Value Reason → ℕ → Type 0
+IsFront spelling b limit judged size = (size ≤ length b) × AreItem (take size b) ×
+    IsJudged spelling (take size b) limit judged
+
+-- of the bytes b an item was taken, which is judged so, or none stands at their front
+abbrev pub IsTaken : Spelling → List ℕ → ℕ → Option (List ℕ) → Next → Type 0
+IsTaken spelling b limit after (next.Item judged size) = IsFront spelling b limit judged size ×
+    (after ≡ Some (drop size b))
+IsTaken spelling b limit after (next.NoItem e) = IsFrontRefused spelling b limit e ×
+    (why : NoItem) × IsNoItem b why
+
+-- the line of an item s, which is shown or not, has this number and begins at this offset
+abbrev pub IsItemLine : List ℕ → Showing → ℕ → ℕ → ℕ → List ℕ → Bool → List ℕ → Type 0
+IsItemLine place showing limit number offset s true line = (v : Tree) × (u : Tree) ×
+    IsItem (shown_spelling showing) s limit v × (shown_tree showing v ≡ gives u) ×
+    (line ≡ shown_line showing u)
+IsItemLine place showing limit number offset s false line = (reason : List ℕ) ×
+    TellsNoItem showing offset s limit reason × (line ≡ refused_line place number reason)
 
 -- of the bytes b the item at the front was read, spelled so and within so many levels, and is the
 -- value, of so many bytes, or is refused for this reason
@@ -68,10 +104,9 @@ IsReadNext spelling b limit after next = MatchResult next
     (after ≡ Some left) × (item.1 + length left ≡ length b))
     (λ reason. IsFrontRefused spelling b limit reason)
 
--- an item that has a meaning, spelled so and within so many levels, begins these bytes
-abbrev pub HoldsItem : Spelling → List ℕ → ℕ → Type 0
-HoldsItem spelling b limit = (v : Tree) × (left : List ℕ) ×
-    HasItemBefore spelling b limit v left
+-- a well-formed item begins these bytes
+abbrev pub HoldsItem : List ℕ → Type 0
+HoldsItem b = (size : ℕ) × (size ≤ length b) × AreItem (take size b)
 
 -- the lines of a dump: behind the reason in which that of no item ends stands a line feed
 abbrev pub dump_lines : Bool → List ℕ → List ℕ

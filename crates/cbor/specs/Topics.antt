@@ -17,6 +17,10 @@ topic_text Help =
     codes "its deterministic one: bf02000100ff gives ok a201000200\n" ++
     codes "  cbor diag [--indent] [limit]          " ++
     codes "its diagnostic notation: a1616101 gives {\"a\": 1}\n" ++
+    codes "  cbor diag --exact                     " ++
+    codes "with its very heads: 9f1800ff gives [_ 0_0]\n" ++
+    codes "  cbor encode [limit]                   " ++
+    codes "the encoding of notation: [1, h'02'] gives 82014102\n" ++
     codes "  cbor seq                              each line's items: 0102 gives ok 01 02\n" ++
     codes "  cbor dump                             " ++
     codes "its heads, each with what it says, and an empty line\n" ++
@@ -25,6 +29,8 @@ topic_text Help =
     codes "  cbor diag --binary [--indent] [limit] [file..]\n" ++
     codes "                                        " ++
     codes "each item of files: cbor diag --binary a.cbor b.cbor\n" ++
+    codes "  cbor diag --binary --exact [file..]   " ++
+    codes "with its very heads: cbor diag --binary --exact a.cbor\n" ++
     codes "  cbor read --binary [--det [--core]] [limit] [file..]\n" ++
     codes "                                        " ++
     codes "the same in hex: cbor read --binary a.cbor\n" ++
@@ -33,6 +39,8 @@ topic_text Help =
     codes "in deterministic hex: cbor canon --binary a.cbor\n" ++
     codes "  cbor dump --binary [file..]           " ++
     codes "the heads of a file's item: cbor dump --binary a.cbor\n" ++
+    codes "  cbor encode --binary [limit]          " ++
+    codes "the lines' encodings as bytes, one behind the other\n" ++
     codes "  cbor --help, -h, cbor --version       this page, and the version\n" ++
     codes "\n" ++
     codes "--det takes deterministic encodings alone, whose keys are " ++

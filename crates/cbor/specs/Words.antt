@@ -8,7 +8,8 @@ use Rattle.std.specs.Str.Parse.{IsNumeral, digits_value}
 use Rattle.ciborium_value.specs.declared.key_order.KeyOrder.{KeyOrder}
 use Rattle.ciborium_value.specs.declared.key_order.KeyOrder.TheVariants.{LengthFirst, Bytewise}
 use Rattle.cbor.specs.declared.command.Command.{Command}
-use Rattle.cbor.specs.declared.command.Command.TheVariants.{Answer, Sort, Show, Dump, Tell}
+use Rattle.cbor.specs.declared.command.Command.TheVariants.{Answer, Sort, Show, ShowExactly, Dump}
+use Rattle.cbor.specs.declared.command.Command.TheVariants.{Encode, Tell}
 use Rattle.cbor.specs.declared.command.Topic.TheVariants.{Help, Version}
 use Rattle.cbor.specs.declared.reading.Layout.{Layout}
 use Rattle.cbor.specs.declared.reading.Layout.TheVariants.{OneLine, Indented}
@@ -57,6 +58,8 @@ command_words (Answer readings.Sequence) = codes "seq" ∷ []
 command_words (Answer (readings.Form order n)) = codes "canon" ∷ order_flags order
 command_words (Answer (readings.Notation layout n)) = codes "diag" ∷ layout_flags layout
 command_words (Answer readings.Dump) = codes "dump" ∷ []
+command_words (Answer readings.Exact) = codes "diag" ∷ (codes "--exact" ∷ [])
+command_words (Answer (readings.Encode n)) = codes "encode" ∷ []
 command_words (Sort order) = codes "sort" ∷ order_flags order
 command_words (Show (showings.Encoding spelling) n) =
     codes "read" ∷ (codes "--binary" ∷ spelling_flags spelling)
@@ -64,7 +67,9 @@ command_words (Show (showings.Notation layout) n) =
     codes "diag" ∷ (codes "--binary" ∷ layout_flags layout)
 command_words (Show (showings.Form order) n) =
     codes "canon" ∷ (codes "--binary" ∷ order_flags order)
+command_words ShowExactly = codes "diag" ∷ (codes "--binary" ∷ (codes "--exact" ∷ []))
 command_words Dump = codes "dump" ∷ (codes "--binary" ∷ [])
+command_words (Encode n) = codes "encode" ∷ (codes "--binary" ∷ [])
 command_words (Tell Help) = codes "--help" ∷ []
 command_words (Tell Version) = codes "--version" ∷ []
 
@@ -75,9 +80,13 @@ command_limit (Answer readings.Sequence) = None
 command_limit (Answer (readings.Form order n)) = Some n
 command_limit (Answer (readings.Notation layout n)) = Some n
 command_limit (Answer readings.Dump) = None
+command_limit (Answer readings.Exact) = None
+command_limit (Answer (readings.Encode n)) = Some n
 command_limit (Sort order) = None
 command_limit (Show showing n) = Some n
+command_limit ShowExactly = None
 command_limit Dump = None
+command_limit (Encode n) = Some n
 command_limit (Tell topic) = None
 
 -- the words are those for a command, and a limit behind them where it takes one
@@ -101,6 +110,7 @@ AskForNothing words = (command : Command) → ¬ AskFor words command
 -- whether files may be named behind the words for a command and its limit
 abbrev pub takes_files : Command → Bool
 takes_files (Show showing n) = true
+takes_files ShowExactly = true
 takes_files Dump = true
 takes_files other = false
 

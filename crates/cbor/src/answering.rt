@@ -10,16 +10,18 @@ ghost use Rattle.cbor.specs.Answer.{IsMeant, TellsRefusal, refused_text, wants_m
 ghost use Rattle.cbor.specs.Line.{IsLineAnswer, tree_text};
 ghost use Rattle.cbor.specs.Lines.{AnswersLine, AreAnswered, MayBeAnswer, text_line};
 ghost use Rattle.cbor.specs.Sequence.{IsSequenceAnswer};
-ghost use Rattle.cbor.specs.declared.reading.Reading.TheVariants.{Dump, Form, Item, Notation};
-ghost use Rattle.cbor.specs.declared.reading.Reading.TheVariants.{Sequence};
+ghost use Rattle.cbor.specs.declared.reading.Reading.TheVariants.{Dump, Encode, Exact, Form};
+ghost use Rattle.cbor.specs.declared.reading.Reading.TheVariants.{Item, Notation, Sequence};
 ghost use Rattle.cbor.specs.declared.reading.Spelling.TheVariants.{Any, Deterministic};
 
 use crate::answer::{Refusal, name_want};
 use crate::digits::decode_line;
 use crate::dumping::write_dump;
+use crate::exact::write_exact;
 use crate::fault::Fault;
 use crate::items::{push_encoding, read_item};
 use crate::lines::{next_line, put_text, send_waiting};
+use crate::notation::read_notation;
 use crate::reading::{Layout, Reading, Spelling};
 use crate::rooms::Rooms;
 use crate::sequences::answer_items;
@@ -120,6 +122,20 @@ fn answer_dump(alloc: Global, line: &[u8], rooms: &mut Rooms) -> Result<bool, Al
     }
 }
 
+// Makes `rooms.text` the notation that shows the very heads of a line that is read as one item, and
+// says whether it is one.
+fn answer_exact(alloc: Global, line: &[u8], rooms: &mut Rooms) -> Result<bool, AllocError>
+    ensures { IfOk result (λ is_ok. AnswersLine Exact line.now is_ok rooms.new.text.items) }
+{
+    match decode_line(line, &mut rooms.bytes) {
+        Ok(()) => write_exact(alloc, &rooms.bytes, &mut rooms.text),
+        Err(refusal) => {
+            write_refusal(refusal, &mut rooms.text)?;
+            Ok(false)
+        }
+    }
+}
+
 // Answers a line as `answer_item` does, but with the deterministic encoding of its item (RFC 8949,
 // section 4.2), however the line spells it: bignums are folded, and the pairs of each map, inner
 // maps first, sorted by their keys in this order. An item that has none is answered `duplicate`,
@@ -168,6 +184,25 @@ fn answer_diag(
     };
     rooms.text.clear();
     push_notation(&value, layout, &mut rooms.text)?;
+    Ok(true)
+}
+
+// Makes `rooms.text` the encoding in hex of the value that a line of diagnostic notation denotes
+// (RFC 8949, section 8), or why it denotes none, and says whether it denotes one.
+fn answer_encoding(
+    alloc: Global,
+    line: &[u8],
+    limit: usize,
+    rooms: &mut Rooms,
+) -> Result<bool, AllocError>
+    ensures { IfOk result (λ is_ok.
+        AnswersLine (Encode limit) line.now is_ok rooms.new.text.items) }
+{
+    let Some(value) = read_notation(alloc, line, limit, &mut rooms.text)? else {
+        return Ok(false);
+    };
+    rooms.text.clear();
+    push_encoding(&value, &mut rooms.bytes, &mut rooms.text)?;
     Ok(true)
 }
 
@@ -251,6 +286,8 @@ fn answer_reading(
         Reading::Form(order, limit) => answer_canon(alloc, line, order, limit, rooms),
         Reading::Notation(layout, limit) => answer_diag(alloc, line, layout, limit, rooms),
         Reading::Dump => answer_dump(alloc, line, rooms),
+        Reading::Exact => answer_exact(alloc, line, rooms),
+        Reading::Encode(limit) => answer_encoding(alloc, line, limit, rooms),
     }
 }
 

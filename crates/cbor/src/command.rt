@@ -17,8 +17,14 @@ pub enum Command {
     /// To show each item of the input, which is a sequence as bytes (RFC 8742), in this way and
     /// within this many levels.
     Show(Showing, usize),
+    /// To show each item of the input, which is a sequence as bytes (RFC 8742), by the notation of
+    /// its very heads.
+    ShowExactly,
     /// To dump the input, which is one item as bytes.
     Dump,
+    /// To write the encodings of the values that the lines of the input denote, within this many
+    /// levels, as bytes (RFC 8742).
+    Encode(usize),
     /// To print something about the program itself.
     Tell(Topic),
 }
@@ -30,7 +36,9 @@ impl Command {
     {
         match self {
             Command::Show(..) | Command::Dump => true,
+            Command::ShowExactly => true,
             Command::Answer(_) | Command::Sort(_) | Command::Tell(_) => false,
+            Command::Encode(_) => false,
         }
     }
 
@@ -43,6 +51,7 @@ impl Command {
             Command::Answer(Reading::Item(..) | Reading::Sequence) => false,
             Command::Sort(_) | Command::Tell(_) => false,
             Command::Answer(_) | Command::Show(..) | Command::Dump => true,
+            Command::ShowExactly | Command::Encode(_) => true,
         }
     }
 }

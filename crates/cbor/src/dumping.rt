@@ -154,28 +154,37 @@ fn push_payload(
         (text.new.items ≡ text.old.items ++ payload_words header payload.now) }
 {
     match header {
-        Header::Text(Some(_)) => push_quoted(alloc, payload, text),
+        Header::Text(Some(_)) => {
+            text.push(b' ')?;
+            push_quoted(alloc, payload, text)
+        }
         _ => Ok(()),
     }
 }
 
-// Appends a space and a text in quotation marks. It is UTF-8, so that error is unreachable in
-// practice.
-fn push_quoted(alloc: Global, payload: &[u8], text: &mut Vec<u8>) -> Result<(), AllocError>
-    ensures { OnOk result
-        (text.new.items ≡ text.old.items ++ (codes " " ++ quoted payload.now)) }
+/// Appends a text in quotation marks, as diagnostic notation has it (RFC 8949, section 8).
+///
+/// # Errors
+///
+/// `AllocError` where an allocation fails; also where the bytes are not UTF-8, which those of a
+/// text always are.
+pub fn push_quoted(alloc: Global, payload: &[u8], text: &mut Vec<u8>) -> Result<(), AllocError>
+    ensures { OnOk result (text.new.items ≡ text.old.items ++ quoted payload.now) }
 {
     let mut copy = Vec::new(alloc);
     copy.extend_from_slice(payload)?;
     let Ok(copy) = String::from_utf8(copy) else {
         return Err(AllocError);
     };
-    text.push(b' ')?;
     push_notation(&Value::Text(copy), Layout::OneLine, text)
 }
 
-// Appends that bytes follow an item.
-fn push_trailing(count: usize, text: &mut Vec<u8>) -> Result<(), AllocError>
+/// Appends that so many bytes follow an item.
+///
+/// # Errors
+///
+/// `AllocError` where an allocation fails.
+pub fn push_trailing(count: usize, text: &mut Vec<u8>) -> Result<(), AllocError>
     ensures { OnOk result (text.new.items ≡ text.old.items ++ trailing_text count) }
 {
     if write!(text, "trailing {count}").is_err() {
@@ -184,8 +193,12 @@ fn push_trailing(count: usize, text: &mut Vec<u8>) -> Result<(), AllocError>
     Ok(())
 }
 
-// Appends why no item stands at the front.
-fn push_reason(reason: NoItem, text: &mut Vec<u8>) -> Result<(), AllocError>
+/// Appends why no item stands at the front (RFC 8949, section 5.3.1).
+///
+/// # Errors
+///
+/// `AllocError` where an allocation fails.
+pub fn push_reason(reason: NoItem, text: &mut Vec<u8>) -> Result<(), AllocError>
     ensures { OnOk result (text.new.items ≡ text.old.items ++ reason_text reason) }
 {
     let written = match reason {

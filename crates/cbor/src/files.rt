@@ -8,6 +8,7 @@ ghost use Rattle.cbor.specs.Words.{takes_files};
 
 use crate::command::Command;
 use crate::dumping_streams::dump_input;
+use crate::exact_streams::show_exactly;
 use crate::fault::Fault;
 use crate::streams::show_items;
 use std::alloc::{AllocError, Global};
@@ -115,6 +116,7 @@ fn show_input<R: Read, W: Write>(
     let place = name_place(alloc, name)?;
     match command {
         Command::Show(showing, limit) => show_items(alloc, input, &place, showing, limit, output),
+        Command::ShowExactly => show_exactly(alloc, input, &place, output),
         Command::Dump => dump_input(alloc, input, output),
         _ => unreachable!(),
     }

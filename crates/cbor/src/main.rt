@@ -1,6 +1,6 @@
 //! `cbor` looks at CBOR (RFC 8949) on the standard input: lines of hex, an item or a sequence each,
-//! or bytes, a sequence of items (RFC 8742) or one item. `cbor --help` lists the commands, and
-//! `run` says what they do.
+//! or bytes, a sequence of items (RFC 8742) or one item; and it encodes lines of diagnostic
+//! notation. `cbor --help` lists the commands, and `run` says what they do.
 #![tactic(auto)]
 
 mod answer;
@@ -9,11 +9,16 @@ mod command;
 mod digits;
 mod dumping;
 mod dumping_streams;
+mod encoding;
+mod exact;
+mod exact_streams;
 mod fault;
 mod files;
 mod items;
 mod line_laws;
 mod lines;
+mod notation;
+mod progress;
 mod reading;
 mod retrying;
 mod rooms;
@@ -28,6 +33,7 @@ mod topics;
 mod words;
 
 use files::Opener;
+use progress::Progress;
 use std::fs::File;
 use std::io::Lock;
 use std::process::ExitCode;
@@ -38,7 +44,7 @@ fn main(rt: HostRuntime) -> ExitCode {
         Ok(words) => run::run(
             rt.alloc(),
             &words,
-            &mut rt.stdin().lock(),
+            &mut Progress::new(&rt, rt.stdin().lock()),
             &Host { rt: &rt },
             &mut rt.stdout().lock(),
             &mut rt.stderr().lock(),
@@ -55,10 +61,10 @@ struct Host<'a> {
 }
 
 impl<'a> Opener for Host<'a> {
-    type File = File;
+    type File = Progress<'a, File>;
 
-    fn open(&self, name: &str) -> io::Result<File> {
-        File::open(self.rt, name)
+    fn open(&self, name: &str) -> io::Result<Progress<'a, File>> {
+        Ok(Progress::new(self.rt, File::open(self.rt, name)?))
     }
 }
 

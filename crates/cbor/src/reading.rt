@@ -16,6 +16,11 @@ pub enum Reading {
     Notation(Layout, usize),
     /// As one item in any spelling, within 256 levels, of which the heads are dumped.
     Dump,
+    /// As one item in any spelling, within 256 levels, whose notation shows its very heads.
+    Exact,
+    /// As diagnostic notation (RFC 8949, section 8), within this many levels, of whose value the
+    /// encoding is shown.
+    Encode(usize),
 }
 
 /// How an item is shown.

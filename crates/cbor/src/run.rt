@@ -4,7 +4,9 @@ ghost use Rattle.std.specs.Prelude.{◌≡◌, ◌≤◌, ◌++◌, ◌↔◌, �
 ghost use Rattle.std.specs.Prelude.{[], map, string_bytes, true};
 ghost use Rattle.std.specs.Io.KnownBytes.{Appends, Keeps};
 ghost use Rattle.ciborium_value.specs.declared.key_order.KeyOrder.{KeyOrder};
+ghost use Rattle.cbor.specs.EncodedLines.{AreAllEncoded, AreEncoded};
 ghost use Rattle.cbor.specs.Ends.{IsStatusOf, end_status, fault_status};
+ghost use Rattle.cbor.specs.ExactStreams.{IsShownExactly};
 ghost use Rattle.cbor.specs.Files.{AreFilesShown, AreInputs, Input};
 ghost use Rattle.cbor.specs.Lines.{AreAnswered};
 ghost use Rattle.cbor.specs.SortedLines.{AreSortedLines, AreSortedOrRefused};
@@ -12,7 +14,8 @@ ghost use Rattle.cbor.specs.Streams.{IsDumpedBehind, IsStreamShown};
 ghost use Rattle.cbor.specs.Topics.{topic_text};
 ghost use Rattle.cbor.specs.Words.{AreWrong, AskFor, AskForFiles, takes_files};
 ghost use Rattle.cbor.specs.declared.command.Command.{Command};
-ghost use Rattle.cbor.specs.declared.command.Command.TheVariants.{Answer, Dump, Show, Sort, Tell};
+ghost use Rattle.cbor.specs.declared.command.Command.TheVariants.{Answer, Dump, Encode, Show};
+ghost use Rattle.cbor.specs.declared.command.Command.TheVariants.{ShowExactly, Sort, Tell};
 ghost use Rattle.cbor.specs.declared.command.Topic.{Topic};
 ghost use Rattle.cbor.specs.declared.reading.Reading.{Reading};
 ghost use Rattle.cbor.specs.declared.reading.Showing.{Showing};
@@ -20,6 +23,8 @@ ghost use Rattle.cbor.specs.declared.reading.Showing.{Showing};
 use crate::answering::answer_lines;
 use crate::command::{Command, Topic};
 use crate::dumping_streams::dump_input;
+use crate::encoding::encode_lines;
+use crate::exact_streams::show_exactly;
 use crate::fault::Fault;
 use crate::files::{Opener, show_files};
 use crate::sorting::sort_lines;
@@ -48,25 +53,33 @@ cbor --help tells of the other commands
 /// line spells it, with the keys of each map in the canonical order; an item that has none is
 /// answered `duplicate` or `toolarge`. `diag`, and a limit after it, answers each item with its
 /// diagnostic notation (RFC 8949, section 8), and `--indent` right after `diag` lays that out over
-/// lines. `dump` answers each item with its dump: a line for each of its heads, with the offset,
-/// the bytes in hex and what the head says, and then an empty line; behind the lines of the heads
-/// of what is no item stands why. `sort` reads all lines within 256 levels, and then writes the
-/// encodings of their items in lower-case hex, a line each, in the canonical order. At the first
-/// line that is no item it only writes `line`, the number of that line, counted from 1, a colon and
-/// the answer to it. `--core`, right after `--det`, `canon`, `canon --binary` or `sort`, takes the
-/// order of the core deterministic encoding in place of the canonical one (section 4.2.1:
-/// bytewise).
+/// lines. `encode`, and a limit after it, answers each line of diagnostic notation with the
+/// encoding of the value that it denotes, or with what is wrong in it and at which byte, as
+/// `expected an item at byte 4`. `dump` answers each item with its dump: a line for each of its
+/// heads, with the offset, the bytes in hex and what the head says, and then an empty line; behind
+/// the lines of the heads of what is no item stands why. `sort` reads all lines within 256 levels,
+/// and then writes the encodings of their items in lower-case hex, a line each, in the canonical
+/// order. At the first line that is no item it only writes `line`, the number of that line, counted
+/// from 1, a colon and the answer to it. `--core`, right after `--det`, `canon`, `canon --binary`
+/// or `sort`, takes the order of the core deterministic encoding in place of the canonical one
+/// (section 4.2.1: bytewise).
 ///
 /// `diag --binary`, `read --binary` and `canon --binary`, and a limit after them, take the input as
 /// the items of a sequence in bytes. They show each as soon as it is read, by its notation, its
-/// encoding in hex or its deterministic encoding in hex, until the end or the first item that is
-/// refused, or that has no deterministic encoding where that is shown: for this one they write
-/// `item`, its number, counted from 1, a colon and the reason, with the offset counted from the
-/// first byte of the input.
+/// encoding in hex or its deterministic encoding in hex. For an item that is refused, or that has
+/// no deterministic encoding where that is shown, they write `item`, its number, counted from 1, a
+/// colon and the reason, with the offset counted from the first byte of the input, and go on behind
+/// it. They end where no well-formed item stands, or one of more than 256 levels that is refused.
+/// `diag --binary --exact` shows each well-formed item within 256 levels, also one without a value,
+/// by the notation of its very heads, and ends where none stands, with the reason as `dump` has it.
 /// `dump --binary` takes all of the input as the bytes of one item, reads it whole, and then writes
-/// its dump, with a line feed behind the reason where it is none. Behind the words of a command
-/// with `--binary`, and its limit, files may be named, which are shown one after the other; `-` is
-/// the input. Before `item` stand then the name and a colon, and so they do before a fault.
+/// its dump, with a line feed behind the reason where it is none. Behind the words of these five,
+/// and their limit, files may be named, which are shown one after the other; `-` is the input.
+/// Before `item` stand then the name and a colon, and so they do before a fault.
+/// `encode --binary`, and a limit after it, writes the encodings of the values that the lines of
+/// notation denote as bytes, one behind the other (RFC 8742). At the first line that denotes none
+/// it ends, and writes `line`, the number of that line, counted from 1, a colon and the reason to
+/// `errors`.
 /// `--help` or `-h`, as the only word, lists the commands, and `--version` prints the version.
 ///
 /// The status is 0 where every line or item is as it is asked for, and 1 where one is not. It is 2
@@ -100,9 +113,16 @@ pub fn run<R: Read, O: Opener, W: Write, E: Write>(
         AskFor (map string_bytes words.now) (Show showing limit) →
         R.remaining input.old ≡ Some b → W.contents output.old ≡ Some w → result ≡ 0 →
         IsStreamShown [] showing b limit w true (W.contents output.new) }
+    ensures exactly { (b w : List ℕ) → AskFor (map string_bytes words.now) ShowExactly →
+        R.remaining input.old ≡ Some b → W.contents output.old ≡ Some w → result ≡ 0 →
+        IsShownExactly [] b w true (W.contents output.new) }
     ensures dumped { (b w : List ℕ) → AskFor (map string_bytes words.now) Dump →
         R.remaining input.old ≡ Some b → W.contents output.old ≡ Some w → result ≡ 0 →
         IsDumpedBehind b w true (W.contents output.new) }
+    ensures encoded { (limit : ℕ) (b w : List ℕ) →
+        AskFor (map string_bytes words.now) (Encode limit) → R.remaining input.old ≡ Some b →
+        W.contents output.old ≡ Some w → result ≡ 0 →
+        AreAllEncoded b w (W.contents output.new) }
     ensures told { (topic : Topic) (w : List ℕ) →
         AskFor (map string_bytes words.now) (Tell topic) → W.contents output.old ≡ Some w →
         result ≡ 0 → W.contents output.new ≡ Some (w ++ topic_text topic) }
@@ -116,7 +136,7 @@ pub fn run<R: Read, O: Opener, W: Write, E: Write>(
 {
     match judge_words(words) {
         Some(command) => {
-            let done = perform(alloc, command, input, output);
+            let done = perform(alloc, command, input, output, errors);
             conclude(command, done, errors)
         }
         None => run_on_files(alloc, words, input, opener, output, errors),
@@ -156,29 +176,31 @@ pub fn refuse_words<E: Write>(errors: &mut E) -> u8
     ensures { result ≡ 2 }
 {
     // A message that is refused has nowhere else to go.
-    let _ = report(errors, USAGE);
+    let _ = report(errors, USAGE.as_bytes());
     2
 }
 
 // Writes a message, and flushes it.
-fn report<E: Write>(errors: &mut E, message: &str) -> io::Result<()>
+fn report<E: Write>(errors: &mut E, message: &[u8]) -> io::Result<()>
     ensures { OnOk result (Appends (E.contents errors.old) (E.contents errors.new) message.now) }
 {
-    errors.write_all(message.as_bytes())?;
+    errors.write_all(message)?;
     errors.flush()
 }
 
 // Does what is asked for, flushes the output, and says whether every line or item is as it is asked
-// for. Where nothing fails, each line is answered, be it refused or not.
+// for. Where nothing fails, each line is answered, be it refused or not; where lines are encoded,
+// `errors` is told of the first that is refused.
 //
 // # Errors
 //
 // The first fault.
-fn perform<R: Read, W: Write>(
+fn perform<R: Read, W: Write, E: Write>(
     alloc: Global,
     command: Command,
     input: &mut R,
     output: &mut W,
+    errors: &mut E,
 ) -> Result<bool, Fault>
     ensures answered { (reading : Reading) (b w : List ℕ) → command ≡ Answer reading →
         R.remaining input.old ≡ Some b → W.contents output.old ≡ Some w →
@@ -190,9 +212,16 @@ fn perform<R: Read, W: Write>(
         command ≡ Show showing limit → R.remaining input.old ≡ Some b →
         W.contents output.old ≡ Some w →
         IfOk result (λ all. IsStreamShown [] showing b limit w all (W.contents output.new)) }
+    ensures exactly { (b w : List ℕ) → command ≡ ShowExactly → R.remaining input.old ≡ Some b →
+        W.contents output.old ≡ Some w →
+        IfOk result (λ all. IsShownExactly [] b w all (W.contents output.new)) }
     ensures dumped { (b w : List ℕ) → command ≡ Dump → R.remaining input.old ≡ Some b →
         W.contents output.old ≡ Some w →
         IfOk result (λ all. IsDumpedBehind b w all (W.contents output.new)) }
+    ensures encoded { (limit : ℕ) (b w : List ℕ) → command ≡ Encode limit →
+        R.remaining input.old ≡ Some b → W.contents output.old ≡ Some w →
+        IfOk result (λ all. (message : List ℕ)
+        × AreEncoded limit b w all (W.contents output.new) message) }
     ensures told { (topic : Topic) (w : List ℕ) → command ≡ Tell topic →
         W.contents output.old ≡ Some w →
         OnOk result (W.contents output.new ≡ Some (w ++ topic_text topic)) }
@@ -211,9 +240,20 @@ fn perform<R: Read, W: Write>(
             let shown = show_items(alloc, input, b"", showing, limit, output);
             finish(shown, output)
         }
+        Command::ShowExactly => {
+            let shown = show_exactly(alloc, input, b"", output);
+            finish(shown, output)
+        }
         Command::Dump => {
             let dumped = dump_input(alloc, input, output);
             finish(dumped, output)
+        }
+        Command::Encode(limit) => {
+            let mut message = Vec::new(alloc);
+            let encoded = encode_lines(alloc, input, limit, &mut message, output);
+            let done = finish(encoded, output);
+            tell_refused(&message, errors);
+            done
         }
         Command::Tell(topic) => {
             let told = tell(topic, output);
@@ -259,6 +299,14 @@ fn tell<W: Write>(topic: Topic, output: &mut W) -> Result<bool, Fault>
     Ok(true)
 }
 
+// Writes the message of a line that is refused, if there is one.
+fn tell_refused<E: Write>(message: &[u8], errors: &mut E) {
+    if !message.is_empty() {
+        // A message that is refused has nowhere else to go.
+        let _ = report(errors, message);
+    }
+}
+
 // Flushes the output of a run that found each line to be as it is asked for, or one that is not, or
 // that a fault ended; this fault comes first.
 fn finish<W: Write>(done: Result<bool, Fault>, output: &mut W) -> Result<bool, Fault>
@@ -281,7 +329,7 @@ fn conclude<E: Write>(command: Command, done: Result<bool, Fault>, errors: &mut 
 {
     match done {
         Err(fault) => {
-            let _ = report(errors, fault.message());
+            let _ = report(errors, fault.message().as_bytes());
             fault_status(command, fault)
         }
         Ok(true) => 0,

@@ -1,19 +1,23 @@
 //! Streams of items: sequences as bytes, not in hex (RFC 8742).
 
 ghost use Rattle.std.specs.Prelude.{◌≡◌, ◌<◌, ◌⊎◌, ◌++◌, ℕ, IfOk, IfSome, IsTrue, List};
-ghost use Rattle.std.specs.Prelude.{MatchOption, None, OnOk, Ok, Some, [], false, length};
+ghost use Rattle.std.specs.Prelude.{MatchOption, None, OnOk, Some, [], drop, false, length};
 ghost use Rattle.std.specs.Bool.{MatchBool};
 ghost use Rattle.std.specs.Io.Buffered.{reader_buffer, reader_remaining};
-ghost use Rattle.std.specs.Io.KnownBytes.{Keeps, append_known};
+ghost use Rattle.std.specs.Io.KnownBytes.{Keeps, append_known, prepend_known};
+ghost use Rattle.ciborium_ll.specs.ItemLengths.{IsNoItem};
+ghost use Rattle.ciborium_ll.specs.Levels.{AreItem};
+ghost use Rattle.ciborium_ll.specs.declared.item_heads.NoItem.{NoItem};
 ghost use Rattle.ciborium_value.specs.View.{tree_of};
 ghost use Rattle.ciborium_value.specs.declared.kind.Kind.TheVariants.{DuplicateKey, TooLarge};
 ghost use Rattle.ciborium.specs.ValueAnswers.{IsRefusedBy};
-ghost use Rattle.cbor.specs.Answer.{IsFrontRefused, refused_text, wants_memory};
+ghost use Rattle.cbor.specs.Answer.{IsFrontRefused, refusal_behind, refused_text, wants_memory};
 ghost use Rattle.cbor.specs.Forms.{formless_text};
 ghost use Rattle.cbor.specs.Lines.{text_line};
-ghost use Rattle.cbor.specs.Sequence.{refused_item_text};
+ghost use Rattle.cbor.specs.Shown.{shown_spelling};
 ghost use Rattle.cbor.specs.Spellings.{RefusesItem};
-ghost use Rattle.cbor.specs.Streams.{HoldsItem, IsReadNext, IsStreamShown, shown_line};
+ghost use Rattle.cbor.specs.Streams.{HoldsItem, IsFront, IsItemLine, IsJudged, IsReadNext};
+ghost use Rattle.cbor.specs.Streams.{IsStreamShown, IsTaken, refused_line, shown_line};
 ghost use Rattle.cbor.specs.declared.reading.Spelling.{Spelling};
 ghost use Rattle.cbor.specs.declared.reading.Spelling.TheVariants.{Any, Deterministic};
 
@@ -25,22 +29,32 @@ use crate::reading::{Showing, Spelling};
 use crate::retrying::Retrying;
 use crate::sequences::{write_formless_item, write_refused_item};
 use crate::showing::{make_shown, push_shown, shown_spelling};
-use ciborium::de::{Error, from_buf_reader_deterministic_with_order, from_buf_reader_next_at};
+use ciborium::de::{Error, from_reader_deterministic_with_order, from_reader_next_at};
+use ciborium_ll::{NotCopied, copy_item, item_len};
 use ciborium_value::canonical::encoded_size;
 use ciborium_value::{KeyOrder, Kind, Value};
 use std::alloc::Global;
 use std::io::{self, BufRead, BufReader, Read, Write};
 
+// What comes next in a stream.
+enum Next {
+    // An item of so many bytes: its value, or why it is refused.
+    Item(Result<Value, Refusal>, usize),
+    // No well-formed item of at most 256 levels, and why what stands there is refused.
+    NoItem(Refusal),
+}
+
 /// Shows each item of the input, which is a sequence as bytes, by a line on the output, and says
 /// whether all of the input is a sequence of items, each in a spelling that may be shown so and
 /// within this many levels.
-/// For the first item that is refused the line gives the place, a text that stands before all
-/// else, the number of the item, counted from 1, and the reason, with the offset counted from the
-/// first byte of the input; the reason is `io` where the end of the input cuts the item short. So
-/// it does where the deterministic form of items is shown, for the first that has none. No item
-/// after it is read. Lines wait until the input's device is asked for more, or until there are
-/// many, and are then written together and flushed. No item is held longer than until its line is
-/// made.
+/// For an item that is refused the line gives the place, a text that stands before all else, the
+/// number of the item, counted from 1, and the reason, with the offset counted from the first byte
+/// of the input. So it does where the deterministic form of items is shown, for one that has none.
+/// Behind a well-formed item that is refused the next one is shown. Where no well-formed item
+/// stands, or one nests deeper than 256 levels and is refused, nothing is read after it: its line
+/// is the last one, and the reason is `io` where the end of the input cuts it short.
+/// Lines wait until the input's device is asked for more, or until there are many, and are then
+/// written together and flushed. No item is held longer than until its line is made.
 ///
 /// # Errors
 ///
@@ -56,34 +70,26 @@ pub fn show_items<R: Read, W: Write>(
     ensures { (b w : List ℕ) → R.remaining input.old ≡ Some b → W.contents output.old ≡ Some w →
         IfOk result (λ all. IsStreamShown place.now showing b limit w all (W.contents output.new)) }
 {
-    let Ok(mut reader) = BufReader::new(alloc, Retrying::new(input)) else {
+    let Ok(reader) = BufReader::new(alloc, Retrying::new(input)) else {
         return Err(Fault::Memory);
     };
     let mut waiting = Vec::new(alloc);
-    let shown = show_stream(
-        alloc,
-        &mut reader,
-        place,
-        showing,
-        limit,
-        &mut waiting,
-        output,
-    );
+    let shown = show_stream(alloc, reader, place, showing, limit, &mut waiting, output);
     send_lines(&mut waiting, output)?;
     shown
 }
 
 // Shows the items that a reader has left, by lines behind the texts that wait.
-fn show_stream<R: Read, W: Write>(
+fn show_stream<R: Read + Drop, W: Write>(
     alloc: Global,
-    reader: &mut BufReader<R>,
+    mut reader: BufReader<R>,
     place: &[u8],
     showing: Showing,
     limit: usize,
     waiting: &mut Vec<u8>,
     output: &mut W,
 ) -> Result<bool, Fault>
-    ensures { (b w : List ℕ) → reader_remaining R.remaining reader.old ≡ Some b →
+    ensures { (b w : List ℕ) → reader_remaining R.remaining reader ≡ Some b →
         append_known (W.contents output.old) waiting.old.items ≡ Some w →
         IfOk result (λ all. IsStreamShown place.now showing b limit w all
         (append_known (W.contents output.new) waiting.new.items)) }
@@ -92,21 +98,22 @@ fn show_stream<R: Read, W: Write>(
     let mut line = Vec::new(alloc);
     let spelling = shown_spelling(showing);
     let mut offset: usize = 0;
+    let mut all = true;
     'items: for number in 1..u64::MAX {
-        match next_item(alloc, reader, spelling, limit, waiting, output)? {
-            None => return Ok(true),
-            Some(Ok((mut value, size))) => {
-                if let Err(kind) = make_shown(&mut value, showing) {
-                    show_formless(place, number, kind, &mut line, waiting, output)?;
-                    return Ok(false);
-                }
-                show_item(&value, showing, &mut room, &mut line, waiting, output)?;
+        let (next, behind) = next_item(alloc, reader, spelling, limit, waiting, output)?;
+        reader = behind;
+        match next {
+            None => return Ok(all),
+            Some(Next::Item(item, size)) => {
+                let is_shown = show_judged(
+                    item, place, showing, number, offset, &mut room, &mut line, waiting, output,
+                )?;
+                all &= is_shown;
                 // It fits in practice, as it does for a refusal: no device gives so many bytes.
                 offset = offset.checked_add(size).ok_or(Fault::Input)?;
             }
-            Some(Err(refusal)) => {
-                let refusal = refusal.behind(offset).ok_or(Fault::Input)?;
-                show_refused(place, number, refusal, &mut line, waiting, output)?;
+            Some(Next::NoItem(refusal)) => {
+                show_refused(place, number, offset, refusal, &mut line, waiting, output)?;
                 return Ok(false);
             }
         }
@@ -115,62 +122,160 @@ fn show_stream<R: Read, W: Write>(
     Err(Fault::Input)
 }
 
-// Reads the item at the front, and counts its bytes, or says why it is refused, or that none is
-// left. Where the buffer does not hold it whole, so that the device is asked for more, the waiting
-// lines are sent first.
-fn next_item<R: Read, W: Write>(
+// Takes the item at the front, and judges it, or says why there is none, or that nothing is left.
+// Where the buffer does not hold it whole, so that the device is asked for more, the waiting lines
+// are sent first. The reader is handed back.
+fn next_item<R: Read + Drop, W: Write>(
     alloc: Global,
-    reader: &mut BufReader<R>,
+    mut reader: BufReader<R>,
     spelling: Spelling,
     limit: usize,
     waiting: &mut Vec<u8>,
     output: &mut W,
-) -> Result<Option<Result<(Value, usize), Refusal>>, Fault>
-    ensures next { (b : List ℕ) → reader_remaining R.remaining reader.old ≡ Some b →
-        IfOk result (λ next. MatchOption next (b ≡ []) (λ item. (0 < length b)
-        × IsReadNext spelling b limit (reader_remaining R.remaining reader.new) item)) }
-    ensures sent { HoldsItem spelling (reader_buffer reader.old) limit ⊎ (waiting.new.items ≡ []) }
+) -> Result<(Option<Next>, BufReader<R>), Fault>
+    ensures next { (b : List ℕ) → reader_remaining R.remaining reader ≡ Some b →
+        IfOk result (λ t. MatchOption t.0 (b ≡ []) (λ next. (0 < length b)
+        × IsTaken spelling b limit (reader_remaining R.remaining t.1) next)) }
+    ensures sent { HoldsItem (reader_buffer reader) ⊎ (waiting.new.items ≡ []) }
     ensures held { (w : List ℕ) →
         append_known (W.contents output.old) waiting.old.items ≡ Some w →
         OnOk result (append_known (W.contents output.new) waiting.new.items ≡ Some w) }
 {
-    if let Some(item) = read_held(alloc, reader, spelling, limit) {
-        return Ok(Some(Ok(item)));
+    if let Some((item, size)) = take_held(alloc, &mut reader, spelling, limit) {
+        return Ok((Some(Next::Item(item, size)), reader));
     }
     send_lines(waiting, output)?;
-    if is_at_end(reader)? {
-        return Ok(None);
+    if is_at_end(&mut reader)? {
+        return Ok((None, reader));
     }
-    let next = read_next(alloc, reader, spelling, limit)?;
-    Ok(Some(next))
+    let (next, reader) = take_copied(alloc, reader, spelling, limit)?;
+    Ok((Some(next), reader))
 }
 
-// Reads the item at the front, and counts its bytes, where the buffer holds it whole, and otherwise
-// takes nothing.
-fn read_held<R: Read>(
+// Takes the item at the front, and judges it, where the buffer holds it whole, and otherwise takes
+// nothing.
+fn take_held<R: Read>(
     alloc: Global,
     reader: &mut BufReader<R>,
     spelling: Spelling,
     limit: usize,
-) -> Option<(Value, usize)>
+) -> Option<(Result<Value, Refusal>, usize)>
     ensures item { (b : List ℕ) → reader_remaining R.remaining reader.old ≡ Some b →
         MatchOption result (reader_remaining R.remaining reader.new ≡ Some b)
-        (λ item. IsReadNext spelling b limit (reader_remaining R.remaining reader.new)
-        (Ok item)) }
-    ensures held { IfSome result (λ _. HoldsItem spelling (reader_buffer reader.old) limit) }
+        (λ item. IsFront spelling b limit item.0 item.1
+        × (reader_remaining R.remaining reader.new ≡ Some (drop item.1 b))) }
+    ensures held { IfSome result (λ _. HoldsItem (reader_buffer reader.old)) }
 {
-    let bytes = reader.buffer();
-    let mut rest = bytes;
-    let Ok(value) = read_front(alloc, &mut rest, spelling, limit) else {
-        return None;
-    };
-    let size = bytes.len() - rest.len();
+    let (item, size) = find_item(alloc, reader.buffer(), spelling, limit)?;
     reader.consume(size);
-    Some((value, size))
+    Some((item, size))
 }
 
-// Whether a reader has nothing left.
-fn is_at_end<R: Read>(reader: &mut BufReader<R>) -> Result<bool, Fault>
+// Judges the item at the front of bytes that hold it whole, and counts its bytes.
+fn find_item(
+    alloc: Global,
+    held: &[u8],
+    spelling: Spelling,
+    limit: usize,
+) -> Option<(Result<Value, Refusal>, usize)>
+    ensures { IfSome result (λ item. IsFront spelling held.now limit item.0 item.1) }
+{
+    let mut rest = held;
+    if let Ok(value) = read_front(alloc, &mut rest, spelling, limit) {
+        return Some((Ok(value), held.len() - rest.len()));
+    }
+    let Ok(size) = item_len(held) else {
+        return None;
+    };
+    let item = judge_item(alloc, &held[..size], spelling, limit);
+    Some((item, size))
+}
+
+// The value of an item, of which these are the bytes, or why it is refused.
+fn judge_item(
+    alloc: Global,
+    item: &[u8],
+    spelling: Spelling,
+    limit: usize,
+) -> Result<Value, Refusal>
+    ensures { AreItem item.now → IsJudged spelling item.now limit result }
+{
+    let mut rest = item;
+    read_front(alloc, &mut rest, spelling, limit)
+}
+
+// Takes the item at the front, and judges it, or says why there is none. Its bytes are copied, so
+// that they are taken also where they are no value.
+fn take_copied<R: Read + Drop>(
+    alloc: Global,
+    mut reader: BufReader<R>,
+    spelling: Spelling,
+    limit: usize,
+) -> Result<(Next, BufReader<R>), Fault>
+    ensures { (b : List ℕ) → reader_remaining R.remaining reader ≡ Some b →
+        IfOk result (λ t. IsTaken spelling b limit (reader_remaining R.remaining t.1) t.0) }
+{
+    let mut item = Vec::new(alloc);
+    match copy_item(&mut reader, &mut item) {
+        Ok(()) => {
+            let judged = judge_item(alloc, &item, spelling, limit);
+            Ok((Next::Item(judged, item.len()), reader))
+        }
+        Err(NotCopied::NoItem(_)) => read_behind(alloc, &item, reader, spelling, limit),
+        Err(NotCopied::Io(_)) => Err(Fault::Input),
+        Err(NotCopied::Memory) => Err(Fault::Memory),
+    }
+}
+
+// Reads the item whose first bytes were taken, and are none, or says why it is refused.
+fn read_behind<R: Read + Drop>(
+    alloc: Global,
+    taken: &[u8],
+    reader: BufReader<R>,
+    spelling: Spelling,
+    limit: usize,
+) -> Result<(Next, BufReader<R>), Fault>
+    ensures { (left : List ℕ) (why : NoItem) → reader_remaining R.remaining reader ≡ Some left →
+        IsNoItem (taken.now ++ left) why → IfOk result (λ t. IsTaken spelling (taken.now ++ left)
+        limit (reader_remaining R.remaining t.1) t.0) }
+{
+    let mut whole = Behind { taken, reader };
+    match read_next(alloc, &mut whole, spelling, limit)? {
+        Ok((value, size)) => {
+            // It nests deeper than 256 levels, and what was taken is only its beginning.
+            if !whole.taken.is_empty() {
+                return Err(Fault::Input);
+            }
+            Ok((Next::Item(Ok(value), size), whole.reader))
+        }
+        Err(refusal) => Ok((Next::NoItem(refusal), whole.reader)),
+    }
+}
+
+// A reader before which other bytes stand.
+#[derive(Drop)]
+struct Behind<'b, R> {
+    taken: &'b [u8],
+    reader: R,
+}
+
+impl<R: Read> Read for Behind<'_, R> {
+    ghost remaining = { λ whole. prepend_known whole.taken.now (R.remaining whole.reader) };
+
+    fn read(&mut self, buffer: &mut [u8]) -> io::Result<usize> {
+        if self.taken.is_empty() {
+            return self.reader.read(buffer);
+        }
+        self.taken.read(buffer)
+    }
+}
+
+/// Whether a reader has nothing left.
+///
+/// # Errors
+///
+/// `Input` where the input fails.
+pub fn is_at_end<R: Read>(reader: &mut BufReader<R>) -> Result<bool, Fault>
     ensures end { (b : List ℕ) → reader_remaining R.remaining reader.old ≡ Some b →
         IfOk result (λ is_end. MatchBool is_end (b ≡ []) (0 < length b)) }
     ensures kept { (b : List ℕ) → reader_remaining R.remaining reader.old ≡ Some b →
@@ -185,13 +290,13 @@ fn is_at_end<R: Read>(reader: &mut BufReader<R>) -> Result<bool, Fault>
 // Reads the item at the front, and counts its bytes, or says why it is refused.
 fn read_next<R: Read>(
     alloc: Global,
-    reader: &mut BufReader<R>,
+    reader: &mut R,
     spelling: Spelling,
     limit: usize,
 ) -> Result<Result<(Value, usize), Refusal>, Fault>
-    ensures { (b : List ℕ) → reader_remaining R.remaining reader.old ≡ Some b →
+    ensures { (b : List ℕ) → R.remaining reader.old ≡ Some b →
         IfOk result (λ next.
-        IsReadNext spelling b limit (reader_remaining R.remaining reader.new) next) }
+        IsReadNext spelling b limit (R.remaining reader.new) next) }
 {
     match spelling {
         Spelling::Any => read_any(alloc, reader, limit),
@@ -202,15 +307,15 @@ fn read_next<R: Read>(
 // The same in any spelling.
 fn read_any<R: Read>(
     alloc: Global,
-    reader: &mut BufReader<R>,
+    reader: &mut R,
     limit: usize,
 ) -> Result<Result<(Value, usize), Refusal>, Fault>
-    ensures { (b : List ℕ) → reader_remaining R.remaining reader.old ≡ Some b →
+    ensures { (b : List ℕ) → R.remaining reader.old ≡ Some b →
         IfOk result (λ next.
-        IsReadNext Any b limit (reader_remaining R.remaining reader.new) next) }
+        IsReadNext Any b limit (R.remaining reader.new) next) }
 {
     let mut size = 0;
-    match from_buf_reader_next_at(alloc, reader, &mut size, limit) {
+    match from_reader_next_at(alloc, reader, &mut size, limit) {
         Ok(Some(value)) => Ok(Ok((value, size))),
         // Unreachable where the input keeps what it showed: it was not at its end.
         Ok(None) => Err(Fault::Input),
@@ -224,15 +329,15 @@ fn read_any<R: Read>(
 // The same in the deterministic spelling.
 fn read_deterministic<R: Read>(
     alloc: Global,
-    reader: &mut BufReader<R>,
+    reader: &mut R,
     limit: usize,
     order: KeyOrder,
 ) -> Result<Result<(Value, usize), Refusal>, Fault>
-    ensures { (b : List ℕ) → reader_remaining R.remaining reader.old ≡ Some b →
+    ensures { (b : List ℕ) → R.remaining reader.old ≡ Some b →
         IfOk result (λ next. IsReadNext (Deterministic order) b limit
-        (reader_remaining R.remaining reader.new) next) }
+        (R.remaining reader.new) next) }
 {
-    match from_buf_reader_deterministic_with_order(alloc, reader, limit, order) {
+    match from_reader_deterministic_with_order(alloc, reader, limit, order) {
         Ok(value) => {
             let size = encoded_size(&value) as usize;
             Ok(Ok((value, size)))
@@ -245,14 +350,11 @@ fn read_deterministic<R: Read>(
 }
 
 // The refusal that an error of reading an item stands for, where the device did not fail.
-fn judge_error<R: Read>(
-    error: Error<io::Error>,
-    reader: &mut BufReader<R>,
-) -> Result<Refusal, Fault>
+fn judge_error<R: Read>(error: Error<io::Error>, reader: &mut R) -> Result<Refusal, Fault>
     requires { IsRefusedBy None error (λ _. Unit {0}) }
     ensures { (spelling : Spelling) (b left : List ℕ) (limit : ℕ) →
-        reader_remaining R.remaining reader.old ≡ Some left →
-        IsRefusedBy (reader_remaining R.remaining reader.old) error
+        R.remaining reader.old ≡ Some left →
+        IsRefusedBy (R.remaining reader.old) error
         (RefusesItem spelling b limit) →
         IfOk result (λ refusal. IsFrontRefused spelling b limit refusal) }
 {
@@ -260,6 +362,41 @@ fn judge_error<R: Read>(
         return Err(Fault::Input);
     };
     name_refusal(error, is_cut).ok_or(Fault::Input)
+}
+
+// Puts the line of an item that was judged behind the texts that wait, and says whether the item is
+// shown. `room` and `line` are buffers for its encoding and for the line, to be used again.
+fn show_judged<W: Write>(
+    item: Result<Value, Refusal>,
+    place: &[u8],
+    showing: Showing,
+    number: u64,
+    offset: usize,
+    room: &mut Vec<u8>,
+    line: &mut Vec<u8>,
+    waiting: &mut Vec<u8>,
+    output: &mut W,
+) -> Result<bool, Fault>
+    ensures { (s w : List ℕ) (limit : ℕ) → IsJudged (shown_spelling showing) s limit item →
+        append_known (W.contents output.old) waiting.old.items ≡ Some w →
+        IfOk result (λ shown. (line : List ℕ)
+        × IsItemLine place.now showing limit number offset s shown line
+        × (append_known (W.contents output.new) waiting.new.items ≡ Some (w ++ line))) }
+{
+    match item {
+        Ok(mut value) => {
+            if let Err(kind) = make_shown(&mut value, showing) {
+                show_formless(place, number, kind, line, waiting, output)?;
+                return Ok(false);
+            }
+            show_item(&value, showing, room, line, waiting, output)?;
+            Ok(true)
+        }
+        Err(refusal) => {
+            show_refused(place, number, offset, refusal, line, waiting, output)?;
+            Ok(false)
+        }
+    }
 }
 
 // Puts the line of an item behind the texts that wait. `room` and `line` are buffers for its
@@ -281,11 +418,12 @@ fn show_item<W: Write>(
     put_line(line, waiting, output)
 }
 
-// Puts the line of an item that is refused, in this place, behind the texts that wait. `line` is a
-// buffer for it, to be used again.
+// Puts the line of an item that is refused, in this place, behind the texts that wait; its offset
+// is counted from so many bytes before the item. `line` is a buffer for it, to be used again.
 fn show_refused<W: Write>(
     place: &[u8],
     number: u64,
+    offset: usize,
     refusal: Refusal,
     line: &mut Vec<u8>,
     waiting: &mut Vec<u8>,
@@ -294,9 +432,10 @@ fn show_refused<W: Write>(
     ensures { (w : List ℕ) → append_known (W.contents output.old) waiting.old.items ≡ Some w →
         OnOk result ((wants_memory refusal ≡ false)
         × (append_known (W.contents output.new) waiting.new.items
-        ≡ Some ((w ++ place.now)
-        ++ text_line (refused_item_text number (refused_text refusal))))) }
+        ≡ Some (w ++ refused_line place.now number
+        (refused_text (refusal_behind offset refusal))))) }
 {
+    let refusal = refusal.behind(offset).ok_or(Fault::Input)?;
     write_refused_item(number, refusal, line)?;
     put_text(place, waiting, output)?;
     put_line(line, waiting, output)
@@ -315,17 +454,20 @@ fn show_formless<W: Write>(
     requires { (kind ≡ DuplicateKey) ⊎ (kind ≡ TooLarge) }
     ensures { (w : List ℕ) → append_known (W.contents output.old) waiting.old.items ≡ Some w →
         OnOk result (append_known (W.contents output.new) waiting.new.items
-        ≡ Some ((w ++ place.now)
-        ++ text_line (refused_item_text number (formless_text kind)))) }
+        ≡ Some (w ++ refused_line place.now number (formless_text kind))) }
 {
     write_formless_item(number, kind, line)?;
     put_text(place, waiting, output)?;
     put_line(line, waiting, output)
 }
 
-// Puts a text and a line feed behind the texts that wait. What there is no room for is written, and
-// flushed.
-fn put_line<W: Write>(
+/// Puts a text and a line feed behind the texts that wait. What there is no room for is written,
+/// and flushed.
+///
+/// # Errors
+///
+/// `Output` where the output fails, `Memory` where the allocation for the line feed does.
+pub fn put_line<W: Write>(
     text: &mut Vec<u8>,
     waiting: &mut Vec<u8>,
     output: &mut W,
@@ -344,8 +486,12 @@ fn put_line<W: Write>(
     Ok(())
 }
 
-// Writes the waiting lines, if any, and flushes them, since somebody may be looking.
-fn send_lines<W: Write>(waiting: &mut Vec<u8>, output: &mut W) -> Result<(), Fault>
+/// Writes the waiting lines, if any, and flushes them, since somebody may be looking.
+///
+/// # Errors
+///
+/// `Output` where the output fails.
+pub fn send_lines<W: Write>(waiting: &mut Vec<u8>, output: &mut W) -> Result<(), Fault>
     ensures empty { waiting.new.items ≡ [] }
     ensures written { (w : List ℕ) →
         append_known (W.contents output.old) waiting.old.items ≡ Some w →

@@ -13,16 +13,20 @@ or from files of bytes
   cbor read [--det [--core]] [limit]    each item's shortest definite encoding: 1800 gives ok 00
   cbor canon [--core] [limit]           its deterministic one: bf02000100ff gives ok a201000200
   cbor diag [--indent] [limit]          its diagnostic notation: a1616101 gives {\"a\": 1}
+  cbor diag --exact                     with its very heads: 9f1800ff gives [_ 0_0]
+  cbor encode [limit]                   the encoding of notation: [1, h'02'] gives 82014102
   cbor seq                              each line's items: 0102 gives ok 01 02
   cbor dump                             its heads, each with what it says, and an empty line
   cbor sort [--core]                    all lines' items in order: 6161 and 00 give 00 and 6161
   cbor diag --binary [--indent] [limit] [file..]
                                         each item of files: cbor diag --binary a.cbor b.cbor
+  cbor diag --binary --exact [file..]   with its very heads: cbor diag --binary --exact a.cbor
   cbor read --binary [--det [--core]] [limit] [file..]
                                         the same in hex: cbor read --binary a.cbor
   cbor canon --binary [--core] [limit] [file..]
                                         in deterministic hex: cbor canon --binary a.cbor
   cbor dump --binary [file..]           the heads of a file's item: cbor dump --binary a.cbor
+  cbor encode --binary [limit]          the lines' encodings as bytes, one behind the other
   cbor --help, -h, cbor --version       this page, and the version
 
 --det takes deterministic encodings alone, whose keys are length-first or, with --core, bytewise.

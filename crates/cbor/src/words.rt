@@ -117,6 +117,12 @@ fn judge_alone(words: &[String]) -> Option<Command>
     if are_words(words, &["dump"]) {
         return Some(Command::Answer(Reading::Dump));
     }
+    if are_words(words, &["diag", "--exact"]) {
+        return Some(Command::Answer(Reading::Exact));
+    }
+    if are_words(words, &["diag", "--binary", "--exact"]) {
+        return Some(Command::ShowExactly);
+    }
     if are_words(words, &["dump", "--binary"]) {
         return Some(Command::Dump);
     }
@@ -161,6 +167,12 @@ fn judge_with_limit(words: &[String]) -> Option<Command>
     }
     if let Some(limit) = limit_behind(words, &["diag", "--indent"]) {
         return Some(Command::Answer(Reading::Notation(Layout::Indented, limit)));
+    }
+    if let Some(limit) = limit_behind(words, &["encode"]) {
+        return Some(Command::Answer(Reading::Encode(limit)));
+    }
+    if let Some(limit) = limit_behind(words, &["encode", "--binary"]) {
+        return Some(Command::Encode(limit));
     }
     None
 }

@@ -1,5 +1,5 @@
 // The answers to a line, where memory is ample.
-use super::{answer_canon, answer_line, answer_line_det, answer_seq};
+use super::{answer_canon, answer_encoding, answer_line, answer_line_det, answer_seq};
 use crate::rooms::Rooms;
 use ciborium_value::KeyOrder;
 use std::process::Abort;
@@ -119,6 +119,61 @@ fn answers_sequences(rt: HostRuntime) -> Result<(), Fail> {
     for &(line, expected) in SEQUENCES {
         let answer = answer_seq(rt.alloc(), line.as_bytes())?;
         assert_eq!(rt; answer.as_str(), expected, "{line}");
+    }
+    Ok(())
+}
+
+// A line of notation, a limit, whether it is one, and the answer (RFC 8949, appendix A).
+const NOTATION: &[(&str, usize, (bool, &str))] = &[
+    ("23", 256, (true, "17")),
+    ("24", 256, (true, "1818")),
+    ("1000000000000", 256, (true, "1b000000e8d4a51000")),
+    ("18446744073709551615", 256, (true, "1bffffffffffffffff")),
+    (
+        "18446744073709551616",
+        256,
+        (true, "c249010000000000000000"),
+    ),
+    ("-18446744073709551616", 256, (true, "3bffffffffffffffff")),
+    (
+        "-18446744073709551617",
+        256,
+        (true, "c349010000000000000000"),
+    ),
+    ("-1000", 256, (true, "3903e7")),
+    ("0x1f", 256, (true, "181f")),
+    ("true", 256, (true, "f5")),
+    ("undefined", 256, (true, "f6")),
+    ("\"\\\"\\\\\"", 256, (true, "62225c")),
+    ("\"\\u6c34\"", 256, (true, "63e6b0b4")),
+    ("\"\\ud800\\udd51\"", 256, (true, "64f0908591")),
+    ("\"\u{fc}\"", 256, (true, "62c3bc")),
+    ("h'01 02 03 04'", 256, (true, "4401020304")),
+    ("b64'AQIDBA=='", 256, (true, "4401020304")),
+    ("1(1363896240)", 256, (true, "c11a514b67b0")),
+    ("24(h'6449455446')", 256, (true, "d818456449455446")),
+    ("[1, [2, 3], [4, 5]]", 2, (true, "8301820203820405")),
+    (
+        "{\"a\": 1, \"b\": [2, 3]}",
+        256,
+        (true, "a26161016162820203"),
+    ),
+    (
+        "[\"a\",/ x /{\"b\":\"c\"}] # y",
+        256,
+        (true, "826161a161626163"),
+    ),
+    ("{2: 0, 1: 0, 2: 0}", 256, (true, "a3020001000200")),
+    ("[[]]", 1, (false, "nested too deep at byte 1")),
+    ("[1, ]", 256, (false, "expected an item at byte 4")),
+];
+
+#[test]
+fn answers_notation_with_encodings(rt: HostRuntime) -> Result<(), Fail> {
+    let mut rooms = Rooms::new(rt.alloc());
+    for &(line, limit, expected) in NOTATION {
+        let is_ok = answer_encoding(rt.alloc(), line.as_bytes(), limit, &mut rooms)?;
+        expect_answer(&rt, is_ok, &rooms, expected, line);
     }
     Ok(())
 }

@@ -199,6 +199,19 @@ const RUNS: &[(&[&str], &str, &str, u8)] = &[
     ),
     (&["dump"], "", "", 0),
     (
+        &["diag", "--exact"],
+        "9F1800F93C00ff\r\nd80100\nf7",
+        "[_ 0_0, float'3c00']\n1_0(0)\nundefined\n",
+        0,
+    ),
+    (
+        &["diag", "--exact"],
+        "\"\"\n0102\n18\n5f00\n20",
+        "hex\ntrailing 1\nincomplete\nmalformed at 1\n-1\n",
+        1,
+    ),
+    (&["diag", "--exact"], "", "", 0),
+    (
         &["diag", "--indent"],
         "01\n8301820203a1616180\na0\n1e\n",
         "1\n[\n  1,\n  [\n    2,\n    3\n  ],\n  {\n    \"a\": []\n  }\n]\n{}\nsyntax 0\n",
@@ -488,23 +501,23 @@ const BYTE_RUNS: &[(&[&str], &[u8], &str, u8)] = &[
         "a201000200\na21903e800616101\n",
         0,
     ),
-    // An item without a form ends the stream, as one that is refused does.
+    // Behind an item without a form, or one that is refused, the next is shown.
     (
         &["canon", "--binary"],
         b"\x01\xa2\xc2\x41\x01\x00\x01\x01\x02",
-        "01\nitem 2: duplicate\n",
+        "01\nitem 2: duplicate\n02\n",
         1,
     ),
     (
         &["canon", "--binary", "--core", "1"],
         b"\xc3\x5f\x50\x80\0\0\0\0\0\0\0\0\0\0\0\0\0\0\0\xff\x01",
-        "item 1: toolarge\n",
+        "item 1: toolarge\n01\n",
         1,
     ),
     (
         &["canon", "--binary", "1"],
         b"\xa1\x01\x80\x00",
-        "item 1: nesting\n",
+        "item 1: nesting\n00\n",
         1,
     ),
     (
@@ -526,6 +539,18 @@ const BYTE_RUNS: &[(&[&str], &[u8], &str, u8)] = &[
         1,
     ),
     (&["dump", "--binary"], b"", "incomplete\n", 1),
+    (
+        &["diag", "--binary", "--exact"],
+        b"\x9f\x18\x01\xff\xf9\x3c\x00",
+        "[_ 1_0]\nfloat'3c00'\n",
+        0,
+    ),
+    (
+        &["diag", "--binary", "--exact"],
+        b"\x02\x82\x01",
+        "2\nitem 2: incomplete\n",
+        1,
+    ),
     (&["--version"], b"\xff", "cbor 0.4.0\n", 0),
 ];
 
@@ -554,7 +579,7 @@ const FILE_RUNS: &[(&[&str], &str, &str, u8)] = &[
     // A word of digits is the limit right behind the flags, and nowhere else.
     (
         &["read", "--binary", "0", "a.cbor", "300"],
-        "01\na.cbor: item 2: nesting\n300: item 1: nesting\n",
+        "01\na.cbor: item 2: nesting\n300: item 1: nesting\n6162\n",
         "",
         1,
     ),
@@ -600,6 +625,12 @@ const FILE_RUNS: &[(&[&str], &str, &str, u8)] = &[
     (
         &["diag", "--binary", "--indent", "-", "-"],
         "h'07'\n-: item 2: io\n",
+        "",
+        1,
+    ),
+    (
+        &["diag", "--binary", "--exact", "b.cbor", "a.cbor", "-"],
+        "3_0\nb.cbor: item 2: malformed at 3\n1\n[_ 2]\nh'07'\n-: item 2: incomplete\n",
         "",
         1,
     ),
@@ -734,6 +765,106 @@ fn writes_what_bytes_are(rt: HostRuntime) -> Result<(), Fail> {
     Ok(())
 }
 
+// The words, what is read, what is written for it, what is told, and the status.
+const NOTATION_RUNS: &[(&[&str], &[u8], &[u8], &str, u8)] = &[
+    (
+        &["encode"],
+        b"[1, h'02']\r\n[1, ]\n\"\xff\"\n\n-1",
+        b"82014102\nexpected an item at byte 4\nnot UTF-8 at byte 1\n\
+          expected an item at byte 0\n20\n",
+        "",
+        1,
+    ),
+    (&["encode"], b"", b"", "", 0),
+    (&["encode", "1"], b"[]\n1(0)\n", b"80\nc100\n", "", 0),
+    (
+        &["encode", "0"],
+        b"1([])",
+        b"nested too deep at byte 0\n",
+        "",
+        1,
+    ),
+    (
+        &["encode", "18446744073709551615"],
+        b"[[]]",
+        b"8180\n",
+        "",
+        0,
+    ),
+    (
+        &["encode", "--binary"],
+        b"24\n[1, h'02']\n",
+        b"\x18\x18\x82\x01\x41\x02",
+        "",
+        0,
+    ),
+    (
+        &["encode", "--binary"],
+        b"1\n1.5\n2\n",
+        b"\x01",
+        "line 2: a floating-point number at byte 0\n",
+        1,
+    ),
+    (
+        &["encode", "--binary", "0"],
+        b"1\n[]\n",
+        b"\x01",
+        "line 2: nested too deep at byte 0\n",
+        1,
+    ),
+];
+
+#[test]
+fn writes_what_notation_denotes(rt: HostRuntime) -> Result<(), Fail> {
+    for &(words, input, output, errors, status) in NOTATION_RUNS {
+        for most in [1, 3, usize::MAX] {
+            let mut source = Source::new(input, most, None);
+            let device = Device::new(rt.alloc(), usize::MAX, false);
+            let ended = run_on(rt.alloc(), words, &mut source, device)?;
+            expect_end(&rt, &ended, status, output, errors, "notation");
+        }
+    }
+    Ok(())
+}
+
+// Lines as `diag` writes them, which their encodings give again.
+const PRINTED: &str = "[1, {\"a\": h'0aff'}, -18446744073709551616]\n\
+                       2(h'010000000000000000')\n\
+                       [1(null), \"\u{e9}\\n\\\"\", [true, {}, []]]\n\
+                       \"\u{10151}\"\n";
+
+#[test]
+fn gives_notation_again(rt: HostRuntime) -> Result<(), Fail> {
+    let encoded = run_on_text(rt.alloc(), &["encode"], PRINTED)?;
+    assert_eq!(rt; encoded.status, 0);
+    let mut hex = Source::new(encoded.output.as_slice(), usize::MAX, None);
+    let device = Device::new(rt.alloc(), usize::MAX, false);
+    let shown = run_on(rt.alloc(), &["diag"], &mut hex, device)?;
+    expect_end(&rt, &shown, 0, PRINTED.as_bytes(), "", "lines");
+    let written = run_on_text(rt.alloc(), &["encode", "--binary"], PRINTED)?;
+    assert_eq!(rt; written.status, 0);
+    let mut bytes = Source::new(written.output.as_slice(), usize::MAX, None);
+    let device = Device::new(rt.alloc(), usize::MAX, false);
+    let shown = run_on(rt.alloc(), &["diag", "--binary"], &mut bytes, device)?;
+    expect_end(&rt, &shown, 0, PRINTED.as_bytes(), "", "bytes");
+    Ok(())
+}
+
+// How a run of `encode --binary` ends where a device fails.
+#[test]
+fn tells_a_fault_of_notation(rt: HostRuntime) -> Result<(), Fail> {
+    let words = &["encode", "--binary"];
+    let mut source = Source::new(b"1\n2\n", 2, Some(ErrorKind::Other));
+    let device = Device::new(rt.alloc(), usize::MAX, false);
+    let ended = run_on(rt.alloc(), words, &mut source, device)?;
+    expect_end(&rt, &ended, 3, b"\x01\x02", "input failed\n", "input");
+    let mut source = Source::new(b"1\n2\n1.5", usize::MAX, None);
+    let device = Device::new(rt.alloc(), 1, false);
+    let ended = run_on(rt.alloc(), words, &mut source, device)?;
+    expect_end(&rt, &ended, 3, b"\x01", "output failed\n", "output");
+    Ok(())
+}
+
 #[test]
 fn tells_its_commands(rt: HostRuntime) -> Result<(), Fail> {
     for word in ["--help", "-h"] {
@@ -744,13 +875,17 @@ fn tells_its_commands(rt: HostRuntime) -> Result<(), Fail> {
         "  cbor read [--det [--core]] [limit] ",
         "  cbor canon [--core] [limit] ",
         "  cbor diag [--indent] [limit] ",
+        "  cbor diag --exact ",
+        "  cbor encode [limit] ",
         "  cbor seq ",
         "  cbor dump ",
         "  cbor sort [--core] ",
         "  cbor diag --binary [--indent] [limit] [file..]\n",
+        "  cbor diag --binary --exact [file..] ",
         "  cbor read --binary [--det [--core]] [limit] [file..]\n",
         "  cbor canon --binary [--core] [limit] [file..]\n",
         "  cbor dump --binary [file..] ",
+        "  cbor encode --binary [limit] ",
         "  cbor --help, -h, cbor --version ",
     ] {
         assert!(rt; HELP.contains(words), "{words}");
@@ -961,12 +1096,61 @@ const WRONG_WORDS: &[&[&str]] = &[
 #[test]
 fn refuses_wrong_words(rt: HostRuntime) -> Result<(), Fail> {
     for words in WRONG_WORDS {
-        let mut source = Source::new(b"00\n", 1, None);
-        let device = Device::new(rt.alloc(), usize::MAX, false);
-        let ended = run_on(rt.alloc(), words, &mut source, device)?;
-        expect_end(&rt, &ended, 2, b"", USAGE, "wrong words");
-        assert_eq!(rt; source.reads(), 0);
+        expect_refused_words(&rt, rt.alloc(), words)?;
     }
+    Ok(())
+}
+
+const WRONG_EXACT_WORDS: &[&[&str]] = &[
+    &["diag", "--exact", "a.cbor"],
+    &["diag", "--exact", "1"],
+    &["diag", "--exact", "--indent"],
+    &["diag", "--indent", "--exact"],
+    &["diag", "--binary", "--exact", "1"],
+    &["diag", "--binary", "--exact", "--indent"],
+    &["diag", "--exact", "--binary"],
+    &["diag", "--exact", "--binary", "a.cbor"],
+    &["--exact"],
+];
+
+#[test]
+fn refuses_wrong_words_for_very_heads(rt: HostRuntime) -> Result<(), Fail> {
+    for words in WRONG_EXACT_WORDS {
+        expect_refused_words(&rt, rt.alloc(), words)?;
+    }
+    Ok(())
+}
+
+const WRONG_ENCODE_WORDS: &[&[&str]] = &[
+    &["encode", "x"],
+    &["encode", "+1"],
+    &["encode", "18446744073709551616"],
+    &["encode", "1", "2"],
+    &["encode", "a.cbor"],
+    &["encode", "--core"],
+    &["encode", "--indent"],
+    &["encode", "1", "--binary"],
+    &["encode", "--binary", "a.cbor"],
+    &["encode", "--binary", "1", "a.cbor"],
+    &["encode", "--binary", "--binary"],
+    &["ENCODE"],
+];
+
+#[test]
+fn refuses_wrong_words_for_notation(rt: HostRuntime) -> Result<(), Fail> {
+    for words in WRONG_ENCODE_WORDS {
+        expect_refused_words(&rt, rt.alloc(), words)?;
+    }
+    Ok(())
+}
+
+// Words that are wrong: the usage is told, and nothing is read.
+fn expect_refused_words(rt: &impl Abort, alloc: Global, words: &[&str]) -> Result<(), Fail> {
+    let mut source = Source::new(b"00\n", 1, None);
+    let device = Device::new(alloc, usize::MAX, false);
+    let ended = run_on(alloc, words, &mut source, device)?;
+    expect_end(rt, &ended, 2, b"", USAGE, "wrong words");
+    assert_eq!(rt; source.reads(), 0);
     Ok(())
 }
 

@@ -128,7 +128,7 @@ fn tells_the_end_from_a_cut(rt: HostRuntime) -> Result<(), Fail> {
     Ok(())
 }
 
-// A sequence, a limit, and what is shown of the items before the first that is refused, and of it.
+// A sequence, a limit, and what is shown of its items, of which one is refused.
 const REFUSED: &[(&[u8], usize, &str)] = &[
     (b"\x01\x61a\x1e\x02", 256, "1\n\"a\"\nitem 3: syntax 3\n"),
     (b"\x01\x82\x02\x1e", 256, "1\nitem 2: syntax 3\n"),
@@ -152,7 +152,7 @@ const REFUSED: &[(&[u8], usize, &str)] = &[
         256,
         "0\nitem 2: toolong\n",
     ),
-    (b"\x80\x81\x80\x00", 1, "[]\nitem 2: nesting\n"),
+    (b"\x80\x81\x80\x00", 1, "[]\nitem 2: nesting\n0\n"),
     (b"\x00\x80", 0, "0\nitem 2: nesting\n"),
 ];
 
@@ -166,6 +166,133 @@ fn names_the_item_that_is_refused(rt: HostRuntime) {
             expect_shown(&rt, rt.alloc(), &mut source, showing, limit, expected);
         }
     }
+}
+
+// A sequence, how it is shown, and the lines: behind a well-formed item that is refused the next is
+// shown, and nothing behind what is none.
+const GO_ON: &[(&[u8], Showing, &str)] = &[
+    (
+        b"\x01\xf9\x3c\x00\x02",
+        Showing::Notation(Layout::OneLine),
+        "1\nitem 2: semantic 1 float\n2\n",
+    ),
+    (
+        b"\x00\xf8\x63\x61a",
+        Showing::Encoding(Spelling::Any),
+        "00\nitem 2: semantic 1 simple\n6161\n",
+    ),
+    (
+        b"\x01\x82\x00\x18\x01\x02",
+        Showing::Encoding(Spelling::Deterministic(KeyOrder::LengthFirst)),
+        "01\nitem 2: semantic 3 notshortest\n02\n",
+    ),
+    (
+        b"\xa2\x61b\x00\x61a\x00\x03",
+        Showing::Encoding(Spelling::Deterministic(KeyOrder::Bytewise)),
+        "item 1: semantic 4 keyorder\n03\n",
+    ),
+    (
+        b"\xa2\x01\x00\x01\x00\x18\x03",
+        Showing::Form(KeyOrder::LengthFirst),
+        "item 1: duplicate\n03\n",
+    ),
+    // What follows the float inside its item is passed over.
+    (
+        b"\x84\xf9\x3c\x00\x43\x01\x02\x03\x7f\x61a\xff\xbf\xff\x05",
+        Showing::Notation(Layout::OneLine),
+        "item 1: semantic 1 float\n5\n",
+    ),
+    (
+        b"\xfa\0\0\0\0\xf8\x63\x20",
+        Showing::Notation(Layout::OneLine),
+        "item 1: semantic 0 float\nitem 2: semantic 5 simple\n-1\n",
+    ),
+    (
+        b"\xf9\x3c\x00\x82\x01",
+        Showing::Notation(Layout::OneLine),
+        "item 1: semantic 0 float\nitem 2: io\n",
+    ),
+    (
+        b"\xf9\x3c\x00\x1e\x00",
+        Showing::Notation(Layout::OneLine),
+        "item 1: semantic 0 float\nitem 2: syntax 3\n",
+    ),
+    // What stands behind a float, in one item, is no item.
+    (
+        b"\x82\xf9\x3c\x00\x1e\x00",
+        Showing::Notation(Layout::OneLine),
+        "item 1: semantic 1 float\n",
+    ),
+    (
+        b"\x81\xff\x00",
+        Showing::Notation(Layout::OneLine),
+        "item 1: semantic 1 break\n",
+    ),
+];
+
+#[test]
+fn goes_on_behind_a_refused_item(rt: HostRuntime) {
+    for &(bytes, showing, text) in GO_ON {
+        for most in [1, 2, usize::MAX] {
+            let mut source = Source::new(bytes, most, None);
+            let expected = (false, text.as_bytes());
+            expect_shown(&rt, rt.alloc(), &mut source, showing, 256, expected);
+        }
+    }
+}
+
+// The float stands behind 5,000 bytes of its item, which no buffer holds whole behind the first.
+#[test]
+fn goes_on_behind_the_buffer(rt: HostRuntime) -> Result<(), Fail> {
+    let mut bytes = Vec::new(rt.alloc());
+    for head in [b"\x59\x13\x85".as_slice(), b"\x82\x59\x13\x85"] {
+        bytes.extend_from_slice(head)?;
+        bytes.extend_from_slice(&[0; 4997])?;
+    }
+    bytes.extend_from_slice(b"\xf9\x3c\x00\x05")?;
+    for most in [1, 3000, usize::MAX] {
+        let mut source = Source::new(&bytes, most, None);
+        let mut output = Vec::new(rt.alloc());
+        let showing = Showing::Encoding(Spelling::Any);
+        let shown = show_items(rt.alloc(), &mut source, b"", showing, 256, &mut output);
+        assert!(rt; matches!(shown, Ok(false)));
+        assert!(rt;
+            output
+                .as_slice()
+                .ends_with(b"00\nitem 2: semantic 10001 float\n05\n"),
+            "{most}"
+        );
+    }
+    Ok(())
+}
+
+// An item of 257 levels ends the stream where it is refused, and not where the limit allows it.
+#[test]
+fn ends_at_an_item_that_is_too_deep(rt: HostRuntime) -> Result<(), Fail> {
+    for (inner, limit, text) in [
+        (b"\x00".as_slice(), 256, "item 1: nesting\n"),
+        (b"\x00", 257, "]\n1\n"),
+        (b"\xe0", 257, "item 1: semantic 257 simple\n"),
+    ] {
+        let mut bytes = Vec::new(rt.alloc());
+        bytes.extend_from_slice(&[0x81; 257])?;
+        bytes.extend_from_slice(inner)?;
+        bytes.extend_from_slice(b"\x01")?;
+        for most in [1, usize::MAX] {
+            let mut source = Source::new(&bytes, most, None);
+            let mut output = Vec::new(rt.alloc());
+            let showing = Showing::Notation(Layout::OneLine);
+            let shown = show_items(rt.alloc(), &mut source, b"", showing, limit, &mut output);
+            assert!(rt; matches!(shown, Ok(all) if all != text.starts_with("item")));
+            assert!(rt; output.as_slice().ends_with(text.as_bytes()), "{most}");
+            assert_eq!(rt;
+                output.starts_with(b"item"),
+                text.starts_with("item"),
+                "{most}"
+            );
+        }
+    }
+    Ok(())
 }
 
 // Two items of 5,000 bytes stand before the one that is refused, so that no buffer holds all three,

@@ -1,4 +1,6 @@
-use Rattle.std.proofs.Common.{◌≡◌, [], ◌++◌}
+use Rattle.std.proofs.Common.{◌≡◌, ℕ, [], ◌++◌, Bool, List, Option}
+use Rattle.cbor.specs.EncodedLines.{AreEncoded}
+use Rattle.cbor.specs.ExactStreams.{IsShownExactly}
 use Rattle.cbor.specs.Lines.{AreAnswered}
 use Rattle.cbor.specs.SortedLines.{AreSortedOrRefused}
 use Rattle.cbor.specs.Streams.{IsDumpedBehind, IsStreamShown}
@@ -6,7 +8,9 @@ use Rattle.cbor.specs.Topics.{topic_text}
 use Rattle.cbor.proofs.AnsweredLines.{answered-still, flushed-each, flushed-told, still}
 use Rattle.cbor.proofs.MeantLines.{sorted-still}
 use Rattle.cbor.proofs.DumpedInputs.{dumped-still}
-use Rattle.cbor.proofs.ShownItems.{shown-still}
+use Rattle.cbor.proofs.EncodedLines.{encoded-still, encoded-told}
+use Rattle.cbor.proofs.ExactlyStreamed.{shown-still}
+use Rattle.cbor.proofs.StreamedItems.{shown-sent}
 use Rattle.cbor.proofs.run.perform.Goals as goal
 
 pub returns-in-Answer-clause-answered : goal.returns-in-Answer-clause-answered
@@ -33,8 +37,16 @@ returns-in-Show-clause-shown g c showing limit b w same e f =
     let within : c.in-Show.limit ≡ limit = cc in
     flushed-each (λ all. IsStreamShown [] showing b limit w all _) (λ all. IsStreamShown [] showing b limit w all _)
     c.show_items-shown.result finish.result finish.ensures.same
-    (λ all. shown-still [] showing b limit w all _ _ finish.ensures.kept)
+    (shown-sent [] showing b limit w _ _ (λ xs. still _ _ xs finish.ensures.kept))
     (rw (so, within) at c.show_items-shown.ensures b w e f)
+
+pub returns-in-ShowExactly-clause-exactly : goal.returns-in-ShowExactly-clause-exactly
+returns-in-ShowExactly-clause-exactly g c b w same e f =
+    let finish = c.finish-in-ShowExactly in
+    flushed-each (λ all. IsShownExactly [] b w all _) (λ all. IsShownExactly [] b w all _)
+    c.show_exactly-shown.result finish.result finish.ensures.same
+    (shown-still [] b w _ _ (λ xs. still _ _ xs finish.ensures.kept))
+    (c.show_exactly-shown.ensures b w e f)
 
 pub returns-in-Dump-clause-dumped : goal.returns-in-Dump-clause-dumped
 returns-in-Dump-clause-dumped g c b w same e f =
@@ -43,6 +55,16 @@ returns-in-Dump-clause-dumped g c b w same e f =
     finish.result finish.ensures.same
     (λ all. dumped-still b w all _ _ finish.ensures.kept)
     (c.dump_input-dumped.ensures b w e f)
+
+pub returns-in-Encode-clause-encoded : goal.returns-in-Encode-clause-encoded
+returns-in-Encode-clause-encoded g c limit b w same e f =
+    let finish = c.finish-done in
+    let within : c.in-Encode.limit ≡ limit = cc in
+    let shows = λ (after : Option (List ℕ)) (all : Bool). (told : List ℕ) × AreEncoded limit b w all after told in
+    flushed-each (shows _) (shows _) c.encode_lines-encoded.result finish.result finish.ensures.same
+    (λ all (told, are). (told, encoded-still limit b w all _ _ told (λ xs. still _ _ xs finish.ensures.kept) are))
+    (encoded-told c.in-Encode.limit limit b w c.encode_lines-encoded.result _ _ within
+    (c.encode_lines-encoded.ensures b w e f))
 
 pub returns-in-Tell-clause-told : goal.returns-in-Tell-clause-told
 returns-in-Tell-clause-told g c topic w same e =

@@ -1,53 +1,30 @@
-use Rattle.std.proofs.Common.{◌≡◌, ◌+◌, ap, arith, ◌∙◌, Err, Ok, Some}
-use Rattle.ciborium_value.specs.View.{tree_of}
-use Rattle.cbor.specs.Answer.{refusal_behind}
-use Rattle.cbor.proofs.StreamedItems.{all-shown, first-formless, first-refused, none-shown, one-more-shown, shown-still}
+use Rattle.std.proofs.Common.{◌≡◌, ◌+◌, ap, arith, ◌∙◌, Some}
+use Rattle.cbor.proofs.StreamedItems.{all-shown, none-follows, none-shown, one-more-shown}
 use Rattle.cbor.proofs.streams.show_stream.Goals as goal
 
 pub items-init : goal.items-init
-items-init g c b w e f = none-shown c.args.showing b c.args.limit w _ _ e f
+items-init g c b w e f = none-shown c.args.place.now c.args.showing c.args.limit b w _ _ e f
 
 pub returns-in-None : goal.returns-in-None
 returns-in-None g c b w e f =
-    all-shown c.args.place.now c.args.showing b c.args.limit w _ _ c.items.number c.items.offset
-    (shown-still c.args.place.now c.args.showing b c.args.limit w _ _ c.items.number c.items.offset _
-    (c.items.invariant b w e f) c.in_ok-next_item.ensures.held)
-    (λ xs h. rw c.in-None.is at (c.in_ok-next_item.ensures.next xs h))
+    all-shown c.args.place.now c.args.showing c.args.limit b w _ _ _ c.items.number c.items.offset c.items.all
+    (c.items.invariant b w e f) c.in_ok-next.ensures.held
+    (λ xs h. rw c.in-None.is at (c.in_ok-next.ensures.next xs h))
 
-pub returns-in-Some-Err : goal.returns-in-Some-Err
-returns-in-Some-Err g c b w e f =
-    let next : c.in_ok-next_item.field-0 ≡ Some (Err c.in-Some-Err.refusal) = c.in-Some-Err.is ∙
-    ap Some c.in-Some-Err.field-0-is in
-    let moved : c.in_ok-refusal-in-Some-Err.refusal ≡ refusal_behind c.items.offset c.in-Some-Err.refusal =
-    grind (arith, c.behind.ensures.moved) in
-    first-refused c.args.place.now c.args.showing b c.args.limit w _ _ c.items.number c.items.offset _
-    c.in-Some-Err.refusal _ moved
-    (shown-still c.args.place.now c.args.showing b c.args.limit w _ _ c.items.number c.items.offset _
-    (c.items.invariant b w e f) c.in_ok-next_item.ensures.held)
-    (λ xs h. rw (next, c.shown_spelling-spelling.ensures) at (c.in_ok-next_item.ensures.next xs h))
-    c.in_ok-show_refused-in-Some-Err.ensures
-
-pub returns-in-Err : goal.returns-in-Err
-returns-in-Err g c b w e f =
-    let next : c.in_ok-next_item.field-0 ≡ Some (Ok (c.in-Some-Ok.value, c.in-Some-Ok.size)) = c.in-Some-Ok.is ∙
-    ap Some c.in-Some-Ok.field-0-is in
-    first-formless c.args.place.now c.args.showing b c.args.limit w _ _ c.items.number c.items.offset _ _
-    c.in-Some-Ok.value c.in-Some-Ok.size c.in-Err.kind
-    (shown-still c.args.place.now c.args.showing b c.args.limit w _ _ c.items.number c.items.offset _
-    (c.items.invariant b w e f) c.in_ok-next_item.ensures.held)
-    (λ xs h. rw (next, c.shown_spelling-spelling.ensures) at (c.in_ok-next_item.ensures.next xs h))
-    c.in-Err.ensures.formless
-    c.in_ok-show_formless-in-Some-Ok.ensures
+pub returns-in-Some-NoItem : goal.returns-in-Some-NoItem
+returns-in-Some-NoItem g c b w e f =
+    let comes = c.in-Some-NoItem.is ∙ ap Some c.in-Some-NoItem.field-0-is in
+    none-follows c.args.place.now c.args.showing c.args.limit b w _ _ _ c.items.number c.items.offset c.items.all
+    (c.items.invariant b w e f) c.in_ok-next.ensures.held _ c.in-Some-NoItem.refusal
+    (λ xs h. rw (comes, c.shown_spelling-spelling.ensures) at (c.in_ok-next.ensures.next xs h))
+    c.in_ok-show_refused-in-Some-NoItem.ensures
 
 pub items-preserved : goal.items-preserved
 items-preserved g c b w e f =
-    let next : c.in_ok-next_item.field-0 ≡ Some (Ok (c.in-Some-Ok.value, c.in-Some-Ok.size)) = c.in-Some-Ok.is ∙
-    ap Some c.in-Some-Ok.field-0-is in
-    let moved : c.in_ok-offset-in-Some-Ok.offset ≡ c.items.offset + c.in-Some-Ok.size = grind arith in
-    one-more-shown c.args.place.now c.args.showing b c.args.limit w _ _ c.items.number c.items.offset _ _
-    c.in-Some-Ok.value c.in-Some-Ok.size (tree_of c.make_shown.new.value) _ moved
-    (shown-still c.args.place.now c.args.showing b c.args.limit w _ _ c.items.number c.items.offset _
-    (c.items.invariant b w e f) c.in_ok-next_item.ensures.held)
-    (λ xs h.
-    let (some, read) = rw (next, c.shown_spelling-spelling.ensures) at (c.in_ok-next_item.ensures.next xs h) in read)
-    c.in_default.ensures.form c.in_ok-show_item-in-Some-Ok.ensures
+    let comes = c.in-Some-Item.is ∙ ap Some c.in-Some-Item.field-0-is in
+    let moved : c.in_ok-offset-in-Some-Item.offset ≡ c.items.offset + c.in-Some-Item.size = grind arith in
+    one-more-shown c.args.place.now c.args.showing c.args.limit b w _ _ _ c.items.number c.items.offset c.items.all
+    (c.items.invariant b w e f) c.in_ok-next.ensures.held _ _ c.in-Some-Item.item c.in-Some-Item.size _
+    c.in_ok-is_shown-in-Some-Item.is_shown moved
+    (λ xs h. rw (comes, c.shown_spelling-spelling.ensures) at (c.in_ok-next.ensures.next xs h))
+    (λ s ys. c.in_ok-is_shown-in-Some-Item.ensures s ys c.args.limit)

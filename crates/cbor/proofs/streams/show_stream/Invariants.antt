@@ -9,5 +9,5 @@ abbrev pub invariant-items : goal.invariant-items
 invariant-items g l =
     (b w : List ℕ) → reader_remaining g.R.Read.remaining l.initial.reader ≡ Some b →
     append_known (g.W.Write.contents l.initial.output) l.initial.waiting.items ≡ Some w →
-    AreShownSoFar l.showing b l.limit w (reader_remaining g.R.Read.remaining l.reader)
-    (append_known (g.W.Write.contents l.output) l.waiting.items) l.number l.offset
+    AreShownSoFar l.place l.showing l.limit b w (reader_remaining g.R.Read.remaining l.reader)
+    (append_known (g.W.Write.contents l.output) l.waiting.items) l.number l.offset l.all

@@ -1,0 +1,233 @@
+-- The notation that shows the very heads of an item is appended item by item.
+use Rattle.std.proofs.Common.{◌≡◌, ℕ, ◌+◌, ◌==◌, Bool, true, false, List, [], ◌∷◌, ◌++◌, length, codes}
+use Rattle.std.proofs.Common.{if◌then◌else◌, inl, inr, refl, sym, ap, ◌∙◌, subst, arith, append-nil, append_assoc}
+use Rattle.std.proofs.Common.{drop, add-one, decimal, OnOk, Result, Ok, Err, is_ok, Some, ◌<◌, length-append}
+use Rattle.std.proofs.lemmas.Bool.{eqb-true}
+use Rattle.std.proofs.lemmas.Bool.Decides.{eqb_tells}
+use Rattle.hex.specs.Hex.{encode_lower}
+use Rattle.ciborium_ll.specs.Head.{IsFloat, IsHead, break_byte, open_byte}
+use Rattle.ciborium_ll.specs.Header.{IsFloatOf, SpellsHeader}
+use Rattle.ciborium_ll.specs.ItemHeads.{HasRead, IsHeadRead, unread}
+use Rattle.ciborium_ll.specs.Levels.{IsPayloadOf}
+use Rattle.ciborium_ll.specs.StringRefusal.{IsAllowed, StringKind, of_bytes, of_text, string_major}
+use Rattle.ciborium_ll.specs.declared.header.Header.{Header}
+use Rattle.ciborium_ll.specs.declared.header.Header.TheVariants as header
+use Rattle.ciborium_ll.specs.declared.item_heads.ItemHead.{ItemHead}
+use Rattle.ciborium_ll.specs.declared.item_heads.ItemHeads.{ItemHeads}
+use Rattle.cbor.specs.Exact.{AreChunksExactly, AreExactly, AreOpenChunks, AreOpenParts, HasPassed, IsExactly}
+use Rattle.cbor.specs.Exact.{IsItemPushed, IsPushed, IsStringExactly, empty_text, head_bytes, lead, mark, open_text}
+use Rattle.cbor.specs.Exact.{IsFrontPushed, TellsNoItem, kind_of, payload_text}
+use Rattle.cbor.specs.Line.{trailing_text}
+use Rattle.cbor.proofs.DumpedHeads.{less-unread}
+
+-- ---- bytes that were read
+
+pub passed-none : (h : ItemHeads) → HasRead h → HasPassed h h []
+passed-none h read = record { read = read; same = refl; front = refl }
+
+pub passed-more : (a b c : ItemHeads) (r s : List ℕ) → HasPassed a b r → HasPassed b c s → HasPassed a c (r ++ s)
+passed-more a b c r s p q = record {
+  read = q.read;
+  same = q.same ∙ p.same;
+  front = p.front ∙ (ap (λ (x : List ℕ). r ++ x) q.front ∙ sym (append_assoc r s (unread c)));
+}
+
+pub passed-head : (old new : ItemHeads) (head : ItemHead) → HasRead new × IsHeadRead old new head →
+    HasPassed old new (head_bytes head)
+passed-head old new head (read, is) = record {
+  read = read;
+  same = is.same;
+  front = is.front ∙ sym (append_assoc head.bytes.now head.payload.now (unread new));
+}
+
+-- ---- items in a row
+
+pub next-pushed : (a b c : ItemHeads) (head : ItemHead) (t v : List ℕ) → HasRead b × IsHeadRead a b head →
+    IsItemPushed head b c t v → IsPushed IsExactly a c t v
+next-pushed a b c head t v is (r, u, passed, shows, longer) =
+    (head_bytes head ++ r, u, passed-more a b c (head_bytes head) r (passed-head a b head is) passed, shows, longer)
+
+pub none-pushed : (is_map : Bool) (h : ItemHeads) (t : List ℕ) → HasRead h → IsPushed (AreExactly is_map 0) h h t t
+none-pushed is_map h t read = ([], [], passed-none h read, AreExactly.none is_map, sym (append-nil t))
+
+pub one-more-pushed : (is_map : Bool) (n : ℕ) (a b c : ItemHeads) (t u v w : List ℕ) →
+    IsPushed (AreExactly is_map n) a b t u → v ≡ u ++ lead is_map n → IsPushed IsExactly b c v w →
+    IsPushed (AreExactly is_map (n + 1)) a c t w
+one-more-pushed is_map n a b c t u v w (r, x, before, are, e) f (s, y, after, is, g) = (
+  r ++ s,
+  x ++ (lead is_map n ++ y),
+  passed-more a b c r s before after,
+  subst (λ (k : ℕ). AreExactly is_map k (r ++ s) (x ++ (lead is_map n ++ y))) (sym (add-one n))
+      (AreExactly.next is_map n r x s y are is),
+  g ∙ rw (f, e) (simp append_assoc refl),
+)
+
+pub behind-both : (t u v x y : List ℕ) → u ≡ t ++ x → v ≡ u ++ y → v ≡ t ++ (x ++ y)
+behind-both t u v x y e f = f ∙ (ap (λ (s : List ℕ). s ++ y) e ∙ append_assoc t x y)
+
+-- ---- strings
+
+-- so many parts of a string were read, and the text grew by them
+abbrev pub AreChunksBegun : StringKind → ℕ → ItemHeads → ItemHeads → List ℕ → List ℕ → Type 0
+AreChunksBegun kind n old new text longer = (b : List ℕ) × (u : List ℕ) × HasPassed old new b ×
+    AreChunksExactly kind n b u × (longer ≡ text ++ (if n == 0 then [] else codes "(_ " ++ u))
+
+pub no-chunks : (kind : StringKind) (h : ItemHeads) (t : List ℕ) → HasRead h → AreChunksBegun kind 0 h h t t
+no-chunks kind h t read = ([], [], passed-none h read, AreChunksExactly.none, sym (append-nil t))
+
+-- the head of a definite string
+abbrev pub string_header : StringKind → ℕ → Header
+string_header of_bytes n = header.Bytes (Some n)
+string_header of_text n = header.Text (Some n)
+
+definite : (kind : StringKind) (n : ℕ) (h payload : List ℕ) → SpellsHeader h (string_header kind n) →
+    IsPayloadOf (string_header kind n) payload → IsHead h (string_major kind) (length payload) × IsAllowed kind payload
+definite of_bytes n h payload is (size, allowed) = (rw size is, allowed)
+definite of_text n h payload is (size, allowed) = (rw size is, allowed)
+
+-- a string and its mark
+pub marked-string : {E : Type 0} (is_text b : Bool) (n : ℕ) (head : ItemHead) (r : Result (Unit {0}) E)
+    (t u v m : List ℕ) → is_text ≡ b → SpellsHeader head.bytes.now head.header →
+    IsPayloadOf head.header head.payload.now → head.header ≡ string_header (kind_of b) n →
+    u ≡ t ++ payload_text (kind_of b) head.payload.now →
+    m ≡ mark (length head.bytes.now) (length head.payload.now) → v ≡ (if is_ok r then u ++ m else u) →
+    OnOk r ((y : List ℕ) × IsStringExactly (kind_of is_text) (head_bytes head) y × (v ≡ t ++ y))
+marked-string is_text b n head (Err never) t u v m same is payload e f g h = tt
+marked-string is_text b n head (Ok done) t u v m same is payload e f g h =
+    let found = definite (kind_of b) n head.bytes.now head.payload.now (rw e at is) (rw e at payload) in
+    rw same (
+      payload_text (kind_of b) head.payload.now ++ mark (length head.bytes.now) (length head.payload.now),
+      (head.bytes.now, head.payload.now, found.0, found.1, refl, refl),
+      h ∙ rw (f, g) (append_assoc t _ _),
+    )
+
+-- a break was read
+passed-break : (a b c : ItemHeads) (r : List ℕ) (head : ItemHead) → HasPassed a b r → HasRead c × IsHeadRead b c head →
+    head.header ≡ header.Break → HasPassed a c (r ++ (break_byte ∷ []))
+passed-break a b c r head before is e =
+    let is-break = (rw e at is.1.spelled) in
+    let bare = (rw e at is.1.payload) in
+    subst (λ (s : List ℕ). HasPassed a c (r ++ s)) (rw (is-break, bare) refl)
+    (passed-more a b c r (head_bytes head) before (passed-head b c head is))
+
+-- of no parts there is no text
+no-text : (kind : StringKind) (n : ℕ) (b u : List ℕ) → AreChunksExactly kind n b u → n ≡ 0 → u ≡ []
+no-text kind n b u AreChunksExactly.none e = refl
+no-text kind n b u (AreChunksExactly.next m c t s v are is) e = absurd (omega (arith, e))
+
+pub one-more-chunk : (kind : StringKind) (n : ℕ) (a b c : ItemHeads) (head : ItemHead) (t u v w : List ℕ) →
+    AreChunksBegun kind n a b t u → HasRead c × IsHeadRead b c head →
+    v ≡ u ++ (if n == 0 then codes "(_ " else codes ", ") →
+    (y : List ℕ) × IsStringExactly kind (head_bytes head) y × (w ≡ v ++ y) → AreChunksBegun kind (n + 1) a c t w
+one-more-chunk kind n a b c head t u v w (r, x, before, are, e) is f (y, string, g) = (
+  r ++ head_bytes head,
+  x ++ (lead false n ++ y),
+  passed-more a b c r (head_bytes head) before (passed-head b c head is),
+  subst (λ (k : ℕ). AreChunksExactly kind k (r ++ head_bytes head) (x ++ (lead false n ++ y))) (sym (add-one n))
+      (AreChunksExactly.next n r x (head_bytes head) y are string),
+  g ∙ rw (f, e) (joined (n == 0) (n + 1 == 0) (λ h. no-text kind n r x are (eqb-true n 0 h)) some-more),
+)
+  where
+    some-more : (n + 1 == 0) ≡ false
+    some-more = elim (eqb_tells (n + 1) 0) [ inl (e, never) ↦ absurd (omega (arith, never)) | inr (e, more) ↦ e ]
+
+    joined : (none some : Bool) → (none ≡ true → x ≡ []) → some ≡ false →
+        ((t ++ (if none then [] else codes "(_ " ++ x)) ++ (if none then codes "(_ " else codes ", ")) ++ y
+        ≡ t ++ (if some then [] else codes "(_ " ++ (x ++ ((if none then [] else codes ", ") ++ y)))
+    joined true some empty more = rw (empty refl, more) (simp append_assoc refl)
+    joined false some empty more = rw more (simp append_assoc refl)
+
+pub all-chunks : (kind : StringKind) (n : ℕ) (a b c : ItemHeads) (head : ItemHead) (t u v : List ℕ) →
+    AreChunksBegun kind n a b t u → HasRead c × IsHeadRead b c head → head.header ≡ header.Break →
+    v ≡ u ++ (if n == 0 then empty_text kind else codes ")") → IsPushed (AreOpenChunks kind) a c t v
+all-chunks kind n a b c head t u v (r, x, before, are, e) is ends f = (
+  r ++ (break_byte ∷ []),
+  open_text kind n x,
+  passed-break a b c r head before is ends,
+  (n, r, x, refl, are, refl),
+  f ∙ rw e (closed (n == 0)),
+)
+  where
+    closed : (none : Bool) →
+        (t ++ (if none then [] else codes "(_ " ++ x)) ++ (if none then empty_text kind else codes ")")
+        ≡ t ++ (if none then empty_text kind else codes "(_ " ++ (x ++ codes ")"))
+    closed true = simp append_assoc refl
+    closed false = simp append_assoc refl
+
+-- ---- items before a break
+
+pub all-parts : (is_map : Bool) (n k : ℕ) (a b c : ItemHeads) (head : ItemHead) (t u : List ℕ) →
+    IsPushed (AreExactly is_map n) a b t u → HasRead c × IsHeadRead b c head → head.header ≡ header.Break →
+    n ≡ (if is_map then k + k else k) → IsPushed (AreOpenParts is_map) a c t u
+all-parts is_map n k a b c head t u (r, x, before, are, e) is ends count = (
+  r ++ (break_byte ∷ []),
+  x,
+  passed-break a b c r head before is ends,
+  (k, r, refl, subst (λ (m : ℕ). AreExactly is_map m r x) count are),
+  e,
+)
+
+-- ---- one item
+
+pub with-parts : (head : ItemHead) (a c : ItemHeads) (b u t v : List ℕ) → head.payload.now ≡ [] → HasPassed a c b →
+    IsExactly (head.bytes.now ++ b) u → v ≡ t ++ u → IsItemPushed head a c t v
+with-parts head a c b u t v bare passed shows e =
+    (b, u, passed, rw (bare, append-nil head.bytes.now) shows, e)
+
+pub alone : (head : ItemHead) (h : ItemHeads) (u t v : List ℕ) → HasRead h → head.payload.now ≡ [] →
+    IsExactly head.bytes.now u → v ≡ t ++ u → IsItemPushed head h h t v
+alone head h u t v read bare shows e =
+    with-parts head h h [] u t v bare (passed-none h read) (rw (append-nil head.bytes.now) shows) e
+
+pub as-string : (kind : StringKind) (head : ItemHead) (h : ItemHeads) (t v : List ℕ) → HasRead h →
+    (u : List ℕ) × IsStringExactly kind (head_bytes head) u × (v ≡ t ++ u) → IsItemPushed head h h t v
+as-string kind head h t v read (u, is, e) =
+    ([], u, passed-none h read, rw (append-nil (head_bytes head)) (IsExactly.string kind (head_bytes head) u is), e)
+
+pub as-open-string : (kind : StringKind) (head : ItemHead) (a c : ItemHeads) (t v : List ℕ) → head.payload.now ≡ [] →
+    head.bytes.now ≡ open_byte (string_major kind) ∷ [] → IsPushed (AreOpenChunks kind) a c t v →
+    IsItemPushed head a c t v
+as-open-string kind head a c t v bare opens (b, u, passed, (n, r, x, ends, are, same), e) =
+    with-parts head a c b u t v bare passed (rw (opens, ends, same) (IsExactly.open_string kind n r x are)) e
+
+-- between two brackets, for what any text between them shows
+pub bracketed : (Shows : List ℕ → List ℕ → Type 0) (head : ItemHead) (a c : ItemHeads)
+    (before behind t v w z : List ℕ) → head.payload.now ≡ [] →
+    ((b u : List ℕ) → Shows b u → IsExactly (head.bytes.now ++ b) (before ++ (u ++ behind))) → v ≡ t ++ before →
+    IsPushed Shows a c v w → z ≡ w ++ behind → IsItemPushed head a c t z
+bracketed Shows head a c before behind t v w z bare shows e (b, u, passed, are, f) g =
+    with-parts head a c b (before ++ (u ++ behind)) t z bare passed (shows b u are)
+    (g ∙ rw (f, e) (simp append_assoc refl))
+
+pub as-tag : (h : List ℕ) (n : ℕ) (b t : List ℕ) → IsHead h 6 n → IsExactly b t →
+    IsExactly (h ++ b) (((decimal n ++ mark (length h) n) ++ codes "(") ++ (t ++ codes ")"))
+as-tag h n b t head is =
+    let front : ((decimal n ++ mark (length h) n) ++ codes "(") ++ (t ++ codes ")") ≡
+    decimal n ++ (mark (length h) n ++ (codes "(" ++ (t ++ codes ")"))) = simp append_assoc refl in
+    subst (λ (u : List ℕ). IsExactly (h ++ b) u) (sym front) (IsExactly.tag h n b t head is)
+
+-- the raw bytes of a float stand behind its initial byte
+pub as-float : (h : List ℕ) (size : ℕ) → IsFloatOf h size →
+    IsExactly h (codes "float'" ++ (encode_lower (drop 1 h) ++ codes "'"))
+as-float h size (raw, is, long) =
+    subst (λ (r : List ℕ). IsExactly h (codes "float'" ++ (encode_lower r ++ codes "'"))) (sym (behind is))
+    (IsExactly.float h raw is)
+  where
+    behind : IsFloat h raw → drop 1 h ≡ raw
+    behind (inl (two, e)) = rw e refl
+    behind (inr (inl (four, e))) = rw e refl
+    behind (inr (inr (eight, e))) = rw e refl
+
+-- less is unread behind one more head
+pub less-left : (a b c : ItemHeads) (r : List ℕ) (head : ItemHead) → HasPassed a b r → HasRead c × IsHeadRead b c head →
+    length (unread c) < length (unread a)
+less-left a b c r head before is =
+    omega (arith, less-unread b c head is.1, ap (λ (x : List ℕ). length x) before.front ∙ length-append r (unread b))
+
+-- ---- answers
+
+-- bytes follow an item
+pub told-trailing : (b before text longer : List ℕ) (n : ℕ) → IsFrontPushed b n before text → 0 < n →
+    longer ≡ trailing_text n → TellsNoItem b longer
+told-trailing b before text longer n (s, rest, t, item, all, count, shows, e) more f =
+    TellsNoItem.trailing s rest item all (omega (arith, more, count)) (f ∙ ap trailing_text count)

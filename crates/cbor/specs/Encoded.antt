@@ -1,0 +1,32 @@
+-- What the program answers to a line of diagnostic notation (RFC 8949, section 8). Texts are lists
+-- of bytes.
+use Rattle.std.specs.Prelude.{◌≡◌, ◌⊎◌, ℕ, List, ◌++◌, codes, decimal}
+use Rattle.std.specs.Str.{IsValidUpTo}
+use Rattle.hex.specs.Hex.{encode_lower}
+use Rattle.ciborium_value.specs.Denotes.{Denotes, MayRefuse}
+use Rattle.ciborium_value.specs.Encoding.{encoding}
+use Rattle.ciborium_value.specs.RefusalMessages.{notation_error_message}
+use Rattle.ciborium_value.specs.Tree.{Tree}
+use Rattle.ciborium_value.specs.declared.from_notation.error.NotationError.{NotationError}
+use Rattle.ciborium_value.specs.declared.from_notation.error.NotationError.TheVariants.{At}
+use Rattle.ciborium_value.specs.declared.from_notation.error.NotationFault.{NotationFault}
+
+-- a line denotes a tree, and the text is its encoding in lower-case hex (section 4.1)
+abbrev pub IsEncodingText : List ℕ → List ℕ → Type 0
+IsEncodingText line text = (v : Tree) × Denotes line v × (text ≡ encode_lower (encoding v))
+
+-- this error refuses a line within so many levels: it refuses each tree that the line denotes
+abbrev pub RefusesLine : ℕ → List ℕ → NotationError → Type 0
+RefusesLine limit line e = (v : Tree) → Denotes line v → MayRefuse limit e v
+
+-- the text that says that the longest front of a line that is UTF-8 has n bytes
+abbrev pub not_utf8_text : ℕ → List ℕ
+not_utf8_text n = codes "not UTF-8 at byte " ++ decimal n
+
+-- a line is refused, and the text is the message of the error, or it is not UTF-8, and the text
+-- says where
+abbrev pub TellsNoTree : ℕ → List ℕ → List ℕ → Type 0
+TellsNoTree limit line text =
+    ((p : ℕ) × (fault : NotationFault) × RefusesLine limit line (At p fault) ×
+    (text ≡ notation_error_message (At p fault))) ⊎
+    ((n : ℕ) × IsValidUpTo line n × (text ≡ not_utf8_text n))

@@ -1,0 +1,395 @@
+//! Diagnostic notation that shows the very heads of an item.
+
+ghost use Rattle.std.specs.Prelude.{◌≡◌, ◌≤◌, ◌+◌, ◌==◌, ◌++◌, IfErr, IfOk, List, ℕ, OnOk};
+ghost use Rattle.std.specs.Prelude.{codes, decimal, drop, if◌then◌else◌, length};
+ghost use Rattle.hex.specs.Hex.{encode_lower};
+ghost use Rattle.ciborium_ll.specs.Header.{SpellsHeader};
+ghost use Rattle.ciborium_ll.specs.ItemHeads.{HasRead, IsHeadRead};
+ghost use Rattle.ciborium_ll.specs.Levels.{IsPayloadOf};
+ghost use Rattle.cbor.specs.Exact.{AreExactly, AreOpenChunks, AreOpenParts, Explains};
+ghost use Rattle.cbor.specs.Exact.{IsExactAnswer, IsExactly, IsFrontPushed, IsItemPushed, IsPushed};
+ghost use Rattle.cbor.specs.Exact.{IsStringExactly, empty_text, head_bytes, kind_of, lead, mark};
+ghost use Rattle.cbor.specs.Exact.{simple_text, spaced};
+ghost use Rattle.cbor.specs.declared.exact.Unshown.TheVariants.{Memory};
+
+use crate::digits::push_digits;
+use crate::dumping::{push_quoted, push_reason, push_trailing};
+use ciborium_ll::{Header, ItemHead, ItemHeads, NoItem};
+use std::alloc::{AllocError, Global};
+use std::io::Write;
+
+/// Why an item is not shown.
+#[derive(Clone, Copy, Debug)]
+pub enum Unshown {
+    /// None stands at the front.
+    NoItem(NoItem),
+    /// An allocation failed.
+    Memory,
+}
+
+impl From<AllocError> for Unshown {
+    ghost from_gives = { λ _ unshown. unshown ≡ Memory };
+
+    fn from(_: AllocError) -> Unshown {
+        Unshown::Memory
+    }
+}
+
+/// Makes `text` the diagnostic notation of these bytes exactly as their heads stand (RFC 8949,
+/// sections 8 and 8.1), and says whether they are one item.
+///
+/// Numbers are decimal, byte strings base16, as `h'0aff'`, and texts stand in quotation marks. A
+/// tag is its number before its content in parentheses, arrays and maps are those of JSON, simple
+/// values `simple(99)` where they have no name, and floats their raw bytes, as `float'3c00'`. An
+/// underscore behind the opening bracket says that a length is indefinite, as in `[_ 1, 2]` and
+/// `(_ "a", "b")`, and `''_` or `""_` is such a string of no parts. Where a head is not the
+/// shortest, an underscore and a digit i say that its additional information is 24 + i, as in
+/// `1_1`, `"a"_0`, `[_0 1]` and `1_1(0)`. Where the bytes are no item, the text says why:
+/// `trailing` and the number of bytes that follow an item, `incomplete`, `malformed at` or `too
+/// deep at` and an offset.
+///
+/// # Errors
+///
+/// `AllocError` where an allocation fails.
+pub fn write_exact(alloc: Global, bytes: &[u8], text: &mut Vec<u8>) -> Result<bool, AllocError>
+    ensures { IfOk result (λ is_item. IsExactAnswer bytes.now is_item text.new.items) }
+{
+    text.clear();
+    match push_exact(alloc, bytes, text) {
+        Ok(0) => Ok(true),
+        Ok(count) => {
+            text.clear();
+            push_trailing(count, text)?;
+            Ok(false)
+        }
+        Err(Unshown::NoItem(reason)) => {
+            text.clear();
+            push_reason(reason, text)?;
+            Ok(false)
+        }
+        Err(Unshown::Memory) => Err(AllocError),
+    }
+}
+
+/// Appends the notation of the item at the front of these bytes to a text, as `write_exact` has it,
+/// and says how many bytes follow the item.
+///
+/// # Errors
+///
+/// `NoItem` where none stands there, `Memory` where an allocation fails.
+pub fn push_exact(alloc: Global, bytes: &[u8], text: &mut Vec<u8>) -> Result<usize, Unshown>
+    ensures shown { IfOk result (λ count.
+        IsFrontPushed bytes.now count text.old.items text.new.items) }
+    ensures unshown { IfErr result (λ unshown. Explains bytes.now unshown) }
+{
+    let mut heads = ItemHeads::new(bytes);
+    push_next(alloc, &mut heads, text)?;
+    match heads.next() {
+        Ok(None) => Ok(heads.rest().len()),
+        _ => Err(Unshown::Memory),
+    }
+}
+
+// The next head. Nothing here asks for one behind the last, so that `Memory` is unreachable in
+// practice.
+fn next_head<'b>(heads: &mut ItemHeads<'b>) -> Result<ItemHead<'b>, Unshown>
+    requires { HasRead heads.old }
+    ensures read { IfOk result (λ head.
+        HasRead heads.new × IsHeadRead heads.old heads.new head) }
+    ensures unshown { IfErr result (λ unshown. Explains heads.old.bytes.now unshown) }
+{
+    match heads.next() {
+        Ok(Some(head)) => Ok(head),
+        Ok(None) => Err(Unshown::Memory),
+        Err(reason) => Err(Unshown::NoItem(reason)),
+    }
+}
+
+// Appends the next item.
+#[cycle(push_item)]
+fn push_next(alloc: Global, heads: &mut ItemHeads, text: &mut Vec<u8>) -> Result<(), Unshown>
+    requires { HasRead heads.old }
+    ensures shown { OnOk result
+        (IsPushed IsExactly heads.old heads.new text.old.items text.new.items) }
+    ensures unshown { IfErr result (λ unshown. Explains heads.old.bytes.now unshown) }
+{
+    let head = next_head(heads)?;
+    push_item(alloc, &head, heads, text)
+}
+
+// Appends the item whose head was read. A break is none, and stands where an item may nowhere, so
+// that this `Memory` is unreachable in practice.
+#[cycle(push_item)]
+fn push_item(
+    alloc: Global,
+    head: &ItemHead,
+    heads: &mut ItemHeads,
+    text: &mut Vec<u8>,
+) -> Result<(), Unshown>
+    requires spelled { SpellsHeader head.now.bytes.now head.now.header }
+    requires payload { IsPayloadOf head.now.header head.now.payload.now }
+    requires read { HasRead heads.old }
+    ensures shown { OnOk result
+        (IsItemPushed head.now heads.old heads.new text.old.items text.new.items) }
+    ensures unshown { IfErr result (λ unshown. Explains heads.old.bytes.now unshown) }
+{
+    match head.header {
+        Header::Positive(n) => push_number(n, head.bytes.len(), text)?,
+        Header::Negative(n) => push_negative(n, head.bytes.len(), text)?,
+        Header::Bytes(Some(_)) => push_string(alloc, false, head, text)?,
+        Header::Text(Some(_)) => push_string(alloc, true, head, text)?,
+        Header::Bytes(None) => push_chunks(alloc, false, heads, text)?,
+        Header::Text(None) => push_chunks(alloc, true, heads, text)?,
+        Header::Array(Some(n)) => {
+            push_opening(b"[", head.bytes.len(), n, text)?;
+            push_parts(alloc, false, n as u128, heads, text)?;
+            text.extend_from_slice(b"]")?;
+        }
+        Header::Array(None) => {
+            text.extend_from_slice(b"[_ ")?;
+            push_open_parts(alloc, false, heads, text)?;
+            text.extend_from_slice(b"]")?;
+        }
+        Header::Map(Some(n)) => {
+            push_opening(b"{", head.bytes.len(), n, text)?;
+            push_parts(alloc, true, 2 * (n as u128), heads, text)?;
+            text.extend_from_slice(b"}")?;
+        }
+        Header::Map(None) => {
+            text.extend_from_slice(b"{_ ")?;
+            push_open_parts(alloc, true, heads, text)?;
+            text.extend_from_slice(b"}")?;
+        }
+        Header::Tag(n) => {
+            push_number(n, head.bytes.len(), text)?;
+            text.extend_from_slice(b"(")?;
+            push_next(alloc, heads, text)?;
+            text.extend_from_slice(b")")?;
+        }
+        Header::Simple(n) => push_simple(n, text)?,
+        Header::Float(_) => push_float(head.bytes, text)?,
+        Header::Break => return Err(Unshown::Memory),
+    }
+    Ok(())
+}
+
+// Appends so many items, which are those of an array or the keys and values of a map.
+#[cycle(push_item)]
+fn push_parts(
+    alloc: Global,
+    is_map: bool,
+    count: u128,
+    heads: &mut ItemHeads,
+    text: &mut Vec<u8>,
+) -> Result<(), Unshown>
+    requires { HasRead heads.old }
+    ensures shown { OnOk result
+        (IsPushed (AreExactly is_map count) heads.old heads.new text.old.items text.new.items) }
+    ensures unshown { IfErr result (λ unshown. Explains heads.old.bytes.now unshown) }
+{
+    'parts: for place in 0..count {
+        text.extend_from_slice(lead(is_map, place))?;
+        push_next(alloc, heads, text)?;
+    }
+    Ok(())
+}
+
+// Appends the items before a break. A break that follows a key, and more items than a `u64`
+// counts, are unreachable in practice.
+#[cycle(push_item)]
+fn push_open_parts(
+    alloc: Global,
+    is_map: bool,
+    heads: &mut ItemHeads,
+    text: &mut Vec<u8>,
+) -> Result<(), Unshown>
+    requires { HasRead heads.old }
+    ensures shown { OnOk result
+        (IsPushed (AreOpenParts is_map) heads.old heads.new text.old.items text.new.items) }
+    ensures unshown { IfErr result (λ unshown. Explains heads.old.bytes.now unshown) }
+{
+    'parts: for place in 0..u64::MAX {
+        let head = next_head(heads)?;
+        if let Header::Break = head.header {
+            if is_map && place % 2 == 1 {
+                return Err(Unshown::Memory);
+            }
+            return Ok(());
+        }
+        text.extend_from_slice(lead(is_map, place as u128))?;
+        push_item(alloc, &head, heads, text)?;
+    }
+    Err(Unshown::Memory)
+}
+
+// Appends the parts of a text or a byte string before a break.
+fn push_chunks(
+    alloc: Global,
+    is_text: bool,
+    heads: &mut ItemHeads,
+    text: &mut Vec<u8>,
+) -> Result<(), Unshown>
+    requires { HasRead heads.old }
+    ensures shown { OnOk result
+        (IsPushed (AreOpenChunks (kind_of is_text)) heads.old heads.new text.old.items
+        text.new.items) }
+    ensures unshown { IfErr result (λ unshown. Explains heads.old.bytes.now unshown) }
+{
+    'chunks: for place in 0..u64::MAX {
+        let head = next_head(heads)?;
+        if let Header::Break = head.header {
+            text.extend_from_slice(chunks_end(is_text, place))?;
+            return Ok(());
+        }
+        text.extend_from_slice(chunk_lead(place))?;
+        push_string(alloc, is_text, &head, text)?;
+    }
+    Err(Unshown::Memory)
+}
+
+// Appends a definite string, which is a text or a byte string. Nothing here asks it of another
+// head, so that `AllocError` is then unreachable in practice.
+fn push_string(
+    alloc: Global,
+    is_text: bool,
+    head: &ItemHead,
+    text: &mut Vec<u8>,
+) -> Result<(), AllocError>
+    requires spelled { SpellsHeader head.now.bytes.now head.now.header }
+    requires payload { IsPayloadOf head.now.header head.now.payload.now }
+    ensures { OnOk result ((t : List ℕ) × IsStringExactly (kind_of is_text) (head_bytes head.now) t
+        × (text.new.items ≡ text.old.items ++ t)) }
+{
+    match head.header {
+        Header::Bytes(Some(_)) if !is_text => push_bytes(b"h'", head.payload, text)?,
+        Header::Text(Some(_)) if is_text => push_quoted(alloc, head.payload, text)?,
+        _ => return Err(AllocError),
+    }
+    text.extend_from_slice(mark(head.bytes.len(), head.payload.len() as u64))
+}
+
+// Appends bytes in base16 behind a prefix, and a quotation mark.
+fn push_bytes(prefix: &[u8], bytes: &[u8], text: &mut Vec<u8>) -> Result<(), AllocError>
+    ensures { OnOk result
+        (text.new.items ≡ text.old.items ++ (prefix.now ++ (encode_lower bytes.now ++ codes "'"))) }
+{
+    text.extend_from_slice(prefix)?;
+    push_digits(bytes, text)?;
+    text.extend_from_slice(b"'")
+}
+
+// Appends a number and the mark of its head, which has so many bytes.
+fn push_number(number: u64, size: usize, text: &mut Vec<u8>) -> Result<(), AllocError>
+    ensures { OnOk result
+        (text.new.items ≡ text.old.items ++ (decimal number ++ mark size number)) }
+{
+    if write!(text, "{number}").is_err() {
+        return Err(AllocError);
+    }
+    text.extend_from_slice(mark(size, number))
+}
+
+// Appends the number -1 - n and the mark of its head, which has so many bytes.
+fn push_negative(n: u64, size: usize, text: &mut Vec<u8>) -> Result<(), AllocError>
+    ensures { OnOk result
+        (text.new.items ≡ text.old.items ++ (codes "-" ++ (decimal (n + 1) ++ mark size n))) }
+{
+    if write!(text, "-{}", u128::from(n) + 1).is_err() {
+        return Err(AllocError);
+    }
+    text.extend_from_slice(mark(size, n))
+}
+
+// Appends an opening bracket, and the mark of a head that has so many bytes and this count.
+fn push_opening(
+    bracket: &[u8],
+    size: usize,
+    count: usize,
+    text: &mut Vec<u8>,
+) -> Result<(), AllocError>
+    ensures { OnOk result
+        (text.new.items ≡ text.old.items ++ (bracket.now ++ spaced (mark size count))) }
+{
+    text.extend_from_slice(bracket)?;
+    let mark = mark(size, count as u64);
+    text.extend_from_slice(mark)?;
+    if !mark.is_empty() {
+        text.extend_from_slice(b" ")?;
+    }
+    Ok(())
+}
+
+// Appends a simple value.
+fn push_simple(n: u8, text: &mut Vec<u8>) -> Result<(), AllocError>
+    ensures { OnOk result (text.new.items ≡ text.old.items ++ simple_text n) }
+{
+    let written = match n {
+        20 => write!(text, "false"),
+        21 => write!(text, "true"),
+        22 => write!(text, "null"),
+        23 => write!(text, "undefined"),
+        _ => write!(text, "simple({n})"),
+    };
+    if written.is_err() {
+        return Err(AllocError);
+    }
+    Ok(())
+}
+
+// Appends a float by the bytes behind its initial one.
+fn push_float(head: &[u8], text: &mut Vec<u8>) -> Result<(), AllocError>
+    requires { 1 ≤ length head.now }
+    ensures { OnOk result (text.new.items ≡ text.old.items
+        ++ (codes "float'" ++ (encode_lower (drop 1 head.now) ++ codes "'"))) }
+{
+    push_bytes(b"float'", &head[1..], text)
+}
+
+// What stands before a part that n others precede.
+fn lead(is_map: bool, n: u128) -> &'static [u8]
+    ensures { result.now ≡ lead is_map n }
+{
+    if n == 0 {
+        b""
+    } else if is_map && n % 2 == 1 {
+        b": "
+    } else {
+        b", "
+    }
+}
+
+// The mark of a head of so many bytes.
+fn mark(size: usize, argument: u64) -> &'static [u8]
+    ensures { result.now ≡ mark size argument }
+{
+    match size {
+        2 if argument < 24 => b"_0",
+        3 if argument < 1 << 8 => b"_1",
+        5 if argument < 1 << 16 => b"_2",
+        9 if argument < 1 << 32 => b"_3",
+        _ => b"",
+    }
+}
+
+// What stands before a part of an open string that n others precede.
+fn chunk_lead(n: u64) -> &'static [u8]
+    ensures { result.now ≡ (if n == 0 then codes "(_ " else codes ", ") }
+{
+    if n == 0 { b"(_ " } else { b", " }
+}
+
+// What stands behind n parts of an open string.
+fn chunks_end(is_text: bool, n: u64) -> &'static [u8]
+    ensures { result.now ≡ (if n == 0 then empty_text (kind_of is_text) else codes ")") }
+{
+    if n > 0 {
+        b")"
+    } else if is_text {
+        b"\"\"_"
+    } else {
+        b"''_"
+    }
+}
+
+#[cfg(test)]
+mod tests;
