@@ -19,7 +19,7 @@ use Rattle.ciborium_value.specs.declared.from_notation.error.NotationError.{Nota
 use Rattle.ciborium_value.specs.declared.from_notation.error.NotationError.TheVariants.{At}
 use Rattle.ciborium_value.specs.declared.from_notation.error.NotationFault.TheVariants.{TooDeep}
 use Rattle.ciborium_value.specs.declared.from_notation.levels.Due.{Due}
-use Rattle.ciborium_value.proofs.Denoting.Steps.{first-item, first-key, first_leads, key_leads, leads-array}
+use Rattle.ciborium_value.proofs.Denoting.Steps.{Begun, first-item, first-key, first_leads, key_leads, leads-array}
 use Rattle.ciborium_value.proofs.Denoting.Steps.{leads-comma, leads-end, leads-leaf, leads-map, leads-map-end}
 use Rattle.ciborium_value.proofs.Denoting.Steps.{leads-next-key, leads-no-item, leads-no-pair, leads-tag, opens-deeper}
 use Rattle.ciborium_value.proofs.Trees.Views.{tree_of-Array, tree_of-Map}
@@ -121,6 +121,14 @@ tag_begun ls more n k e pushed =
     (subst (λ o. Leads (map around_of (reverse ls)) item (tokens.begin_tag n) o item) (sym opened)
     (leads-tag (map around_of (reverse ls)) n))
 
+pub no_item_begun : (k : Read) → ((v : Value) → k ≢ read.Leaf v) → ((n : ℕ) → k ≢ read.BeginTag n) →
+    k ≢ read.BeginArray → k ≢ read.BeginMap → (r z : List ℕ) (w : Tree) → Begun (token_read k) r w z → ⊥
+no_item_begun (read.Leaf v) a b c d r z w h = a v refl
+no_item_begun (read.BeginTag n) a b c d r z w h = b n refl
+no_item_begun read.BeginArray a b c d r z w h = c refl
+no_item_begun read.BeginMap a b c d r z w h = d refl
+no_item_begun _ a b c d r z w h = h
+
 -- ---- where the first part of an array or a map is due
 
 pub array_ended : (levels : List Around) (items : Vec Value Global) (k : Read) → k ≡ read.EndArray →
@@ -182,12 +190,12 @@ pub first_misplaced : (ls begun : List Level) (items : Vec Value Global) (k : Re
     IfErr r (IsMisplaced (map around_of (reverse begun)) item (token_read k) limit) →
     IfErr r (IsMisplaced (map around_of (reverse ls)) array_part (token_read k) limit)
 first_misplaced ls begun items k limit (Ok next) other none pushed h = tt
-first_misplaced ls begun items k limit (Err e) other none pushed h = λ ks v c.
+first_misplaced ls begun items k limit (Err e) other none pushed h = λ t r v at c.
     let opened : map around_of (reverse begun) ≡ in_array [] ∷ map around_of (reverse ls) =
     ap (λ (x : List Level). map around_of (reverse x)) pushed ∙ around_last ls (level.Array items) ∙
     ap (λ (x : List Value). in_array (map tree_of x) ∷ map around_of (reverse ls)) none in
-    h ks v (subst (λ o. Completes o item (token_read k ∷ ks) v) (sym opened)
-    (first-item (map around_of (reverse ls)) (token_read k) ks v (not_array_end k other) c))
+    h t r v at (subst (λ o. Completes o item t v) (sym opened)
+    (first-item (map around_of (reverse ls)) (token_read k) t r v (not_array_end k other) at c))
 
 pub key_taken : (ls begun : List Level) (pairs : Vec (Value × Value) Global) (k : Read) (more : List Around)
     (r : Result Due NotationError) → k ≢ read.EndMap → pairs.items ≡ [] → begun ≡ ls ++ level.Keys pairs ∷ [] →
@@ -206,19 +214,19 @@ pub key_misplaced : (ls begun : List Level) (pairs : Vec (Value × Value) Global
     IfErr r (IsMisplaced (map around_of (reverse begun)) item (token_read k) limit) →
     IfErr r (IsMisplaced (map around_of (reverse ls)) map_part (token_read k) limit)
 key_misplaced ls begun pairs k limit (Ok next) other none pushed h = tt
-key_misplaced ls begun pairs k limit (Err e) other none pushed h = λ ks v c.
+key_misplaced ls begun pairs k limit (Err e) other none pushed h = λ t r v at c.
     let opened : map around_of (reverse begun) ≡ in_keys [] ∷ map around_of (reverse ls) =
     ap (λ (x : List Level). map around_of (reverse x)) pushed ∙ around_last ls (level.Keys pairs) ∙
     ap (λ (x : List (Value × Value)). in_keys (map pair_trees x) ∷ map around_of (reverse ls)) none in
-    h ks v (subst (λ o. Completes o item (token_read k ∷ ks) v) (sym opened)
-    (first-key (map around_of (reverse ls)) (token_read k) ks v (not_map_end k other) c))
+    h t r v at (subst (λ o. Completes o item t v) (sym opened)
+    (first-key (map around_of (reverse ls)) (token_read k) t r v (not_map_end k other) at c))
 
 -- ---- a level more than the limit
 
 pub too_deep : (ls : List Level) (k : Read) (limit : ℕ) (place : ℕ) → opens (token_read k) ≡ true →
     limit ≤ length ls → IsMisplaced (map around_of (reverse ls)) item (token_read k) limit (At place TooDeep)
-too_deep ls k limit place opened full = λ ks v c.
-    let h = opens-deeper (map around_of (reverse ls)) (token_read k) ks v opened c in
+too_deep ls k limit place opened full = λ t r v at c.
+    let h = opens-deeper (map around_of (reverse ls)) (token_read k) t r v opened at c in
     let count = open_count ls in omega (arith, h, full, count)
 
 -- an answer of which more is known, where less is asked
