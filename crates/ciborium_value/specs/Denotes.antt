@@ -5,7 +5,8 @@ use Rattle.ciborium_value.specs.Tokens.{begin_array, end_array, begin_map, end_m
 use Rattle.ciborium_value.specs.Tree as trees
 use Rattle.ciborium_value.specs.Tree.{Tree, Trees, TreePairs}
 use Rattle.ciborium_value.specs.declared.from_notation.error.NotationError.{NotationError}
-use Rattle.ciborium_value.specs.declared.from_notation.error.NotationError.TheVariants.{At, Memory}
+pub use Rattle.ciborium_value.specs.declared.from_notation.error.NotationError.TheVariants.{At}
+pub use Rattle.ciborium_value.specs.declared.from_notation.error.NotationError.TheVariants.{Memory}
 use Rattle.ciborium_value.specs.declared.from_notation.error.NotationFault.TheVariants.{TooDeep}
 
 -- behind blanks the text t begins with this token, and r follows it
@@ -31,7 +32,8 @@ mutual
   -- items and the end of their array, with commas between them, where one is due before the first
   -- or none
   pub data BeginsItems : Bool → List ℕ → Trees → List ℕ → Type 0 where
-    no_item : (due : Bool) (t r : List ℕ) → IsToken t end_array r → BeginsItems due t trees.no_trees r
+    no_item : (due : Bool) (t r : List ℕ) → IsToken t end_array r →
+        BeginsItems due t trees.no_trees r
     item : (due : Bool) (v : Tree) (vs : Trees) (t s u r : List ℕ) → IsSeparated due t s →
         Begins s v u → BeginsItems true u vs r → BeginsItems due t (trees.tree v vs) r
 

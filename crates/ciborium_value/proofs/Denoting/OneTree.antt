@@ -1,5 +1,5 @@
 -- A text denotes one tree at most.
-use Rattle.std.proofs.Common.{◌≡◌, ℕ, Bool, true, false, List, refl, sym, ap, ◌∙◌, subst}
+use Rattle.std.proofs.Common.{◌≡◌, ℕ, Bool, true, false, List, sym, ap, ◌∙◌, subst}
 use Rattle.ciborium_value.specs.Denotes.{Begins, BeginsItems, BeginsPairs, IsSeparated, IsToken, alone, item, listed}
 use Rattle.ciborium_value.specs.Denotes.{mapped, no_item, no_pair, pair, tagged}
 use Rattle.ciborium_value.specs.Tokens.{begin_array, begin_map, begin_tag, colon, comma, end_tag, leaf}
@@ -19,9 +19,10 @@ mutual
   one-item t z z' v w (alone _ _ _ is) d = let (e, f) = begun (leaf v) t z z' w is d in (sym e, f)
   one-item t z z' v w (tagged n u _ s x _ is c end) d =
       let (u', x', e, d', end') = begun (begin_tag n) t s z' w is d in
-      let (same, rest) = one-item s x x' u u' c d' in
-      (ap (trees.tag n) same ∙ sym e,
-      (one-token x end_tag end_tag z' z (subst (λ y. IsToken y end_tag z') rest end') end).1)
+      let (same, rest) = one-item s x x' u u' c d' in (
+        ap (trees.tag n) same ∙ sym e,
+        (one-token x end_tag end_tag z' z (subst (λ y. IsToken y end_tag z') rest end') end).1,
+      )
   one-item t z z' v w (listed vs _ s _ is m) d =
       let (vs', e, m') = begun begin_array t s z' w is d in
       let (same, rest) = one-items false s z z' vs vs' m m' in (ap trees.array same ∙ sym e, rest)
@@ -43,16 +44,18 @@ mutual
       (ps ≡ qs) × (z' ≡ z)
   one-pairs due t z z' ps qs (no_pair _ _ _ is) m = let (e, f) = pairs-end due t z z' qs is m in (sym e, f)
   one-pairs due t z z' ps qs m (no_pair _ _ _ is) = let (e, f) = pairs-end due t z' z ps is m in (e, sym f)
-  one-pairs due t z z' ps qs (pair _ k v us _ s u w x _ sep d is f m) (pair _ k' v' us' _ s' u' w' x' _ sep' d' is' f' m')
-      =
+  one-pairs due t z z' ps qs (pair _ k v us _ s u w x _ sep d is f m)
+      (pair _ k' v' us' _ s' u' w' x' _ sep' d' is' f' m') =
       let key = subst (λ y. Begins y k' u') (one-separated due t s s' sep sep') d' in
       let (same, behind) = one-item s u u' k k' d key in
       let value = subst (λ y. Begins y v' x') (one-token u colon colon w' w
       (subst (λ y. IsToken y colon w') behind is') is).1 f' in
       let (equal, after) = one-item w x x' v v' f value in
-      let (others, rest) = one-pairs true x z z' us us' m (subst (λ y. BeginsPairs true y us' z') after m') in
-      (ap (λ y. trees.tree_pair y v us) same ∙ ap (λ y. trees.tree_pair k' y us) equal ∙
-      ap (trees.tree_pair k' v') others, rest)
+      let (others, rest) = one-pairs true x z z' us us' m (subst (λ y. BeginsPairs true y us' z') after m') in (
+        ap (λ y. trees.tree_pair y v us) same ∙ ap (λ y. trees.tree_pair k' y us) equal ∙
+            ap (trees.tree_pair k' v') others,
+        rest,
+      )
 
 pub one_tree_is_denoted : OneTreeIsDenoted
 one_tree_is_denoted t v w (r, d, e) (r', d', e') = (one-item t r r' v w d d').0

@@ -452,8 +452,10 @@ mutual
       (sym (ap (λ (t : List ℕ). 34 ∷ t) (append_assoc (flat_map escaped b) (34 ∷ []) r)))
       (alone _ _ r (at (34 ∷ (flat_map escaped b ++ (34 ∷ r))) r (leaf (trees.text b)) refl
       (ap text_token (text-run b r) ∙ utf8_token b r h.0)))
-  printed lines (trees.boolean true) r h f = alone _ _ r (at (codes "true" ++ r) r (leaf (trees.boolean true)) refl refl)
-  printed lines (trees.boolean false) r h f = alone _ _ r (at (codes "false" ++ r) r (leaf (trees.boolean false)) refl refl)
+  printed lines (trees.boolean true) r h f =
+      alone _ _ r (at (codes "true" ++ r) r (leaf (trees.boolean true)) refl refl)
+  printed lines (trees.boolean false) r h f =
+      alone _ _ r (at (codes "false" ++ r) r (leaf (trees.boolean false)) refl refl)
   printed lines trees.null r h f = alone _ _ r (at (codes "null" ++ r) r (leaf trees.null) refl refl)
   printed lines (trees.tag n v) r h f =
       subst (λ (t : List ℕ). Begins t (trees.tag n v) r)

@@ -1,12 +1,11 @@
 -- How far a text is read.
-use Rattle.std.proofs.Common.{◌≡◌, ◌≢◌, ℕ, List, [], ◌∷◌, Some, None, IfErr, IfOk, Ok, Err, Result, refl, sym, ap, subst}
-use Rattle.std.proofs.Common.{arith, inl, inr, length}
-use Rattle.ciborium_value.specs.Denotes.{Begins, Denotes, MayRefuse}
+use Rattle.std.proofs.Common.{◌≡◌, ◌≢◌, ℕ, List, [], ◌∷◌, Some, None, IfErr, IfOk, Ok, Err, Result, refl, sym, ap}
+use Rattle.std.proofs.Common.{arith, inl, inr, length, subst}
+use Rattle.ciborium_value.specs.Denotes.{At, Begins, Denotes, MayRefuse, Memory}
 use Rattle.ciborium_value.specs.Tokens.{Token, behind_blanks, token_at}
 use Rattle.ciborium_value.specs.Tree.{Tree}
 use Rattle.ciborium_value.specs.View.{tree_of}
 use Rattle.ciborium_value.specs.declared.from_notation.error.NotationError.{NotationError}
-use Rattle.ciborium_value.specs.declared.from_notation.error.NotationError.TheVariants.{At, Memory}
 use Rattle.ciborium_value.specs.declared.tree.Value.{Value}
 use Rattle.ciborium_value.specs.inner.ReadTokens.{Around, Await, Completes, IsMisplaced, IsReached, Leads, behind, item}
 use Rattle.ciborium_value.proofs.Denoting.Steps.{front}

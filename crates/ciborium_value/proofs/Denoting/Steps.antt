@@ -79,7 +79,8 @@ items-end true t r z vs at (denotes.item _ v us _ s u _ is d m) = absurd (cc (on
 abbrev Row : List ℕ → Trees → List ℕ → Type 0
 Row t vs z = (v : Tree) × (us : Trees) × (u : List ℕ) × (vs ≡ trees.tree v us) × Begins t v u × BeginsItems true u us z
 
-item-first : (k : Token) (t r z : List ℕ) (vs : Trees) → k ≢ end_array → IsToken t k r → BeginsItems false t vs z → Row t vs z
+item-first : (k : Token) (t r z : List ℕ) (vs : Trees) → k ≢ end_array → IsToken t k r →
+    BeginsItems false t vs z → Row t vs z
 item-first k t r z vs other at (no_item _ _ _ is) = absurd (other (one-token t k end_array r z at is).0)
 item-first k t r z vs other at (denotes.item _ v us _ s u _ e d m) =
     (v, us, u, refl, subst (λ x. Begins x v u) e d, m)
@@ -210,10 +211,11 @@ pub leads-comma : (levels : List Around) (ws : List Tree) (w : Tree) →
     Leads (in_array ws ∷ levels) (behind w) comma (in_array (ws ++ w ∷ []) ∷ levels) item
 leads-comma levels ws w = record {
   on = λ t r x at (vs, z, m, c). let (v, us, u, e, d, more) = item-comma t r z vs at m in
-      (v, u, d, (us, z, more, moved levels x (ap (λ y. trees.array (trees_before ws (trees.tree w y))) e ∙
-      ap trees.array (sym (trees-behind ws w (trees.tree v us)))) refl c));
-  back = λ t r x at (v, u, d, (us, z, m, c)). (trees.tree v us, z, denotes.item true v us t r u z at d m,
-      moved levels x (ap trees.array (trees-behind ws w (trees.tree v us))) refl c);
+      let whole = ap (λ y. trees.array (trees_before ws (trees.tree w y))) e ∙ ap trees.array (sym (trees-behind ws w
+      (trees.tree v us))) in (v, u, d, (us, z, more, moved levels x whole refl c));
+  back = λ t r x at (v, u, d, (us, z, m, c)).
+      let whole = moved levels x (ap trees.array (trees-behind ws w (trees.tree v us))) refl c in
+      (trees.tree v us, z, denotes.item true v us t r u z at d m, whole);
 }
 
 pub leads-end : (levels : List Around) (ws : List Tree) (w : Tree) →
@@ -239,12 +241,11 @@ pub leads-next-key : (levels : List Around) (qs : List (Tree × Tree)) (k w : Tr
     Leads (in_values qs k ∷ levels) (behind w) comma (in_keys (qs ++ (k, w) ∷ []) ∷ levels) item
 leads-next-key levels qs k w = record {
   on = λ t r x at (ps, z, m, c). let (a, v, us, u, s, y, e, d, is, f, more) = pair-comma t r z ps at m in
-      (a, u, d, (v, s, y, us, z, is, f, more, moved levels x
-      (ap (λ b. trees.map (pairs_before qs (trees.tree_pair k w b))) e ∙
-      ap trees.map (sym (pairs-behind qs (k, w) (trees.tree_pair a v us)))) refl c));
+      let whole = ap (λ b. trees.map (pairs_before qs (trees.tree_pair k w b))) e ∙ ap trees.map (sym (pairs-behind qs
+      (k, w) (trees.tree_pair a v us))) in (a, u, d, (v, s, y, us, z, is, f, more, moved levels x whole refl c));
   back = λ t r x at (a, u, d, (v, s, y, us, z, is, f, m, c)).
-      (trees.tree_pair a v us, z, pair true a v us t r u s y z at d is f m,
-      moved levels x (ap trees.map (pairs-behind qs (k, w) (trees.tree_pair a v us))) refl c);
+      let whole = moved levels x (ap trees.map (pairs-behind qs (k, w) (trees.tree_pair a v us))) refl c in
+      (trees.tree_pair a v us, z, pair true a v us t r u s y z at d is f m, whole);
 }
 
 pub leads-map-end : (levels : List Around) (qs : List (Tree × Tree)) (k w : Tree) →

@@ -1,5 +1,5 @@
 -- What reading diagnostic notation keeps between two tokens, and what it promises of them.
-use Rattle.std.specs.Prelude.{◌≡◌, ℕ, ◌^◌, ◌≤◌, ◌<◌, List, [], ◌∷◌, ◌++◌, map, reverse}
+use Rattle.std.specs.Prelude.{◌≡◌, ℕ, ◌^◌, ◌≤◌, ◌<◌, List, [], ◌∷◌, map, reverse}
 use Rattle.std.specs.Prelude.{Option, Some, None, ◌==◌, if◌then◌else◌, true, Bool, false}
 use Rattle.ciborium_value.specs.Denotes.{Begins, BeginsItems, BeginsPairs, Denotes}
 use Rattle.ciborium_value.specs.Denotes.{IsToken, MayRefuse}
@@ -124,9 +124,11 @@ Complete [] w t v = (behind_blanks t ≡ Some []) × (v ≡ w)
 Complete (in_array ws ∷ levels) w t v = (vs : Trees) × (r : List ℕ) × BeginsItems true t vs r ×
     Complete levels (trees.array (trees_before ws (trees.tree w vs))) r v
 Complete (in_keys qs ∷ levels) w t v = (x : Tree) × (s : List ℕ) × (u : List ℕ) ×
-    (ps : TreePairs) × (r : List ℕ) × IsToken t tokens.colon s × Begins s x u × BeginsPairs true u ps r ×
+    (ps : TreePairs) × (r : List ℕ) × IsToken t tokens.colon s × Begins s x u ×
+    BeginsPairs true u ps r ×
     Complete levels (trees.map (pairs_before qs (trees.tree_pair w x ps))) r v
-Complete (in_values qs k ∷ levels) w t v = (ps : TreePairs) × (r : List ℕ) × BeginsPairs true t ps r ×
+Complete (in_values qs k ∷ levels) w t v = (ps : TreePairs) × (r : List ℕ) ×
+    BeginsPairs true t ps r ×
     Complete levels (trees.map (pairs_before qs (trees.tree_pair k w ps))) r v
 Complete (in_tag n ∷ levels) w t v = (r : List ℕ) × IsToken t tokens.end_tag r ×
     Complete levels (trees.tag n w) r v

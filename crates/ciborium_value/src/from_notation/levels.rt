@@ -1,7 +1,7 @@
 //! The arrays, maps and tags that are open while a text is read, and what each token does to them.
 
-ghost use Rattle.std.specs.Prelude.{◌≡◌, ◌<◌, ◌∷◌, [], IfErr, IfOk, List, Some, length, map, nat_le};
-ghost use Rattle.std.specs.Prelude.{ℕ};
+ghost use Rattle.std.specs.Prelude.{◌≡◌, ◌<◌, ◌∷◌, [], IfErr, IfOk, List, Some, length, map};
+ghost use Rattle.std.specs.Prelude.{nat_le, ℕ};
 ghost use Rattle.ciborium_value.specs.Tokens.{behind_blanks};
 ghost use Rattle.ciborium_value.specs.Tree.{Tree};
 ghost use Rattle.ciborium_value.specs.View.{pair_trees, tree_of};
