@@ -1,59 +1,53 @@
 -- Which tree a text of diagnostic notation denotes (RFC 8949, section 8).
-use Rattle.std.specs.Prelude.{◌≡◌, ℕ, suc, ◌<◌, max, List, [], ◌∷◌, ◌++◌, Some}
+use Rattle.std.specs.Prelude.{◌≡◌, ℕ, suc, ◌<◌, max, Bool, true, false, List, [], Some}
 use Rattle.ciborium_value.specs.Tokens.{Token, behind_blanks, token_at, leaf, begin_tag, end_tag}
 use Rattle.ciborium_value.specs.Tokens.{begin_array, end_array, begin_map, end_map, comma, colon}
 use Rattle.ciborium_value.specs.Tree as trees
 use Rattle.ciborium_value.specs.Tree.{Tree, Trees, TreePairs}
 use Rattle.ciborium_value.specs.declared.from_notation.error.NotationError.{NotationError}
-use Rattle.ciborium_value.specs.declared.from_notation.error.NotationError.TheVariants.{At, Memory}
+pub use Rattle.ciborium_value.specs.declared.from_notation.error.NotationError.TheVariants.{At}
+pub use Rattle.ciborium_value.specs.declared.from_notation.error.NotationError.TheVariants.{Memory}
 use Rattle.ciborium_value.specs.declared.from_notation.error.NotationFault.TheVariants.{TooDeep}
 
--- a text is these tokens, with blanks before each and behind the last
-pub data AreTokens : List ℕ → List Token → Type 0 where
-  no_token : (t : List ℕ) → behind_blanks t ≡ Some [] → AreTokens t []
-  token : (t s rest : List ℕ) (k : Token) (ks : List Token) → behind_blanks t ≡ Some s →
-      token_at s ≡ Some (k, rest) → AreTokens rest ks → AreTokens t (k ∷ ks)
+-- behind blanks the text t begins with this token, and r follows it
+abbrev pub IsToken : List ℕ → Token → List ℕ → Type 0
+IsToken t k r = (s : List ℕ) × (behind_blanks t ≡ Some s) × (token_at s ≡ Some (k, r))
+
+-- s is t, or where a comma is due, what follows the comma at its front
+abbrev pub IsSeparated : Bool → List ℕ → List ℕ → Type 0
+IsSeparated false t s = s ≡ t
+IsSeparated true t s = IsToken t comma s
 
 mutual
-  -- the tokens of a tree
-  pub data Denote : List Token → Tree → Type 0 where
-    alone : (v : Tree) (ks : List Token) → ks ≡ leaf v ∷ [] → Denote ks v
-    tagged : (n : ℕ) (v : Tree) (s ks : List Token) → Denote s v →
-        ks ≡ begin_tag n ∷ (s ++ (end_tag ∷ [])) → Denote ks (trees.tag n v)
-    listed : (vs : Trees) (s ks : List Token) → DenoteItems s vs →
-        ks ≡ begin_array ∷ (s ++ (end_array ∷ [])) → Denote ks (trees.array vs)
-    mapped : (ps : TreePairs) (s ks : List Token) → DenotePairs s ps →
-        ks ≡ begin_map ∷ (s ++ (end_map ∷ [])) → Denote ks (trees.map ps)
+  -- the text t begins with the notation of a tree, and r follows it
+  pub data Begins : List ℕ → Tree → List ℕ → Type 0 where
+    alone : (v : Tree) (t r : List ℕ) → IsToken t (leaf v) r → Begins t v r
+    tagged : (n : ℕ) (v : Tree) (t s u r : List ℕ) → IsToken t (begin_tag n) s → Begins s v u →
+        IsToken u end_tag r → Begins t (trees.tag n v) r
+    listed : (vs : Trees) (t s r : List ℕ) → IsToken t begin_array s → BeginsItems false s vs r →
+        Begins t (trees.array vs) r
+    mapped : (ps : TreePairs) (t s r : List ℕ) → IsToken t begin_map s → BeginsPairs false s ps r →
+        Begins t (trees.map ps) r
 
-  -- those of some items in a row, with commas between them
-  pub data DenoteItems : List Token → Trees → Type 0 where
-    no_item : (ks : List Token) → ks ≡ [] → DenoteItems ks trees.no_trees
-    item : (v : Tree) (vs : Trees) (s r ks : List Token) → Denote s v → DenoteMoreItems r vs →
-        ks ≡ s ++ r → DenoteItems ks (trees.tree v vs)
+  -- items and the end of their array, with commas between them, where one is due before the first
+  -- or none
+  pub data BeginsItems : Bool → List ℕ → Trees → List ℕ → Type 0 where
+    no_item : (due : Bool) (t r : List ℕ) → IsToken t end_array r →
+        BeginsItems due t trees.no_trees r
+    item : (due : Bool) (v : Tree) (vs : Trees) (t s u r : List ℕ) → IsSeparated due t s →
+        Begins s v u → BeginsItems true u vs r → BeginsItems due t (trees.tree v vs) r
 
-  -- those of the items behind the first, each behind a comma
-  pub data DenoteMoreItems : List Token → Trees → Type 0 where
-    no_more_items : (ks : List Token) → ks ≡ [] → DenoteMoreItems ks trees.no_trees
-    one_more_item : (v : Tree) (vs : Trees) (s r ks : List Token) → Denote s v →
-        DenoteMoreItems r vs → ks ≡ comma ∷ (s ++ r) → DenoteMoreItems ks (trees.tree v vs)
+  -- pairs and the end of their map, a colon between each key and its value
+  pub data BeginsPairs : Bool → List ℕ → TreePairs → List ℕ → Type 0 where
+    no_pair : (due : Bool) (t r : List ℕ) → IsToken t end_map r →
+        BeginsPairs due t trees.no_tree_pairs r
+    pair : (due : Bool) (k v : Tree) (ps : TreePairs) (t s u w x r : List ℕ) →
+        IsSeparated due t s → Begins s k u → IsToken u colon w → Begins w v x →
+        BeginsPairs true x ps r → BeginsPairs due t (trees.tree_pair k v ps) r
 
-  -- those of some pairs in a row, a colon between each key and its value
-  pub data DenotePairs : List Token → TreePairs → Type 0 where
-    no_pair : (ks : List Token) → ks ≡ [] → DenotePairs ks trees.no_tree_pairs
-    pair : (k v : Tree) (ps : TreePairs) (s t r ks : List Token) → Denote s k → Denote t v →
-        DenoteMorePairs r ps → ks ≡ s ++ (colon ∷ (t ++ r)) →
-        DenotePairs ks (trees.tree_pair k v ps)
-
-  -- those of the pairs behind the first, each behind a comma
-  pub data DenoteMorePairs : List Token → TreePairs → Type 0 where
-    no_more_pairs : (ks : List Token) → ks ≡ [] → DenoteMorePairs ks trees.no_tree_pairs
-    one_more_pair : (k v : Tree) (ps : TreePairs) (s t r ks : List Token) → Denote s k →
-        Denote t v → DenoteMorePairs r ps → ks ≡ comma ∷ (s ++ (colon ∷ (t ++ r))) →
-        DenoteMorePairs ks (trees.tree_pair k v ps)
-
--- the text denotes the tree
+-- the text denotes the tree: but for blanks nothing follows it
 abbrev pub Denotes : List ℕ → Tree → Type 0
-Denotes t v = (ks : List Token) × AreTokens t ks × Denote ks v
+Denotes t v = (r : List ℕ) × Begins t v r × (behind_blanks r ≡ Some [])
 
 -- ---- reading within a limit of levels
 

@@ -60,7 +60,8 @@ impl Value {
     ) -> Result<Value, NotationError>
         ensures ok { IfOk result (λ v. Denotes text.now (tree_of v)) }
         ensures only { IfOk result (λ v. (w : Tree) → Denotes text.now w → w ≡ tree_of v) }
-        ensures refused { IfErr result (λ e. (v : Tree) → Denotes text.now v → MayRefuse limit e v) }
+        ensures refused { IfErr result (λ e. (v : Tree) → Denotes text.now v →
+            MayRefuse limit e v) }
     {
         match read_tree(alloc, text.as_bytes(), limit) {
             Ok(value) => Ok(value),

@@ -1,141 +1,61 @@
 -- A text denotes one tree at most.
-use Rattle.std.proofs.Common.{◌≡◌, ℕ, List, [], ◌∷◌, ◌++◌, refl, sym, ap, ◌∙◌, append_assoc}
-use Rattle.ciborium_value.specs.Denotes.{AreTokens, Denote, DenoteItems, DenoteMoreItems, DenoteMorePairs}
-use Rattle.ciborium_value.specs.Denotes.{DenotePairs, alone, item, listed, mapped, no_item, no_more_items}
-use Rattle.ciborium_value.specs.Denotes.{no_more_pairs}
-use Rattle.ciborium_value.specs.Denotes.{no_pair, no_token, one_more_item, one_more_pair, pair, tagged, token}
-use Rattle.ciborium_value.specs.Tokens.{Token, begin_array, begin_map, begin_tag, colon, comma}
-use Rattle.ciborium_value.specs.Tokens.{end_array}
-use Rattle.ciborium_value.specs.Tokens.{end_map, end_tag, leaf}
+use Rattle.std.proofs.Common.{◌≡◌, ℕ, Bool, true, false, List, sym, ap, ◌∙◌, subst}
+use Rattle.ciborium_value.specs.Denotes.{Begins, BeginsItems, BeginsPairs, IsSeparated, IsToken, alone, item, listed}
+use Rattle.ciborium_value.specs.Denotes.{mapped, no_item, no_pair, pair, tagged}
+use Rattle.ciborium_value.specs.Tokens.{begin_array, begin_map, begin_tag, colon, comma, end_tag, leaf}
 use Rattle.ciborium_value.specs.Tree as trees
 use Rattle.ciborium_value.specs.Tree.{Tree, TreePairs, Trees}
 use Rattle.ciborium_value.specs.laws.NotationLaws.{OneTreeIsDenoted}
-use Rattle.ciborium_value.proofs.Denoting.Reached.{first-of, no-more}
-use Rattle.ciborium_value.proofs.Denoting.Steps.{begun, tail-of, head-of}
+use Rattle.ciborium_value.proofs.Denoting.Steps.{begun, items-end, one-token, pairs-end}
 
-one-row : (t : List ℕ) (ks ls : List Token) → AreTokens t ks → AreTokens t ls → ks ≡ ls
-one-row t ks ls (no_token _ b) other = sym (no-more t ls b other)
-one-row t ks ls (token _ s rest k more b e are) other =
-    let (ls', same, are') = first-of t s rest k ls b e other in
-    ap (λ (x : List Token). k ∷ x) (one-row rest more ls' are are') ∙ sym same
-
-behind-one : (k : Token) (s z r : List Token) → s ≡ [] → s ++ (k ∷ z) ≡ r → k ∷ z ≡ r
-behind-one k s z r f e = ap (λ (x : List Token). x ++ (k ∷ z)) (sym f) ∙ e
+-- where a comma is due or none, what follows it is one text
+one-separated : (due : Bool) (t s s' : List ℕ) → IsSeparated due t s → IsSeparated due t s' → s' ≡ s
+one-separated false t s s' e f = f ∙ sym e
+one-separated true t s s' e f = (one-token t comma comma s' s f e).1
 
 mutual
-  -- two items at the front of the same tokens
-  one-item : (s s' z z' : List Token) (v w : Tree) → Denote s v → Denote s' w → s ++ z ≡ s' ++ z' →
-      (v ≡ w) × (z ≡ z')
-  one-item s s' z z' v w (alone _ _ f) d e =
-      let b = begun (leaf v) z s' z' w d (ap (λ (x : List Token). x ++ z) (sym f) ∙ e) in (sym b.0, b.1)
-  one-item s s' z z' v w (tagged n u t _ c f) d e =
-      let b = begun (begin_tag n) (t ++ (end_tag ∷ z)) s' z' w d
-      (ap (λ (x : List Token). begin_tag n ∷ x) (sym (append_assoc t (end_tag ∷ []) z)) ∙
-      ap (λ (x : List Token). x ++ z) (sym f) ∙ e) in
-      let o = one-item t b.1 (end_tag ∷ z) (end_tag ∷ z') u b.0 c b.2 b.4 in
-      (ap (trees.tag n) o.0 ∙ sym b.3, tail-of end_tag end_tag z z' o.1)
-  one-item s s' z z' v w (listed vs t _ c f) d e =
-      let b = begun begin_array (t ++ (end_array ∷ z)) s' z' w d
-      (ap (λ (x : List Token). begin_array ∷ x) (sym (append_assoc t (end_array ∷ []) z)) ∙
-      ap (λ (x : List Token). x ++ z) (sym f) ∙ e) in
-      let o = one-items t b.1 z z' vs b.0 c b.2 b.4 in (ap trees.array o.0 ∙ sym b.3, o.1)
-  one-item s s' z z' v w (mapped ps t _ c f) d e =
-      let b = begun begin_map (t ++ (end_map ∷ z)) s' z' w d
-      (ap (λ (x : List Token). begin_map ∷ x) (sym (append_assoc t (end_map ∷ []) z)) ∙
-      ap (λ (x : List Token). x ++ z) (sym f) ∙ e) in
-      let o = one-pairs t b.1 z z' ps b.0 c b.2 b.4 in (ap trees.map o.0 ∙ sym b.3, o.1)
-
-  one-items : (s s' z z' : List Token) (vs ws : Trees) → DenoteItems s vs → DenoteItems s' ws →
-      s ++ (end_array ∷ z) ≡ s' ++ (end_array ∷ z') → (vs ≡ ws) × (z ≡ z')
-  one-items s s' z z' vs ws (no_item _ f) (no_item _ g) e = (
-    refl,
-    tail-of end_array end_array z z'
-        (behind-one end_array s z _ f e ∙ ap (λ (x : List Token). x ++ (end_array ∷ z')) g),
-  )
-  one-items s s' z z' vs ws (no_item _ f) (item w ws' t r _ d m g) e =
-      absurd (begun end_array z t (r ++ (end_array ∷ z')) w d (behind-one end_array s z _ f e ∙
-      ap (λ (x : List Token). x ++ (end_array ∷ z')) g ∙ append_assoc t r (end_array ∷ z')))
-  one-items s s' z z' vs ws (item v vs' t r _ c m f) (no_item _ g) e =
-      absurd (begun end_array z' t (r ++ (end_array ∷ z)) v c (behind-one end_array s' z' _ g (sym e) ∙
-      ap (λ (x : List Token). x ++ (end_array ∷ z)) f ∙ append_assoc t r (end_array ∷ z)))
-  one-items s s' z z' vs ws (item v vs' t r _ c m f) (item w ws' t' r' _ d n g) e =
-      let o = one-item t t' (r ++ (end_array ∷ z)) (r' ++ (end_array ∷ z')) v w c d
-      (sym (append_assoc t r (end_array ∷ z)) ∙ ap (λ (x : List Token). x ++ (end_array ∷ z)) (sym f) ∙ e ∙
-      ap (λ (x : List Token). x ++ (end_array ∷ z')) g ∙ append_assoc t' r' (end_array ∷ z')) in
-      let p = one-more r r' z z' vs' ws' m n o.1 in
-      (ap (λ x. trees.tree x vs') o.0 ∙ ap (trees.tree w) p.0, p.1)
-
-  one-more : (s s' z z' : List Token) (vs ws : Trees) → DenoteMoreItems s vs → DenoteMoreItems s' ws →
-      s ++ (end_array ∷ z) ≡ s' ++ (end_array ∷ z') → (vs ≡ ws) × (z ≡ z')
-  one-more s s' z z' vs ws (no_more_items _ f) (no_more_items _ g) e = (
-    refl,
-    tail-of end_array end_array z z'
-        (behind-one end_array s z _ f e ∙ ap (λ (x : List Token). x ++ (end_array ∷ z')) g),
-  )
-  one-more s s' z z' vs ws (no_more_items _ f) (one_more_item w ws' t r _ d m g) e =
-      absurd (cc (head-of end_array comma z _ (behind-one end_array s z _ f e ∙
-      ap (λ (x : List Token). x ++ (end_array ∷ z')) g)))
-  one-more s s' z z' vs ws (one_more_item v vs' t r _ c m f) (no_more_items _ g) e =
-      absurd (cc (head-of end_array comma z' _ (behind-one end_array s' z' _ g (sym e) ∙
-      ap (λ (x : List Token). x ++ (end_array ∷ z)) f)))
-  one-more s s' z z' vs ws (one_more_item v vs' t r _ c m f) (one_more_item w ws' t' r' _ d n g) e =
-      let o = one-item t t' (r ++ (end_array ∷ z)) (r' ++ (end_array ∷ z')) v w c d
-      (sym (append_assoc t r (end_array ∷ z)) ∙ tail-of comma comma _ _
-      (ap (λ (x : List Token). x ++ (end_array ∷ z)) (sym f) ∙ e ∙
-      ap (λ (x : List Token). x ++ (end_array ∷ z')) g) ∙ append_assoc t' r' (end_array ∷ z')) in
-      let p = one-more r r' z z' vs' ws' m n o.1 in
-      (ap (λ x. trees.tree x vs') o.0 ∙ ap (trees.tree w) p.0, p.1)
-
-  one-pairs : (s s' z z' : List Token) (ps qs : TreePairs) → DenotePairs s ps → DenotePairs s' qs →
-      s ++ (end_map ∷ z) ≡ s' ++ (end_map ∷ z') → (ps ≡ qs) × (z ≡ z')
-  one-pairs s s' z z' ps qs (no_pair _ f) (no_pair _ g) e = (
-    refl,
-    tail-of end_map end_map z z'
-        (behind-one end_map s z _ f e ∙ ap (λ (x : List Token). x ++ (end_map ∷ z')) g),
-  )
-  one-pairs s s' z z' ps qs (no_pair _ f) (pair k v qs' t u r _ d x m g) e =
-      absurd (begun end_map z t ((colon ∷ (u ++ r)) ++ (end_map ∷ z')) k d (behind-one end_map s z _ f e ∙
-      ap (λ (x : List Token). x ++ (end_map ∷ z')) g ∙ append_assoc t (colon ∷ (u ++ r)) (end_map ∷ z')))
-  one-pairs s s' z z' ps qs (pair k v ps' t u r _ c x m f) (no_pair _ g) e =
-      absurd (begun end_map z' t ((colon ∷ (u ++ r)) ++ (end_map ∷ z)) k c (behind-one end_map s' z' _ g (sym e) ∙
-      ap (λ (x : List Token). x ++ (end_map ∷ z)) f ∙ append_assoc t (colon ∷ (u ++ r)) (end_map ∷ z)))
-  one-pairs s s' z z' ps qs (pair k v ps' t u r _ c x m f) (pair l w qs' t' u' r' _ d y n g) e =
-      let o = one-item t t' ((colon ∷ (u ++ r)) ++ (end_map ∷ z)) ((colon ∷ (u' ++ r')) ++ (end_map ∷ z')) k l c d
-      (sym (append_assoc t (colon ∷ (u ++ r)) (end_map ∷ z)) ∙
-      ap (λ (x : List Token). x ++ (end_map ∷ z)) (sym f) ∙ e ∙
-      ap (λ (x : List Token). x ++ (end_map ∷ z')) g ∙ append_assoc t' (colon ∷ (u' ++ r')) (end_map ∷ z')) in
-      let q = one-item u u' (r ++ (end_map ∷ z)) (r' ++ (end_map ∷ z')) v w x y
-      (sym (append_assoc u r (end_map ∷ z)) ∙ tail-of colon colon _ _ o.1 ∙ append_assoc u' r' (end_map ∷ z')) in
-      let p = one-more-pairs r r' z z' ps' qs' m n q.1 in (
-        ap (λ a. trees.tree_pair a v ps') o.0 ∙ ap (λ a. trees.tree_pair l a ps') q.0 ∙ ap (trees.tree_pair l w) p.0,
-        p.1,
+  -- two trees that the same text begins with, and what follows them
+  one-item : (t z z' : List ℕ) (v w : Tree) → Begins t v z → Begins t w z' → (v ≡ w) × (z' ≡ z)
+  one-item t z z' v w (alone _ _ _ is) d = let (e, f) = begun (leaf v) t z z' w is d in (sym e, f)
+  one-item t z z' v w (tagged n u _ s x _ is c end) d =
+      let (u', x', e, d', end') = begun (begin_tag n) t s z' w is d in
+      let (same, rest) = one-item s x x' u u' c d' in (
+        ap (trees.tag n) same ∙ sym e,
+        (one-token x end_tag end_tag z' z (subst (λ y. IsToken y end_tag z') rest end') end).1,
       )
+  one-item t z z' v w (listed vs _ s _ is m) d =
+      let (vs', e, m') = begun begin_array t s z' w is d in
+      let (same, rest) = one-items false s z z' vs vs' m m' in (ap trees.array same ∙ sym e, rest)
+  one-item t z z' v w (mapped ps _ s _ is m) d =
+      let (ps', e, m') = begun begin_map t s z' w is d in
+      let (same, rest) = one-pairs false s z z' ps ps' m m' in (ap trees.map same ∙ sym e, rest)
 
-  one-more-pairs : (s s' z z' : List Token) (ps qs : TreePairs) → DenoteMorePairs s ps → DenoteMorePairs s' qs →
-      s ++ (end_map ∷ z) ≡ s' ++ (end_map ∷ z') → (ps ≡ qs) × (z ≡ z')
-  one-more-pairs s s' z z' ps qs (no_more_pairs _ f) (no_more_pairs _ g) e = (
-    refl,
-    tail-of end_map end_map z z'
-        (behind-one end_map s z _ f e ∙ ap (λ (x : List Token). x ++ (end_map ∷ z')) g),
-  )
-  one-more-pairs s s' z z' ps qs (no_more_pairs _ f) (one_more_pair k v qs' t u r _ d x m g) e =
-      absurd (cc (head-of end_map comma z _ (behind-one end_map s z _ f e ∙
-      ap (λ (x : List Token). x ++ (end_map ∷ z')) g)))
-  one-more-pairs s s' z z' ps qs (one_more_pair k v ps' t u r _ c x m f) (no_more_pairs _ g) e =
-      absurd (cc (head-of end_map comma z' _ (behind-one end_map s' z' _ g (sym e) ∙
-      ap (λ (x : List Token). x ++ (end_map ∷ z)) f)))
-  one-more-pairs s s' z z' ps qs (one_more_pair k v ps' t u r _ c x m f) (one_more_pair l w qs' t' u' r' _ d y n g) e =
-      let o = one-item t t' ((colon ∷ (u ++ r)) ++ (end_map ∷ z)) ((colon ∷ (u' ++ r')) ++ (end_map ∷ z')) k l c d
-      (sym (append_assoc t (colon ∷ (u ++ r)) (end_map ∷ z)) ∙ tail-of comma comma _ _
-      (ap (λ (x : List Token). x ++ (end_map ∷ z)) (sym f) ∙ e ∙
-      ap (λ (x : List Token). x ++ (end_map ∷ z')) g) ∙ append_assoc t' (colon ∷ (u' ++ r')) (end_map ∷ z')) in
-      let q = one-item u u' (r ++ (end_map ∷ z)) (r' ++ (end_map ∷ z')) v w x y
-      (sym (append_assoc u r (end_map ∷ z)) ∙ tail-of colon colon _ _ o.1 ∙ append_assoc u' r' (end_map ∷ z')) in
-      let p = one-more-pairs r r' z z' ps' qs' m n q.1 in (
-        ap (λ a. trees.tree_pair a v ps') o.0 ∙ ap (λ a. trees.tree_pair l a ps') q.0 ∙ ap (trees.tree_pair l w) p.0,
-        p.1,
+  one-items : (due : Bool) (t z z' : List ℕ) (vs ws : Trees) → BeginsItems due t vs z → BeginsItems due t ws z' →
+      (vs ≡ ws) × (z' ≡ z)
+  one-items due t z z' vs ws (no_item _ _ _ is) m = let (e, f) = items-end due t z z' ws is m in (sym e, f)
+  one-items due t z z' vs ws m (no_item _ _ _ is) = let (e, f) = items-end due t z' z vs is m in (e, sym f)
+  one-items due t z z' vs ws (item _ v us _ s u _ sep d m) (item _ v' us' _ s' u' _ sep' d' m') =
+      let first = subst (λ y. Begins y v' u') (one-separated due t s s' sep sep') d' in
+      let (same, behind) = one-item s u u' v v' d first in
+      let (others, rest) = one-items true u z z' us us' m (subst (λ y. BeginsItems true y us' z') behind m') in
+      (ap (λ y. trees.tree y us) same ∙ ap (trees.tree v') others, rest)
+
+  one-pairs : (due : Bool) (t z z' : List ℕ) (ps qs : TreePairs) → BeginsPairs due t ps z → BeginsPairs due t qs z' →
+      (ps ≡ qs) × (z' ≡ z)
+  one-pairs due t z z' ps qs (no_pair _ _ _ is) m = let (e, f) = pairs-end due t z z' qs is m in (sym e, f)
+  one-pairs due t z z' ps qs m (no_pair _ _ _ is) = let (e, f) = pairs-end due t z' z ps is m in (e, sym f)
+  one-pairs due t z z' ps qs (pair _ k v us _ s u w x _ sep d is f m)
+      (pair _ k' v' us' _ s' u' w' x' _ sep' d' is' f' m') =
+      let key = subst (λ y. Begins y k' u') (one-separated due t s s' sep sep') d' in
+      let (same, behind) = one-item s u u' k k' d key in
+      let value = subst (λ y. Begins y v' x') (one-token u colon colon w' w
+      (subst (λ y. IsToken y colon w') behind is') is).1 f' in
+      let (equal, after) = one-item w x x' v v' f value in
+      let (others, rest) = one-pairs true x z z' us us' m (subst (λ y. BeginsPairs true y us' z') after m') in (
+        ap (λ y. trees.tree_pair y v us) same ∙ ap (λ y. trees.tree_pair k' y us) equal ∙
+            ap (trees.tree_pair k' v') others,
+        rest,
       )
 
 pub one_tree_is_denoted : OneTreeIsDenoted
-one_tree_is_denoted t v w (ks, are, d) (ls, are', d') =
-    (one-item ks ls [] [] v w d d' (ap (λ (x : List Token). x ++ []) (one-row t ks ls are are'))).0
+one_tree_is_denoted t v w (r, d, e) (r', d', e') = (one-item t r r' v w d d').0

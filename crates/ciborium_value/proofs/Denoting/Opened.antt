@@ -9,17 +9,18 @@ use Rattle.ciborium_value.specs.declared.from_notation.tokens.Token.TheVariants 
 use Rattle.ciborium_value.specs.declared.tree.Value.{Value}
 use Rattle.ciborium_value.specs.declared.tree.Value.TheViews as value
 use Rattle.ciborium_value.specs.Tokens as tokens
+use Rattle.ciborium_value.specs.Tokens.{Token}
 use Rattle.ciborium_value.specs.Tree as trees
 use Rattle.ciborium_value.specs.Tree.{Tree}
 use Rattle.ciborium_value.specs.View.{pair_trees, tree_of, tree_pairs_from, trees_from}
-use Rattle.ciborium_value.specs.inner.ReadTokens.{Around, Leads, around_of, behind, in_array, in_keys, in_values, item}
-use Rattle.ciborium_value.specs.inner.ReadTokens.{Completes, IsMisplaced, opens, array_part, await_of, in_tag}
+use Rattle.ciborium_value.specs.inner.ReadTokens.{Around, Await, Leads, around_of, behind, in_array, in_keys, item}
+use Rattle.ciborium_value.specs.inner.ReadTokens.{Completes, IsMisplaced, opens, array_part, await_of, in_values}
 use Rattle.ciborium_value.specs.inner.ReadTokens.{map_part, token_read}
 use Rattle.ciborium_value.specs.declared.from_notation.error.NotationError.{NotationError}
-use Rattle.ciborium_value.specs.declared.from_notation.error.NotationError.TheVariants.{At}
+use Rattle.ciborium_value.specs.Denotes.{At}
 use Rattle.ciborium_value.specs.declared.from_notation.error.NotationFault.TheVariants.{TooDeep}
 use Rattle.ciborium_value.specs.declared.from_notation.levels.Due.{Due}
-use Rattle.ciborium_value.proofs.Denoting.Steps.{first-item, first-key, first_leads, key_leads, leads-array}
+use Rattle.ciborium_value.proofs.Denoting.Steps.{Begun, first-item, first-key, first_leads, key_leads, leads-array}
 use Rattle.ciborium_value.proofs.Denoting.Steps.{leads-comma, leads-end, leads-leaf, leads-map, leads-map-end}
 use Rattle.ciborium_value.proofs.Denoting.Steps.{leads-next-key, leads-no-item, leads-no-pair, leads-tag, opens-deeper}
 use Rattle.ciborium_value.proofs.Trees.Views.{tree_of-Array, tree_of-Map}
@@ -29,66 +30,57 @@ pub around_last : (levels : List Level) (level : Level) →
     map around_of (reverse (levels ++ level ∷ [])) ≡ around_of level ∷ map around_of (reverse levels)
 around_last levels level = ap (map around_of) (reverse-append levels (level ∷ []))
 
+-- the levels behind a push
+opened : (ls more : List Level) (level : Level) → more ≡ ls ++ level ∷ [] →
+    map around_of (reverse more) ≡ around_of level ∷ map around_of (reverse ls)
+opened ls more level pushed = ap (λ (x : List Level). map around_of (reverse x)) pushed ∙ around_last ls level
+
+-- the same step under other names
+leads_as : (levels : List Around) (due : Await) {k l : Token} {more now : List Around} {next last : Await} →
+    k ≡ l → more ≡ now → next ≡ last → Leads levels due k more next → Leads levels due l now last
+leads_as levels due {l = l} {more = more} {now = now} {next = next} e f g h =
+    subst (Leads levels due l now) g (subst (λ x. Leads levels due l x next) f
+    (subst (λ x. Leads levels due x more next) e h))
+
 -- ---- behind an item of the innermost level, which was taken off
 
 pub array_comma : (ws : List Value) (w : Value) (ls more : List Level) (items : Vec Value Global) (k : Read) →
     k ≡ read.Comma → items.items ≡ ws ++ w ∷ [] → more ≡ ls ++ level.Array items ∷ [] →
     Leads (in_array (map tree_of ws) ∷ map around_of (reverse ls)) (behind (tree_of w)) (token_read k)
     (map around_of (reverse more)) item
-array_comma ws w ls more items k comma same pushed =
-    let opened : map around_of (reverse more) ≡
-    in_array (map tree_of ws ++ tree_of w ∷ []) ∷ map around_of (reverse ls) =
-    ap (λ (x : List Level). map around_of (reverse x)) pushed ∙ around_last ls (level.Array items) ∙
-    ap (λ (x : List Tree). in_array x ∷ map around_of (reverse ls))
-    (ap (map tree_of) same ∙ map-append tree_of ws (w ∷ [])) in
-    subst (λ t. Leads (in_array (map tree_of ws) ∷ map around_of (reverse ls)) (behind (tree_of w)) (token_read t)
-    (map around_of (reverse more)) item) (sym comma)
-    (subst (λ o. Leads (in_array (map tree_of ws) ∷ map around_of (reverse ls)) (behind (tree_of w)) tokens.comma o
-    item)
-    (sym opened) (leads-comma (map around_of (reverse ls)) (map tree_of ws) (tree_of w)))
+array_comma ws w ls more items k comma same pushed = leads_as _ _ (ap token_read (sym comma))
+    (sym (opened ls more (level.Array items) pushed ∙ ap (λ (x : List Tree). in_array x ∷ map around_of (reverse ls))
+    (ap (map tree_of) same ∙ map-append tree_of ws (w ∷ [])))) refl
+    (leads-comma (map around_of (reverse ls)) (map tree_of ws) (tree_of w))
 
 pub array_end : (ws : List Value) (w : Value) (levels : List Around) (items : Vec Value Global) (k : Read) →
     k ≡ read.EndArray → items.items ≡ ws ++ w ∷ [] →
     Leads (in_array (map tree_of ws) ∷ levels) (behind (tree_of w)) (token_read k) levels
     (behind (tree_of (value.Array items)))
-array_end ws w levels items k end same =
-    let whole : tree_of (value.Array items) ≡ trees.array (trees_from (map tree_of ws ++ tree_of w ∷ [])) =
-    tree_of-Array items ∙
-    ap (λ x. trees.array (trees_from x)) (ap (map tree_of) same ∙ map-append tree_of ws (w ∷ [])) in
-    subst (λ t. Leads (in_array (map tree_of ws) ∷ levels) (behind (tree_of w)) (token_read t) levels
-    (behind (tree_of (value.Array items)))) (sym end)
-    (subst (λ v. Leads (in_array (map tree_of ws) ∷ levels) (behind (tree_of w)) tokens.end_array levels (behind v))
-    (sym whole) (leads-end levels (map tree_of ws) (tree_of w)))
+array_end ws w levels items k end same = leads_as _ _ (ap token_read (sym end)) refl
+    (sym (ap behind (tree_of-Array items ∙
+    ap (λ x. trees.array (trees_from x)) (ap (map tree_of) same ∙ map-append tree_of ws (w ∷ [])))))
+    (leads-end levels (map tree_of ws) (tree_of w))
 
 pub value_comma : (ps : List (Value × Value)) (key w : Value) (ls more : List Level)
     (pairs : Vec (Value × Value) Global) (k : Read) → k ≡ read.Comma → pairs.items ≡ ps ++ (key, w) ∷ [] →
     more ≡ ls ++ level.Keys pairs ∷ [] →
     Leads (in_values (map pair_trees ps) (tree_of key) ∷ map around_of (reverse ls)) (behind (tree_of w)) (token_read k)
     (map around_of (reverse more)) item
-value_comma ps key w ls more pairs k comma same pushed =
-    let opened : map around_of (reverse more) ≡
-    in_keys (map pair_trees ps ++ (tree_of key, tree_of w) ∷ []) ∷ map around_of (reverse ls) =
-    ap (λ (x : List Level). map around_of (reverse x)) pushed ∙ around_last ls (level.Keys pairs) ∙
+value_comma ps key w ls more pairs k comma same pushed = leads_as _ _ (ap token_read (sym comma))
+    (sym (opened ls more (level.Keys pairs) pushed ∙
     ap (λ (x : List (Tree × Tree)). in_keys x ∷ map around_of (reverse ls))
-    (ap (map pair_trees) same ∙ map-append pair_trees ps ((key, w) ∷ [])) in
-    subst (λ t. Leads (in_values (map pair_trees ps) (tree_of key) ∷ map around_of (reverse ls)) (behind (tree_of w))
-    (token_read t) (map around_of (reverse more)) item) (sym comma)
-    (subst (λ o. Leads (in_values (map pair_trees ps) (tree_of key) ∷ map around_of (reverse ls)) (behind (tree_of w))
-    tokens.comma o item) (sym opened)
-    (leads-next-key (map around_of (reverse ls)) (map pair_trees ps) (tree_of key) (tree_of w)))
+    (ap (map pair_trees) same ∙ map-append pair_trees ps ((key, w) ∷ [])))) refl
+    (leads-next-key (map around_of (reverse ls)) (map pair_trees ps) (tree_of key) (tree_of w))
 
 pub map_end : (ps : List (Value × Value)) (key w : Value) (levels : List Around)
     (pairs : Vec (Value × Value) Global) (k : Read) → k ≡ read.EndMap → pairs.items ≡ ps ++ (key, w) ∷ [] →
     Leads (in_values (map pair_trees ps) (tree_of key) ∷ levels) (behind (tree_of w)) (token_read k) levels
     (behind (tree_of (value.Map pairs)))
-map_end ps key w levels pairs k end same =
-    let whole : tree_of (value.Map pairs) ≡
-    trees.map (tree_pairs_from (map pair_trees ps ++ (tree_of key, tree_of w) ∷ [])) = tree_of-Map pairs ∙
-    ap (λ x. trees.map (tree_pairs_from x)) (ap (map pair_trees) same ∙ map-append pair_trees ps ((key, w) ∷ [])) in
-    subst (λ t. Leads (in_values (map pair_trees ps) (tree_of key) ∷ levels) (behind (tree_of w)) (token_read t) levels
-    (behind (tree_of (value.Map pairs)))) (sym end)
-    (subst (λ v. Leads (in_values (map pair_trees ps) (tree_of key) ∷ levels) (behind (tree_of w)) tokens.end_map levels
-    (behind v)) (sym whole) (leads-map-end levels (map pair_trees ps) (tree_of key) (tree_of w)))
+map_end ps key w levels pairs k end same = leads_as _ _ (ap token_read (sym end)) refl
+    (sym (ap behind (tree_of-Map pairs ∙ ap (λ x. trees.map (tree_pairs_from x))
+    (ap (map pair_trees) same ∙ map-append pair_trees ps ((key, w) ∷ [])))))
+    (leads-map-end levels (map pair_trees ps) (tree_of key) (tree_of w))
 
 -- ---- how many are open
 
@@ -102,42 +94,41 @@ some_open ls some none = let count = open_count ls in let zero = ap length none 
 
 pub leaf_read : (levels : List Around) (v : Value) (k : Read) → k ≡ read.Leaf v →
     Leads levels item (token_read k) levels (behind (tree_of v))
-leaf_read levels v k e = subst (λ k. Leads levels item (token_read k) levels (behind (tree_of v))) (sym e)
-    (leads-leaf levels (tree_of v))
+leaf_read levels v k e = leads_as _ _ (ap token_read (sym e)) refl refl (leads-leaf levels (tree_of v))
 
 pub array_begun : (levels : List Around) (k : Read) → k ≡ read.BeginArray →
     Leads levels item (token_read k) levels array_part
-array_begun levels k e = subst (λ k. Leads levels item (token_read k) levels array_part) (sym e) (leads-array levels)
+array_begun levels k e = leads_as _ _ (ap token_read (sym e)) refl refl (leads-array levels)
 
 pub map_begun : (levels : List Around) (k : Read) → k ≡ read.BeginMap → Leads levels item (token_read k) levels map_part
-map_begun levels k e = subst (λ k. Leads levels item (token_read k) levels map_part) (sym e) (leads-map levels)
+map_begun levels k e = leads_as _ _ (ap token_read (sym e)) refl refl (leads-map levels)
 
 pub tag_begun : (ls more : List Level) (n : ℕ) (k : Read) → k ≡ read.BeginTag n → more ≡ ls ++ level.Tag n ∷ [] →
     Leads (map around_of (reverse ls)) item (token_read k) (map around_of (reverse more)) item
-tag_begun ls more n k e pushed =
-    let opened : map around_of (reverse more) ≡ in_tag n ∷ map around_of (reverse ls) =
-    ap (λ (x : List Level). map around_of (reverse x)) pushed ∙ around_last ls (level.Tag n) in
-    subst (λ k. Leads (map around_of (reverse ls)) item (token_read k) (map around_of (reverse more)) item) (sym e)
-    (subst (λ o. Leads (map around_of (reverse ls)) item (tokens.begin_tag n) o item) (sym opened)
-    (leads-tag (map around_of (reverse ls)) n))
+tag_begun ls more n k e pushed = leads_as _ _ (ap token_read (sym e)) (sym (opened ls more (level.Tag n) pushed)) refl
+    (leads-tag (map around_of (reverse ls)) n)
+
+pub no_item_begun : (k : Read) → ((v : Value) → k ≢ read.Leaf v) → ((n : ℕ) → k ≢ read.BeginTag n) →
+    k ≢ read.BeginArray → k ≢ read.BeginMap → (r z : List ℕ) (w : Tree) → Begun (token_read k) r w z → ⊥
+no_item_begun (read.Leaf v) a b c d r z w h = a v refl
+no_item_begun (read.BeginTag n) a b c d r z w h = b n refl
+no_item_begun read.BeginArray a b c d r z w h = c refl
+no_item_begun read.BeginMap a b c d r z w h = d refl
+no_item_begun _ a b c d r z w h = h
 
 -- ---- where the first part of an array or a map is due
 
 pub array_ended : (levels : List Around) (items : Vec Value Global) (k : Read) → k ≡ read.EndArray →
     items.items ≡ [] → Leads levels array_part (token_read k) levels (behind (tree_of (value.Array items)))
-array_ended levels items k e none =
-    let whole : tree_of (value.Array items) ≡ trees.array trees.no_trees =
-    tree_of-Array items ∙ ap (λ (x : List Value). trees.array (trees_from (map tree_of x))) none in
-    subst (λ k. Leads levels array_part (token_read k) levels (behind (tree_of (value.Array items)))) (sym e)
-    (subst (λ v. Leads levels array_part tokens.end_array levels (behind v)) (sym whole) (leads-no-item levels))
+array_ended levels items k e none = leads_as _ _ (ap token_read (sym e)) refl (sym (ap behind
+    (tree_of-Array items ∙ ap (λ (x : List Value). trees.array (trees_from (map tree_of x))) none)))
+    (leads-no-item levels)
 
 pub map_ended : (levels : List Around) (pairs : Vec (Value × Value) Global) (k : Read) → k ≡ read.EndMap →
     pairs.items ≡ [] → Leads levels map_part (token_read k) levels (behind (tree_of (value.Map pairs)))
-map_ended levels pairs k e none =
-    let whole : tree_of (value.Map pairs) ≡ trees.map trees.no_tree_pairs =
-    tree_of-Map pairs ∙ ap (λ (x : List (Value × Value)). trees.map (tree_pairs_from (map pair_trees x))) none in
-    subst (λ k. Leads levels map_part (token_read k) levels (behind (tree_of (value.Map pairs)))) (sym e)
-    (subst (λ v. Leads levels map_part tokens.end_map levels (behind v)) (sym whole) (leads-no-pair levels))
+map_ended levels pairs k e none = leads_as _ _ (ap token_read (sym e)) refl (sym (ap behind
+    (tree_of-Map pairs ∙ ap (λ (x : List (Value × Value)). trees.map (tree_pairs_from (map pair_trees x))) none)))
+    (leads-no-pair levels)
 
 not_array_end : (k : Read) → k ≢ read.EndArray → token_read k ≢ tokens.end_array
 not_array_end (read.Leaf v) h e = cc e
@@ -161,6 +152,17 @@ not_map_end read.EndMap h e = h refl
 not_map_end read.Comma h e = cc e
 not_map_end read.Colon h e = cc e
 
+-- the levels behind a push of an empty array or map
+array_opened : (ls begun : List Level) (items : Vec Value Global) → items.items ≡ [] →
+    begun ≡ ls ++ level.Array items ∷ [] → map around_of (reverse begun) ≡ in_array [] ∷ map around_of (reverse ls)
+array_opened ls begun items none pushed = opened ls begun (level.Array items) pushed ∙
+    ap (λ (x : List Value). in_array (map tree_of x) ∷ map around_of (reverse ls)) none
+
+map_opened : (ls begun : List Level) (pairs : Vec (Value × Value) Global) → pairs.items ≡ [] →
+    begun ≡ ls ++ level.Keys pairs ∷ [] → map around_of (reverse begun) ≡ in_keys [] ∷ map around_of (reverse ls)
+map_opened ls begun pairs none pushed = opened ls begun (level.Keys pairs) pushed ∙
+    ap (λ (x : List (Value × Value)). in_keys (map pair_trees x) ∷ map around_of (reverse ls)) none
+
 pub first_taken : (ls begun : List Level) (items : Vec Value Global) (k : Read) (more : List Around)
     (r : Result Due NotationError) → k ≢ read.EndArray → items.items ≡ [] → begun ≡ ls ++ level.Array items ∷ [] →
     IfOk r (λ next. Leads (map around_of (reverse begun)) item (token_read k) more (await_of next)) →
@@ -168,26 +170,16 @@ pub first_taken : (ls begun : List Level) (items : Vec Value Global) (k : Read) 
 first_taken ls begun items k more (Err e) other none pushed h = tt
 first_taken ls begun items k more (Ok next) other none pushed h =
     first_leads (map around_of (reverse ls)) more (token_read k) (await_of next) (not_array_end k other)
-    (subst (λ o. Leads o item (token_read k) more (await_of next)) (array_level ls begun items none pushed) h)
-  where
-    array_level : (ls begun : List Level) (items : Vec Value Global) → items.items ≡ [] →
-        begun ≡ ls ++ level.Array items ∷ [] →
-        map around_of (reverse begun) ≡ in_array [] ∷ map around_of (reverse ls)
-    array_level ls begun items none pushed = ap (λ (x : List Level). map around_of (reverse x)) pushed ∙
-        around_last ls (level.Array items) ∙
-        ap (λ (x : List Value). in_array (map tree_of x) ∷ map around_of (reverse ls)) none
+    (subst (λ o. Leads o item (token_read k) more (await_of next)) (array_opened ls begun items none pushed) h)
 
 pub first_misplaced : (ls begun : List Level) (items : Vec Value Global) (k : Read) (limit : ℕ)
     (r : Result Due NotationError) → k ≢ read.EndArray → items.items ≡ [] → begun ≡ ls ++ level.Array items ∷ [] →
     IfErr r (IsMisplaced (map around_of (reverse begun)) item (token_read k) limit) →
     IfErr r (IsMisplaced (map around_of (reverse ls)) array_part (token_read k) limit)
 first_misplaced ls begun items k limit (Ok next) other none pushed h = tt
-first_misplaced ls begun items k limit (Err e) other none pushed h = λ ks v c.
-    let opened : map around_of (reverse begun) ≡ in_array [] ∷ map around_of (reverse ls) =
-    ap (λ (x : List Level). map around_of (reverse x)) pushed ∙ around_last ls (level.Array items) ∙
-    ap (λ (x : List Value). in_array (map tree_of x) ∷ map around_of (reverse ls)) none in
-    h ks v (subst (λ o. Completes o item (token_read k ∷ ks) v) (sym opened)
-    (first-item (map around_of (reverse ls)) (token_read k) ks v (not_array_end k other) c))
+first_misplaced ls begun items k limit (Err e) other none pushed h = λ t r v at c.
+    h t r v at (subst (λ o. Completes o item t v) (sym (array_opened ls begun items none pushed))
+    (first-item (map around_of (reverse ls)) (token_read k) t r v (not_array_end k other) at c))
 
 pub key_taken : (ls begun : List Level) (pairs : Vec (Value × Value) Global) (k : Read) (more : List Around)
     (r : Result Due NotationError) → k ≢ read.EndMap → pairs.items ≡ [] → begun ≡ ls ++ level.Keys pairs ∷ [] →
@@ -195,30 +187,24 @@ pub key_taken : (ls begun : List Level) (pairs : Vec (Value × Value) Global) (k
     IfOk r (λ next. Leads (map around_of (reverse ls)) map_part (token_read k) more (await_of next))
 key_taken ls begun pairs k more (Err e) other none pushed h = tt
 key_taken ls begun pairs k more (Ok next) other none pushed h =
-    let opened : map around_of (reverse begun) ≡ in_keys [] ∷ map around_of (reverse ls) =
-    ap (λ (x : List Level). map around_of (reverse x)) pushed ∙ around_last ls (level.Keys pairs) ∙
-    ap (λ (x : List (Value × Value)). in_keys (map pair_trees x) ∷ map around_of (reverse ls)) none in
     key_leads (map around_of (reverse ls)) more (token_read k) (await_of next) (not_map_end k other)
-    (subst (λ o. Leads o item (token_read k) more (await_of next)) opened h)
+    (subst (λ o. Leads o item (token_read k) more (await_of next)) (map_opened ls begun pairs none pushed) h)
 
 pub key_misplaced : (ls begun : List Level) (pairs : Vec (Value × Value) Global) (k : Read) (limit : ℕ)
     (r : Result Due NotationError) → k ≢ read.EndMap → pairs.items ≡ [] → begun ≡ ls ++ level.Keys pairs ∷ [] →
     IfErr r (IsMisplaced (map around_of (reverse begun)) item (token_read k) limit) →
     IfErr r (IsMisplaced (map around_of (reverse ls)) map_part (token_read k) limit)
 key_misplaced ls begun pairs k limit (Ok next) other none pushed h = tt
-key_misplaced ls begun pairs k limit (Err e) other none pushed h = λ ks v c.
-    let opened : map around_of (reverse begun) ≡ in_keys [] ∷ map around_of (reverse ls) =
-    ap (λ (x : List Level). map around_of (reverse x)) pushed ∙ around_last ls (level.Keys pairs) ∙
-    ap (λ (x : List (Value × Value)). in_keys (map pair_trees x) ∷ map around_of (reverse ls)) none in
-    h ks v (subst (λ o. Completes o item (token_read k ∷ ks) v) (sym opened)
-    (first-key (map around_of (reverse ls)) (token_read k) ks v (not_map_end k other) c))
+key_misplaced ls begun pairs k limit (Err e) other none pushed h = λ t r v at c.
+    h t r v at (subst (λ o. Completes o item t v) (sym (map_opened ls begun pairs none pushed))
+    (first-key (map around_of (reverse ls)) (token_read k) t r v (not_map_end k other) at c))
 
 -- ---- a level more than the limit
 
 pub too_deep : (ls : List Level) (k : Read) (limit : ℕ) (place : ℕ) → opens (token_read k) ≡ true →
     limit ≤ length ls → IsMisplaced (map around_of (reverse ls)) item (token_read k) limit (At place TooDeep)
-too_deep ls k limit place opened full = λ ks v c.
-    let h = opens-deeper (map around_of (reverse ls)) (token_read k) ks v opened c in
+too_deep ls k limit place opened full = λ t r v at c.
+    let h = opens-deeper (map around_of (reverse ls)) (token_read k) t r v opened at c in
     let count = open_count ls in omega (arith, h, full, count)
 
 -- an answer of which more is known, where less is asked

@@ -12,9 +12,8 @@ use Rattle.std.proofs.lemmas.Bool.{lt-ltb}
 use Rattle.std.proofs.lemmas.Fmt.{decimal_is_IsNumeral_wide}
 use Rattle.std.proofs.lemmas.Str.{encode_ascii}
 use Rattle.hex.specs.Hex.{encode_lower, encode_with, lower_digits}
-use Rattle.ciborium_value.specs.Denotes.{AreTokens, Denote, DenoteItems, DenoteMoreItems, DenoteMorePairs, DenotePairs}
-use Rattle.ciborium_value.specs.Denotes.{alone, item, listed, mapped, no_item, no_more_items, no_more_pairs, no_pair}
-use Rattle.ciborium_value.specs.Denotes.{no_token, one_more_item, one_more_pair, pair, tagged, token}
+use Rattle.ciborium_value.specs.Denotes.{Begins, BeginsItems, BeginsPairs, Denotes, IsSeparated, IsToken, alone, item}
+use Rattle.ciborium_value.specs.Denotes.{listed, mapped, no_item, no_pair, pair, tagged}
 use Rattle.ciborium_value.specs.Notation.{comma as comma_text, escape, escaped, last_break, line_break, needs_escape}
 use Rattle.ciborium_value.specs.Notation.{notation_on, notations_on, one_level_more, pair_notations_on}
 use Rattle.ciborium_value.specs.ProperTrees.{AreProperTreePairs, AreProperTrees, IsProperTree}
@@ -24,7 +23,6 @@ use Rattle.ciborium_value.specs.Tokens.{is_white, leaf, prepended, text_at, toke
 use Rattle.ciborium_value.specs.Tree as trees
 use Rattle.ciborium_value.specs.Tree.{Tree, TreePairs, Trees, tree_pairs_count, trees_count}
 use Rattle.ciborium_value.specs.laws.NotationLaws.{PrintedAlikeIsEqual, PrintedIsDenoted}
-use Rattle.ciborium_value.specs.Denotes.{Denotes}
 use Rattle.ciborium_value.specs.Notation.{styled_notation}
 use Rattle.ciborium_value.specs.Tokens.{digits_at, is_high, minus_token, number_token, one_digit_more, plus_token}
 use Rattle.ciborium_value.specs.Tokens.{text_token, token_of, unit_in}
@@ -371,17 +369,20 @@ text-run [] r = refl
 text-run (b ∷ t) r = ap text_at (append_assoc (escaped b) (flat_map escaped t) (34 ∷ r)) ∙
     escaped-at b (flat_map escaped t ++ (34 ∷ r)) ∙ ap (prepended (b ∷ [])) (text-run t r)
 
--- ---- rows of tokens
+-- ---- tokens, and blanks before them
 
--- a token and what follows it
-before : (s rest : List ℕ) (k : Token) (ks : List Token) → behind_blanks s ≡ Some s → token_at s ≡ Some (k, rest) →
-    AreTokens rest ks → AreTokens s (k ∷ ks)
-before s rest k ks b e are = token s s rest k ks b e are
+at : (s r : List ℕ) (k : Token) → behind_blanks s ≡ Some s → token_at s ≡ Some (k, r) → IsToken s k r
+at s r k b e = (s, b, e)
 
--- blanks before them
-behind-blanks : (t x : List ℕ) (ks : List Token) → behind_blanks t ≡ behind_blanks x → AreTokens x ks → AreTokens t ks
-behind-blanks t x ks b (no_token _ e) = no_token t (b ∙ e)
-behind-blanks t x ks b (token _ s rest k more e f are) = token t s rest k more (b ∙ e) f are
+-- the same behind other blanks
+past : (t x r : List ℕ) (v : Tree) → behind_blanks t ≡ behind_blanks x → Begins x v r → Begins t v r
+past t x r v b (alone _ _ _ (s, c, e)) = alone v t r (s, b ∙ c, e)
+past t x r v b (tagged n u _ s w _ (y, c, e) d end) = tagged n u t s w r (y, b ∙ c, e) d end
+past t x r v b (listed vs _ s _ (y, c, e) m) = listed vs t s r (y, b ∙ c, e) m
+past t x r v b (mapped ps _ s _ (y, c, e) m) = mapped ps t s r (y, b ∙ c, e) m
+
+past-token : (t x r : List ℕ) (k : Token) → behind_blanks t ≡ behind_blanks x → IsToken x k r → IsToken t k r
+past-token t x r k b (s, c, e) = (s, b ∙ c, e)
 
 indents : (level : ℕ) (x : List ℕ) → behind_blanks (repeat level (codes "  ") ++ x) ≡ behind_blanks x
 indents zero x = refl
@@ -398,74 +399,25 @@ last-breaks : (lines : Option ℕ) (n : ℕ) (x : List ℕ) → behind_blanks (l
 last-breaks lines zero x = refl
 last-breaks lines (suc n) x = ap (λ (l : List ℕ). behind_blanks (l ++ x)) (last-is lines n) ∙ breaks lines x
 
-comma-breaks : (lines : Option ℕ) (x : List ℕ) → (t : List ℕ) × (comma_text lines ++ x ≡ 44 ∷ t) ×
-    (behind_blanks t ≡ behind_blanks x)
-comma-breaks None x = (32 ∷ x, refl, refl)
-comma-breaks (Some level) x = (x, refl, refl)
+-- what stands between the items: a comma, or nothing before the first
+abbrev between : Bool → Option ℕ → List ℕ
+between false lines = []
+between true lines = comma_text lines
 
--- ---- the tokens of a tree
-
-abbrev mutual
-  tokens_of : Tree → List Token
-  tokens_of (trees.tag n v) = begin_tag n ∷ (tokens_of v ++ (end_tag ∷ []))
-  tokens_of (trees.array vs) = begin_array ∷ (tokens_of_items vs ++ (end_array ∷ []))
-  tokens_of (trees.map ps) = begin_map ∷ (tokens_of_pairs ps ++ (end_map ∷ []))
-  tokens_of (trees.integer z) = leaf (trees.integer z) ∷ []
-  tokens_of (trees.bytes b) = leaf (trees.bytes b) ∷ []
-  tokens_of (trees.text b) = leaf (trees.text b) ∷ []
-  tokens_of (trees.boolean b) = leaf (trees.boolean b) ∷ []
-  tokens_of trees.null = leaf trees.null ∷ []
-
-  tokens_of_items : Trees → List Token
-  tokens_of_items trees.no_trees = []
-  tokens_of_items (trees.tree v vs) = tokens_of v ++ tokens_of_more vs
-
-  tokens_of_more : Trees → List Token
-  tokens_of_more trees.no_trees = []
-  tokens_of_more (trees.tree v vs) = comma ∷ (tokens_of v ++ tokens_of_more vs)
-
-  tokens_of_pairs : TreePairs → List Token
-  tokens_of_pairs trees.no_tree_pairs = []
-  tokens_of_pairs (trees.tree_pair k v ps) = tokens_of k ++ (colon ∷ (tokens_of v ++ tokens_of_more_pairs ps))
-
-  tokens_of_more_pairs : TreePairs → List Token
-  tokens_of_more_pairs trees.no_tree_pairs = []
-  tokens_of_more_pairs (trees.tree_pair k v ps) =
-      comma ∷ (tokens_of k ++ (colon ∷ (tokens_of v ++ tokens_of_more_pairs ps)))
-
-mutual
-  denoted : (v : Tree) → Denote (tokens_of v) v
-  denoted (trees.integer z) = alone _ _ refl
-  denoted (trees.bytes b) = alone _ _ refl
-  denoted (trees.text b) = alone _ _ refl
-  denoted (trees.boolean b) = alone _ _ refl
-  denoted trees.null = alone _ _ refl
-  denoted (trees.tag n v) = tagged n v (tokens_of v) _ (denoted v) refl
-  denoted (trees.array vs) = listed vs (tokens_of_items vs) _ (denoted-items vs) refl
-  denoted (trees.map ps) = mapped ps (tokens_of_pairs ps) _ (denoted-pairs ps) refl
-
-  denoted-items : (vs : Trees) → DenoteItems (tokens_of_items vs) vs
-  denoted-items trees.no_trees = no_item _ refl
-  denoted-items (trees.tree v vs) = item v vs (tokens_of v) (tokens_of_more vs) _ (denoted v) (denoted-more vs) refl
-
-  denoted-more : (vs : Trees) → DenoteMoreItems (tokens_of_more vs) vs
-  denoted-more trees.no_trees = no_more_items _ refl
-  denoted-more (trees.tree v vs) =
-      one_more_item v vs (tokens_of v) (tokens_of_more vs) _ (denoted v) (denoted-more vs) refl
-
-  denoted-pairs : (ps : TreePairs) → DenotePairs (tokens_of_pairs ps) ps
-  denoted-pairs trees.no_tree_pairs = no_pair _ refl
-  denoted-pairs (trees.tree_pair k v ps) = pair k v ps (tokens_of k) (tokens_of v) (tokens_of_more_pairs ps) _
-      (denoted k) (denoted v) (denoted-more-pairs ps) refl
-
-  denoted-more-pairs : (ps : TreePairs) → DenoteMorePairs (tokens_of_more_pairs ps) ps
-  denoted-more-pairs trees.no_tree_pairs = no_more_pairs _ refl
-  denoted-more-pairs (trees.tree_pair k v ps) = one_more_pair k v ps (tokens_of k) (tokens_of v)
-      (tokens_of_more_pairs ps) _ (denoted k) (denoted v) (denoted-more-pairs ps) refl
+-- what stands behind it, past blanks
+separated : (due : Bool) (lines : Option ℕ) (x r : List ℕ) (v : Tree) → Begins x v r →
+    (s : List ℕ) × IsSeparated due (between due lines ++ (line_break lines ++ x)) s × Begins s v r
+separated false lines x r v d = (line_break lines ++ x, refl, past (line_break lines ++ x) x r v (breaks lines x) d)
+separated true None x r v d = (32 ∷ x, at (44 ∷ 32 ∷ x) (32 ∷ x) comma refl refl, past (32 ∷ x) x r v refl d)
+separated true (Some level) x r v d = (
+  line_break (Some level) ++ x,
+  at (44 ∷ (line_break (Some level) ++ x)) (line_break (Some level) ++ x) comma refl refl,
+  past (line_break (Some level) ++ x) x r v (breaks (Some level) x) d,
+)
 
 -- ---- what is printed
 
--- what follows the first items, or the first pairs, may follow a tree
+-- what follows an item or a pair may follow a tree
 more-follow : (lines : Option ℕ) (vs : Trees) (x : List ℕ) → Follows x →
     Follows (notations_on lines (comma_text lines) vs ++ x)
 more-follow lines trees.no_trees x f = f
@@ -484,162 +436,89 @@ last-follows None (suc n) b x f = subst (λ (l : List ℕ). Follows (l ++ (b ∷
 last-follows (Some level) (suc n) b x f =
     subst (λ (l : List ℕ). Follows (l ++ (b ∷ x))) (sym (last-is (Some level) n)) line_ends
 
--- a tree before what may follow it
-abbrev Before : Option ℕ → Tree → Type 0
-Before lines v = (r : List ℕ) (ks : List Token) → Follows r → AreTokens r ks →
-    AreTokens (notation_on lines v ++ r) (tokens_of v ++ ks)
-
--- an item on its line, and others behind it
-one-printed : (lines : Option ℕ) (v : Tree) (vs : Trees) (x : List ℕ) (ks : List Token) → Before lines v → Follows x →
-    AreTokens (notations_on lines (comma_text lines) vs ++ x) (tokens_of_more vs ++ ks) →
-    AreTokens ((line_break lines ++ (notation_on lines v ++ notations_on lines (comma_text lines) vs)) ++ x)
-    ((tokens_of v ++ tokens_of_more vs) ++ ks)
-one-printed lines v vs x ks item-before f others =
-    let more = notations_on lines (comma_text lines) vs in
-    let inner = item-before (more ++ x) (tokens_of_more vs ++ ks) (more-follow lines vs x f) others in
-    subst (λ (t : List ℕ). AreTokens t ((tokens_of v ++ tokens_of_more vs) ++ ks))
-    (sym (append_assoc (line_break lines) (notation_on lines v ++ more) x ∙
-    ap (λ (t : List ℕ). line_break lines ++ t) (append_assoc (notation_on lines v) more x)))
-    (behind-blanks (line_break lines ++ (notation_on lines v ++ (more ++ x))) (notation_on lines v ++ (more ++ x)) _
-    (breaks lines (notation_on lines v ++ (more ++ x)))
-    (subst (AreTokens (notation_on lines v ++ (more ++ x))) (sym (append_assoc (tokens_of v) (tokens_of_more vs) ks))
-    inner))
-
--- the same behind a comma
-behind-comma : (lines : Option ℕ) (rows x : List ℕ) (ks : List Token) → AreTokens (rows ++ x) ks →
-    AreTokens ((comma_text lines ++ rows) ++ x) (comma ∷ ks)
-behind-comma lines rows x ks are =
-    let (t, e, b) = comma-breaks lines (rows ++ x) in
-    subst (λ (l : List ℕ). AreTokens l (comma ∷ ks)) (sym (append_assoc (comma_text lines) rows x ∙ e))
-    (before (44 ∷ t) t comma _ refl refl (behind-blanks t (rows ++ x) _ b are))
-
--- a pair on its line, and others behind it
-pair-printed : (lines : Option ℕ) (k v : Tree) (ps : TreePairs) (x : List ℕ) (ks : List Token) → Before lines k →
-    Before lines v → Follows x →
-    AreTokens (pair_notations_on lines (comma_text lines) ps ++ x) (tokens_of_more_pairs ps ++ ks) →
-    AreTokens ((line_break lines ++ (notation_on lines k ++ (codes ": " ++ (notation_on lines v ++
-    pair_notations_on lines (comma_text lines) ps)))) ++ x)
-    ((tokens_of k ++ (colon ∷ (tokens_of v ++ tokens_of_more_pairs ps))) ++ ks)
-pair-printed lines k v ps x ks key-before value-before f others =
-    let more = pair_notations_on lines (comma_text lines) ps in
-    let value = value-before (more ++ x) (tokens_of_more_pairs ps ++ ks) (more-pairs-follow lines ps x f) others in
-    let rest = notation_on lines v ++ (more ++ x) in
-    let behind-colon = before (58 ∷ 32 ∷ rest) (32 ∷ rest) colon (tokens_of v ++ (tokens_of_more_pairs ps ++ ks)) refl
-    refl
-    (behind-blanks (32 ∷ rest) rest (tokens_of v ++ (tokens_of_more_pairs ps ++ ks)) refl value) in
-    let key = key-before (58 ∷ 32 ∷ rest) (colon ∷ (tokens_of v ++ (tokens_of_more_pairs ps ++ ks))) colon_ends
-    behind-colon in
-    let pairs = tokens_of v ++ tokens_of_more_pairs ps in
-    let row = append_assoc (tokens_of k) (colon ∷ pairs) ks ∙
-    ap (λ (l : List Token). tokens_of k ++ (colon ∷ l)) (append_assoc (tokens_of v) (tokens_of_more_pairs ps) ks) in
-    let text = append_assoc (line_break lines) (notation_on lines k ++ (58 ∷ 32 ∷ (notation_on lines v ++ more))) x ∙
-    ap (λ (t : List ℕ). line_break lines ++ t)
-    (append_assoc (notation_on lines k) (58 ∷ 32 ∷ (notation_on lines v ++ more)) x ∙
-    ap (λ (t : List ℕ). notation_on lines k ++ (58 ∷ 32 ∷ t)) (append_assoc (notation_on lines v) more x)) in
-    subst (λ (t : List ℕ). AreTokens t ((tokens_of k ++ (colon ∷ pairs)) ++ ks)) (sym text)
-    (behind-blanks (line_break lines ++ (notation_on lines k ++ (58 ∷ 32 ∷ rest)))
-    (notation_on lines k ++ (58 ∷ 32 ∷ rest)) _ (breaks lines (notation_on lines k ++ (58 ∷ 32 ∷ rest)))
-    (subst (AreTokens (notation_on lines k ++ (58 ∷ 32 ∷ rest))) (sym row) key))
+regroup : (a b c d x : List ℕ) → (a ++ (b ++ (c ++ d))) ++ x ≡ a ++ (b ++ (c ++ (d ++ x)))
+regroup a b c d x = simp append_assoc
 
 mutual
-  printed : (lines : Option ℕ) (v : Tree) (r : List ℕ) (ks : List Token) → IsProperTree v → Follows r →
-      AreTokens r ks → AreTokens (notation_on lines v ++ r) (tokens_of v ++ ks)
-  printed lines (trees.integer z) r ks h f are =
-      before (signed_decimal z ++ r) r _ ks (number-not-blank z r h) (number-token z r h f) are
-  printed lines (trees.bytes b) r ks h f are =
-      subst (λ (t : List ℕ). AreTokens t (leaf (trees.bytes b) ∷ ks))
+  printed : (lines : Option ℕ) (v : Tree) (r : List ℕ) → IsProperTree v → Follows r →
+      Begins (notation_on lines v ++ r) v r
+  printed lines (trees.integer z) r h f = alone _ _ r
+      (at (signed_decimal z ++ r) r (leaf (trees.integer z)) (number-not-blank z r h) (number-token z r h f))
+  printed lines (trees.bytes b) r h f = subst (λ (t : List ℕ). Begins t (trees.bytes b) r)
       (sym (ap (λ (t : List ℕ). 104 ∷ 39 ∷ t) (append_assoc (encode_lower b) (39 ∷ []) r)))
-      (before (104 ∷ 39 ∷ (encode_lower b ++ (39 ∷ r))) r (leaf (trees.bytes b)) ks refl
-      (ap (token_of trees.bytes) (hex-run b r h.0)) are)
-  printed lines (trees.text b) r ks h f are =
-      subst (λ (t : List ℕ). AreTokens t (leaf (trees.text b) ∷ ks))
+      (alone _ _ r (at (104 ∷ 39 ∷ (encode_lower b ++ (39 ∷ r))) r (leaf (trees.bytes b)) refl
+      (ap (token_of trees.bytes) (hex-run b r h.0))))
+  printed lines (trees.text b) r h f = subst (λ (t : List ℕ). Begins t (trees.text b) r)
       (sym (ap (λ (t : List ℕ). 34 ∷ t) (append_assoc (flat_map escaped b) (34 ∷ []) r)))
-      (before (34 ∷ (flat_map escaped b ++ (34 ∷ r))) r (leaf (trees.text b)) ks refl
-      (ap text_token (text-run b r) ∙ utf8_token b r h.0) are)
-  printed lines (trees.boolean true) r ks h f are = before _ r _ ks refl refl are
-  printed lines (trees.boolean false) r ks h f are = before _ r _ ks refl refl are
-  printed lines trees.null r ks h f are = before _ r _ ks refl refl are
-  printed lines (trees.tag n v) r ks h f are =
-      let inner = printed lines v (41 ∷ r) (end_tag ∷ ks) h.1 tag_ends (before (41 ∷ r) r end_tag ks refl refl are) in
-      subst (λ (t : List ℕ). AreTokens t (begin_tag n ∷ ((tokens_of v ++ (end_tag ∷ [])) ++ ks)))
+      (alone _ _ r (at (34 ∷ (flat_map escaped b ++ (34 ∷ r))) r (leaf (trees.text b)) refl
+      (ap text_token (text-run b r) ∙ utf8_token b r h.0)))
+  printed lines (trees.boolean true) r h f =
+      alone _ _ r (at (codes "true" ++ r) r (leaf (trees.boolean true)) refl refl)
+  printed lines (trees.boolean false) r h f =
+      alone _ _ r (at (codes "false" ++ r) r (leaf (trees.boolean false)) refl refl)
+  printed lines trees.null r h f = alone _ _ r (at (codes "null" ++ r) r (leaf trees.null) refl refl)
+  printed lines (trees.tag n v) r h f =
+      subst (λ (t : List ℕ). Begins t (trees.tag n v) r)
       (sym (append_assoc (decimal n) (40 ∷ (notation_on lines v ++ (41 ∷ []))) r ∙
       ap (λ (t : List ℕ). decimal n ++ (40 ∷ t)) (append_assoc (notation_on lines v) (41 ∷ []) r)))
-      (before (decimal n ++ (40 ∷ (notation_on lines v ++ (41 ∷ r)))) (notation_on lines v ++ (41 ∷ r)) (begin_tag n) _
-      (decimal-not-blank n _ (omega (arith, h.0))) (tag-token n (notation_on lines v ++ (41 ∷ r)) h.0)
-      (subst (AreTokens (notation_on lines v ++ (41 ∷ r))) (sym (append_assoc (tokens_of v) (end_tag ∷ []) ks)) inner))
-  printed lines (trees.array vs) r ks h f are =
-      let n = trees_count vs in
-      let last = last_break lines n in
+      (tagged n v _ _ (41 ∷ r) r (at (decimal n ++ (40 ∷ (notation_on lines v ++ (41 ∷ r))))
+      (notation_on lines v ++ (41 ∷ r)) (begin_tag n) (decimal-not-blank n _ (omega (arith, h.0)))
+      (tag-token n (notation_on lines v ++ (41 ∷ r)) h.0)) (printed lines v (41 ∷ r) h.1 tag_ends)
+      (at (41 ∷ r) r end_tag refl refl))
+  printed lines (trees.array vs) r h f =
+      let last = last_break lines (trees_count vs) in
       let rows = notations_on (one_level_more lines) [] vs in
-      let end = behind-blanks (last ++ (93 ∷ r)) (93 ∷ r) (end_array ∷ ks) (last-breaks lines n (93 ∷ r))
-      (before (93 ∷ r) r end_array ks refl refl are) in
-      let inner = printed-items (one_level_more lines) vs (last ++ (93 ∷ r)) (end_array ∷ ks) h.1
-      (last-follows lines n 93 r array_ends) end in
-      subst (λ (t : List ℕ). AreTokens t (begin_array ∷ ((tokens_of_items vs ++ (end_array ∷ [])) ++ ks)))
+      subst (λ (t : List ℕ). Begins t (trees.array vs) r)
       (sym (ap (λ (t : List ℕ). 91 ∷ t) (append_assoc rows (last ++ (93 ∷ [])) r ∙
       ap (λ (t : List ℕ). rows ++ t) (append_assoc last (93 ∷ []) r))))
-      (before (91 ∷ (rows ++ (last ++ (93 ∷ r)))) (rows ++ (last ++ (93 ∷ r))) begin_array _ refl refl
-      (subst (AreTokens (rows ++ (last ++ (93 ∷ r)))) (sym (append_assoc (tokens_of_items vs) (end_array ∷ []) ks))
-      inner))
-  printed lines (trees.map ps) r ks h f are =
-      let n = tree_pairs_count ps in
-      let last = last_break lines n in
+      (listed vs _ (rows ++ (last ++ (93 ∷ r))) r (at (91 ∷ (rows ++ (last ++ (93 ∷ r)))) _ begin_array refl refl)
+      (printed-items (one_level_more lines) false vs (last ++ (93 ∷ r)) r h.1
+      (last-follows lines (trees_count vs) 93 r array_ends) (past-token (last ++ (93 ∷ r)) (93 ∷ r) r end_array
+      (last-breaks lines (trees_count vs) (93 ∷ r)) (at (93 ∷ r) r end_array refl refl))))
+  printed lines (trees.map ps) r h f =
+      let last = last_break lines (tree_pairs_count ps) in
       let rows = pair_notations_on (one_level_more lines) [] ps in
-      let end = behind-blanks (last ++ (125 ∷ r)) (125 ∷ r) (end_map ∷ ks) (last-breaks lines n (125 ∷ r))
-      (before (125 ∷ r) r end_map ks refl refl are) in
-      let inner = printed-pairs (one_level_more lines) ps (last ++ (125 ∷ r)) (end_map ∷ ks) h.1
-      (last-follows lines n 125 r map_ends) end in
-      subst (λ (t : List ℕ). AreTokens t (begin_map ∷ ((tokens_of_pairs ps ++ (end_map ∷ [])) ++ ks)))
+      subst (λ (t : List ℕ). Begins t (trees.map ps) r)
       (sym (ap (λ (t : List ℕ). 123 ∷ t) (append_assoc rows (last ++ (125 ∷ [])) r ∙
       ap (λ (t : List ℕ). rows ++ t) (append_assoc last (125 ∷ []) r))))
-      (before (123 ∷ (rows ++ (last ++ (125 ∷ r)))) (rows ++ (last ++ (125 ∷ r))) begin_map _ refl refl
-      (subst (AreTokens (rows ++ (last ++ (125 ∷ r)))) (sym (append_assoc (tokens_of_pairs ps) (end_map ∷ []) ks))
-      inner))
+      (mapped ps _ (rows ++ (last ++ (125 ∷ r))) r (at (123 ∷ (rows ++ (last ++ (125 ∷ r)))) _ begin_map refl refl)
+      (printed-pairs (one_level_more lines) false ps (last ++ (125 ∷ r)) r h.1
+      (last-follows lines (tree_pairs_count ps) 125 r map_ends) (past-token (last ++ (125 ∷ r)) (125 ∷ r) r end_map
+      (last-breaks lines (tree_pairs_count ps) (125 ∷ r)) (at (125 ∷ r) r end_map refl refl))))
 
-  printed-items : (lines : Option ℕ) (vs : Trees) (x : List ℕ) (ks : List Token) → AreProperTrees vs → Follows x →
-      AreTokens x ks → AreTokens (notations_on lines [] vs ++ x) (tokens_of_items vs ++ ks)
-  printed-items lines trees.no_trees x ks h f are = are
-  printed-items lines (trees.tree v vs) x ks h f are =
-      one-printed lines v vs x ks (λ r ls g a. printed lines v r ls h.0 g a) f (printed-more lines vs x ks h.1 f are)
+  printed-items : (lines : Option ℕ) (due : Bool) (vs : Trees) (x r : List ℕ) → AreProperTrees vs → Follows x →
+      IsToken x end_array r → BeginsItems due (notations_on lines (between due lines) vs ++ x) vs r
+  printed-items lines due trees.no_trees x r h f end = no_item due x r end
+  printed-items lines due (trees.tree v vs) x r h f end =
+      let more = notations_on lines (comma_text lines) vs in
+      let (s, apart, first) = separated due lines (notation_on lines v ++ (more ++ x)) (more ++ x) v
+      (printed lines v (more ++ x) h.0 (more-follow lines vs x f)) in
+      subst (λ (t : List ℕ). BeginsItems due t (trees.tree v vs) r)
+      (sym (regroup (between due lines) (line_break lines) (notation_on lines v) more x))
+      (item due v vs _ s (more ++ x) r apart first (printed-items lines true vs x r h.1 f end))
 
-  printed-more : (lines : Option ℕ) (vs : Trees) (x : List ℕ) (ks : List Token) → AreProperTrees vs → Follows x →
-      AreTokens x ks → AreTokens (notations_on lines (comma_text lines) vs ++ x) (tokens_of_more vs ++ ks)
-  printed-more lines trees.no_trees x ks h f are = are
-  printed-more lines (trees.tree v vs) x ks h f are =
-      behind-comma lines (line_break lines ++ (notation_on lines v ++ notations_on lines (comma_text lines) vs)) x
-      ((tokens_of v ++ tokens_of_more vs) ++ ks)
-      (one-printed lines v vs x ks (λ r ls g a. printed lines v r ls h.0 g a) f (printed-more lines vs x ks h.1 f are))
-
-  printed-pairs : (lines : Option ℕ) (ps : TreePairs) (x : List ℕ) (ks : List Token) → AreProperTreePairs ps → Follows
-      x →
-      AreTokens x ks → AreTokens (pair_notations_on lines [] ps ++ x) (tokens_of_pairs ps ++ ks)
-  printed-pairs lines trees.no_tree_pairs x ks h f are = are
-  printed-pairs lines (trees.tree_pair k v ps) x ks h f are =
-      pair-printed lines k v ps x ks (λ r ls g a. printed lines k r ls h.0 g a) (λ r ls g a. printed lines v r ls h.1 g
-      a)
-      f (printed-more-pairs lines ps x ks h.2 f are)
-
-  printed-more-pairs : (lines : Option ℕ) (ps : TreePairs) (x : List ℕ) (ks : List Token) → AreProperTreePairs ps →
-      Follows x → AreTokens x ks → AreTokens (pair_notations_on lines (comma_text lines) ps ++ x) (tokens_of_more_pairs
-      ps ++ ks)
-  printed-more-pairs lines trees.no_tree_pairs x ks h f are = are
-  printed-more-pairs lines (trees.tree_pair k v ps) x ks h f are =
-      behind-comma lines (line_break lines ++ (notation_on lines k ++ (codes ": " ++ (notation_on lines v ++
-      pair_notations_on lines (comma_text lines) ps)))) x
-      ((tokens_of k ++ (colon ∷ (tokens_of v ++ tokens_of_more_pairs ps))) ++ ks)
-      (pair-printed lines k v ps x ks (λ r ls g a. printed lines k r ls h.0 g a) (λ r ls g a. printed lines v r ls h.1
-      g a)
-      f (printed-more-pairs lines ps x ks h.2 f are))
+  printed-pairs : (lines : Option ℕ) (due : Bool) (ps : TreePairs) (x r : List ℕ) → AreProperTreePairs ps → Follows x →
+      IsToken x end_map r → BeginsPairs due (pair_notations_on lines (between due lines) ps ++ x) ps r
+  printed-pairs lines due trees.no_tree_pairs x r h f end = no_pair due x r end
+  printed-pairs lines due (trees.tree_pair k v ps) x r h f end =
+      let more = pair_notations_on lines (comma_text lines) ps in
+      let rest = notation_on lines v ++ (more ++ x) in
+      let (s, apart, first) = separated due lines (notation_on lines k ++ (58 ∷ 32 ∷ rest)) (58 ∷ 32 ∷ rest) k
+      (printed lines k (58 ∷ 32 ∷ rest) h.0 colon_ends) in
+      subst (λ (t : List ℕ). BeginsPairs due t (trees.tree_pair k v ps) r)
+      (sym (regroup (between due lines) (line_break lines) (notation_on lines k)
+      (58 ∷ 32 ∷ (notation_on lines v ++ more)) x ∙
+      ap (λ (t : List ℕ). between due lines ++ (line_break lines ++ (notation_on lines k ++ (58 ∷ 32 ∷ t))))
+      (append_assoc (notation_on lines v) more x)))
+      (pair due k v ps _ s (58 ∷ 32 ∷ rest) (32 ∷ rest) (more ++ x) r apart first
+      (at (58 ∷ 32 ∷ rest) (32 ∷ rest) colon refl refl)
+      (past (32 ∷ rest) rest (more ++ x) v refl (printed lines v (more ++ x) h.1 (more-pairs-follow lines ps x f)))
+      (printed-pairs lines true ps x r h.2 f end))
 
 -- what is printed on one line or over lines
 on-lines : (lines : Option ℕ) (v : Tree) → IsProperTree v → Denotes (notation_on lines v) v
-on-lines lines v h = (
-  tokens_of v,
-  subst (λ (t : List ℕ). AreTokens t (tokens_of v)) (append-nil (notation_on lines v))
-      (subst (AreTokens (notation_on lines v ++ [])) (append-nil (tokens_of v))
-      (printed lines v [] [] h tt (no_token [] refl))),
-  denoted v,
-)
+on-lines lines v h =
+    ([], subst (λ (t : List ℕ). Begins t v []) (append-nil (notation_on lines v)) (printed lines v [] h tt), refl)
 
 pub printed_is_denoted : PrintedIsDenoted
 printed_is_denoted true v h = on-lines (Some 0) v h

@@ -1,134 +1,90 @@
 -- How far a text is read.
-use Rattle.std.proofs.Common.{◌≡◌, ◌≢◌, ℕ, List, [], ◌∷◌, ◌++◌, Option, Some, None, refl, sym, ap, ◌∙◌, subst}
-use Rattle.std.proofs.Common.{append-nil, arith, length}
-use Rattle.ciborium_value.specs.Denotes.{AreTokens, Denote, Denotes, MayRefuse, no_token, token}
+use Rattle.std.proofs.Common.{◌≡◌, ◌≢◌, ℕ, List, [], ◌∷◌, Some, None, IfErr, IfOk, Ok, Err, Result, refl, sym, ap}
+use Rattle.std.proofs.Common.{arith, inl, inr, length, subst}
+use Rattle.ciborium_value.specs.Denotes.{At, Begins, Denotes, MayRefuse, Memory}
 use Rattle.ciborium_value.specs.Tokens.{Token, behind_blanks, token_at}
 use Rattle.ciborium_value.specs.Tree.{Tree}
-use Rattle.ciborium_value.specs.declared.from_notation.error.NotationError.{NotationError}
-use Rattle.ciborium_value.specs.inner.ReadTokens.{Around, Await, Completes, IsMisplaced, IsReached, Leads}
-use Rattle.ciborium_value.specs.inner.ReadTokens.{item, behind}
-use Rattle.std.proofs.Common.{IfErr, IfOk, Ok, Err, Result}
 use Rattle.ciborium_value.specs.View.{tree_of}
+use Rattle.ciborium_value.specs.declared.from_notation.error.NotationError.{NotationError}
 use Rattle.ciborium_value.specs.declared.tree.Value.{Value}
-use Rattle.ciborium_value.specs.declared.from_notation.error.NotationError.TheVariants.{At, Memory}
+use Rattle.ciborium_value.specs.inner.ReadTokens.{Around, Await, Completes, IsMisplaced, IsReached, Leads, behind, item}
+use Rattle.ciborium_value.proofs.Denoting.Steps.{front}
 
 pub reached-first : (text : List ℕ) → IsReached text [] item text
 reached-first text = record {
-  on = λ ks v k d. (ks, k, (v, ks, [], d, sym (append-nil ks), (refl, refl)));
-  back = λ left v k (w, s, r, d, e, (f, g)). (
-    left,
-    k,
-    subst (λ x. Denote x v) (sym (e ∙ ap (λ (x : List Token). s ++ x) f ∙ append-nil s))
-        (subst (λ x. Denote s x) (sym g) d),
-  );
+  on = λ v (r, d, none). (v, r, d, (none, refl));
+  back = λ v (w, r, d, (none, e)). (r, subst (λ x. Begins text x r) (sym e) d, none);
 }
-
-both-of : {A B : Type 0} (a a' : A) (b b' : B) (x y : Option (A × B)) → x ≡ Some (a, b) → y ≡ Some (a', b') →
-    x ≡ y → (a ≡ a') × (b ≡ b')
-both-of {A} {B} a a' b b' x y e f g = let p : (a, b) ≡ (a', b') = cc (e, f, g) in (
-  ap (λ (q : A × B). q.0) p,
-  ap (λ (q
-      : A × B). q.1) p,
-)
-
--- the tokens of what is left where a token stands at its front
-pub first-of : (t s rest : List ℕ) (k : Token) (left : List Token) → behind_blanks t ≡ Some s →
-    token_at s ≡ Some (k, rest) → AreTokens t left →
-    (ks : List Token) × (left ≡ k ∷ ks) × AreTokens rest ks
-first-of t s rest k left b e (no_token _ f) =
-    let nil : s ≡ [] = cc (b, f) in absurd (cc (e, ap token_at nil))
-first-of t s rest k left b e (token _ s' rest' k' ks f g more) =
-    let same : s' ≡ s = cc (b, f) in
-    let (one, rests) = both-of k' k rest' rest (token_at s') (token_at s) g e (ap token_at same) in
-    (ks, ap (λ (x : Token). x ∷ ks) one, subst (λ x. AreTokens x ks) rests more)
 
 pub reached-next : (text : List ℕ) (levels more : List Around) (due next : Await) (t s rest : List ℕ) (k : Token) →
     IsReached text levels due t → behind_blanks t ≡ Some s → token_at s ≡ Some (k, rest) →
     Leads levels due k more next → IsReached text more next rest
 reached-next text levels more due next t s rest k reached b e leads = record {
-  on = λ ks v k' d.
-      let (left, are, c) = reached.on ks v k' d in
-      let (ks', same, are') = first-of t s rest k left b e are in
-      (ks', are', leads.on ks' v (subst (λ x. Completes levels due x v) same c));
-  back = λ left v are c. reached.back (k ∷ left) v (token t s rest k left b e are) (leads.back left v c);
+  on = λ v d. leads.on t rest v (s, b, e) (reached.on v d);
+  back = λ v c. reached.back v (leads.back t rest v (s, b, e) c);
 }
 
--- a text is not denoted where a comment does not end, or no token stands
+-- nothing is denoted where nothing is completed
 pub reached-wrong : (text : List ℕ) (levels : List Around) (due : Await) (t : List ℕ) →
-    IsReached text levels due t → ((left : List Token) → AreTokens t left → ⊥) → (v : Tree) → Denotes text v → ⊥
-reached-wrong text levels due t reached wrong v (ks, k, d) = let r = reached.on ks v k d in wrong r.0 r.1
+    IsReached text levels due t → ((v : Tree) → Completes levels due t v → ⊥) → (v : Tree) → Denotes text v → ⊥
+reached-wrong text levels due t reached wrong v d = wrong v (reached.on v d)
 
-pub no-blanks : (t : List ℕ) → behind_blanks t ≡ None → (left : List Token) → AreTokens t left → ⊥
-no-blanks t e left (no_token _ f) = absurd (cc (e, f))
-no-blanks t e left (token _ s rest k ks f g more) = absurd (cc (e, f))
+-- where a comment does not end, or no token stands
+pub no-blanks : (levels : List Around) (due : Await) (t : List ℕ) → behind_blanks t ≡ None → (v : Tree) →
+    Completes levels due t v → ⊥
+no-blanks levels due t e v c = elim (front levels due t v c) [
+  | inl h ↦ cc (e, h.0)
+  | inr h ↦ let has = h.2.1 in cc (e, has)
+]
 
-pub no-token : (t s : List ℕ) → behind_blanks t ≡ Some s → s ≢ [] → token_at s ≡ None → (left : List Token) →
-    AreTokens t left → ⊥
-no-token t s b other e left (no_token _ f) = other (cc (b, f))
-no-token t s b other e left (token _ s' rest k ks f g more) =
-    let same : s' ≡ s = cc (b, f) in absurd (cc (g, ap token_at same, e))
+no-front : (levels : List Around) (due : Await) (t s : List ℕ) → behind_blanks t ≡ Some s → s ≢ [] →
+    token_at s ≡ None → (v : Tree) → Completes levels due t v → ⊥
+no-front levels due t s b some e v c = elim (front levels due t v c) [
+  | inl h ↦ some (cc (b, h.0))
+  | inr h ↦ let same : h.2.0 ≡ s = cc (b, h.2.1) in cc (e, ap token_at same, h.2.2)
+]
 
 pub reached-misplaced : (text : List ℕ) (levels : List Around) (due : Await) (t s rest : List ℕ) (k : Token)
     (limit : ℕ) (e : NotationError) → IsReached text levels due t → behind_blanks t ≡ Some s →
     token_at s ≡ Some (k, rest) → IsMisplaced levels due k limit e → (v : Tree) → Denotes text v → MayRefuse limit e v
-reached-misplaced text levels due t s rest k limit e reached b f misplaced v (ks, are, d) =
-    let (left, are', c) = reached.on ks v are d in
-    let (ks', same, more) = first-of t s rest k left b f are' in
-    misplaced ks' v (subst (λ x. Completes levels due x v) same c)
-
-pub no-more : (t : List ℕ) (left : List Token) → behind_blanks t ≡ Some [] → AreTokens t left → left ≡ []
-no-more t left b (no_token _ f) = refl
-no-more t left b (token _ s rest k ks f g more) =
-    let nil : s ≡ [] = cc (b, f) in absurd (cc (g, ap token_at nil))
-
--- where nothing is left, an item that has ended in no level is what the text denotes
-pub reached-last : (text t : List ℕ) (w : Tree) → IsReached text [] (behind w) t → behind_blanks t ≡ Some [] →
-    Denotes text w
-reached-last text t w reached b = reached.back [] w (no_token t b) (refl, refl)
-
-pub reached-only : (text t : List ℕ) (w : Tree) → IsReached text [] (behind w) t → (v : Tree) → Denotes text v → v ≡ w
-reached-only text t w reached v (ks, are, d) = let r = reached.on ks v are d in r.2.1
-
--- and nothing else ends there
-pub reached-unfinished : (text : List ℕ) (levels : List Around) (due : Await) (t : List ℕ) →
-    IsReached text levels due t → behind_blanks t ≡ Some [] → ((v : Tree) → Completes levels due [] v → ⊥) →
-    (v : Tree) → Denotes text v → ⊥
-reached-unfinished text levels due t reached b wrong v (ks, are, d) =
-    let (left, are', c) = reached.on ks v are d in
-    wrong v (subst (λ x. Completes levels due x v) (no-more t left b are') c)
+reached-misplaced text levels due t s rest k limit e reached b f misplaced v d =
+    misplaced t rest v (s, b, f) (reached.on v d)
 
 -- ---- the answers of the loop
 
-pub token_refused : (text : List ℕ) (levels : List Around) (due : Await) (t s : List ℕ) (limit : ℕ) (e : NotationError)
-    →
-    IsReached text levels due t → behind_blanks t ≡ Some s → s ≢ [] → (e ≢ Memory → token_at s ≡ None) →
-    (v : Tree) → Denotes text v → MayRefuse limit e v
+pub token_refused : (text : List ℕ) (levels : List Around) (due : Await) (t s : List ℕ) (limit : ℕ)
+    (e : NotationError) → IsReached text levels due t → behind_blanks t ≡ Some s → s ≢ [] →
+    (e ≢ Memory → token_at s ≡ None) → (v : Tree) → Denotes text v → MayRefuse limit e v
 token_refused text levels due t s limit Memory reached b some none v d = tt
 token_refused text levels due t s limit (At p fault) reached b some none v d =
-    absurd (reached-wrong text levels due t reached (no-token t s b some (none (λ e. cc e))) v d)
+    absurd (no-front levels due t s b some (none (λ e. cc e)) v (reached.on v d))
+
+-- where the text ends, an item that has ended in no level is what it denotes, and nothing else
+end_reached : (text t : List ℕ) (levels : List Around) (due : Await) (w : Tree) → IsReached text levels due t →
+    (levels ≡ []) × (due ≡ behind w) → IsReached text [] (behind w) t
+end_reached text t levels due w reached (none, ended) =
+    subst (λ x. IsReached text x (behind w) t) none (subst (λ x. IsReached text levels x t) ended reached)
 
 pub end_ok : (text : List ℕ) (levels : List Around) (due : Await) (t : List ℕ) (r : Result Value NotationError) →
     IsReached text levels due t → behind_blanks t ≡ Some [] →
     IfOk r (λ v. (levels ≡ []) × (due ≡ behind (tree_of v))) → IfOk r (λ v. Denotes text (tree_of v))
 end_ok text levels due t (Err e) reached b h = tt
-end_ok text levels due t (Ok v) reached b (none, ended) = reached-last text t (tree_of v)
-    (subst (λ x. IsReached text x (behind (tree_of v)) t) none (subst (λ x. IsReached text levels x t) ended reached)) b
+end_ok text levels due t (Ok v) reached b h =
+    (end_reached text t levels due (tree_of v) reached h).back (tree_of v) (b, refl)
 
 pub end_only : (text : List ℕ) (levels : List Around) (due : Await) (t : List ℕ) (r : Result Value NotationError) →
-    IsReached text levels due t → behind_blanks t ≡ Some [] →
-    IfOk r (λ v. (levels ≡ []) × (due ≡ behind (tree_of v))) →
+    IsReached text levels due t → IfOk r (λ v. (levels ≡ []) × (due ≡ behind (tree_of v))) →
     IfOk r (λ v. (w : Tree) → Denotes text w → w ≡ tree_of v)
-end_only text levels due t (Err e) reached b h = tt
-end_only text levels due t (Ok v) reached b (none, ended) = reached-only text t (tree_of v)
-    (subst (λ x. IsReached text x (behind (tree_of v)) t) none (subst (λ x. IsReached text levels x t) ended reached))
+end_only text levels due t (Err e) reached h = tt
+end_only text levels due t (Ok v) reached h =
+    λ w d. ((end_reached text t levels due (tree_of v) reached h).on w d).1
 
 pub end_refused : (text : List ℕ) (levels : List Around) (due : Await) (t : List ℕ) (limit : ℕ)
     (r : Result Value NotationError) → IsReached text levels due t → behind_blanks t ≡ Some [] →
-    IfErr r (λ e. (v : Tree) → Completes levels due [] v → ⊥) →
+    IfErr r (λ e. (t : List ℕ) (v : Tree) → behind_blanks t ≡ Some [] → Completes levels due t v → ⊥) →
     IfErr r (λ e. (v : Tree) → Denotes text v → MayRefuse limit e v)
 end_refused text levels due t limit (Ok v) reached b h = tt
-end_refused text levels due t limit (Err e) reached b h = λ v d.
-    absurd (reached-unfinished text levels due t reached b h v d)
+end_refused text levels due t limit (Err e) reached b h = λ v d. absurd (h t v b (reached.on v d))
 
 pub blanks_end : (t s : List ℕ) → behind_blanks t ≡ Some s → length s ≡ 0 → behind_blanks t ≡ Some []
 blanks_end t [] b empty = b

@@ -1,25 +1,17 @@
 -- What each token makes of what is open and due.
-use Rattle.std.proofs.Common.{true, ◌≡◌, ◌≢◌, ℕ, ◌+◌, ◌<◌, ◌≤◌, max, List, [], ◌∷◌, ◌++◌, length, refl, sym, ap}
-use Rattle.std.proofs.Common.{◌∙◌, subst, arith, append_assoc}
-use Rattle.ciborium_value.specs.Denotes.{Denote, DenoteItems, DenoteMoreItems, DenotePairs, DenoteMorePairs, alone}
-use Rattle.ciborium_value.specs.Denotes.{tagged, listed, mapped, no_more_items, one_more_item, no_more_pairs}
-use Rattle.ciborium_value.specs.Denotes.{one_more_pair, depth, depth_of_items, depth_of_pairs}
+use Rattle.std.proofs.Common.{◌≡◌, ◌≢◌, ℕ, ◌+◌, ◌<◌, ◌≤◌, max, Bool, true, false, List, [], ◌∷◌, ◌++◌, length}
+use Rattle.std.proofs.Common.{Some, ◌⊎◌, inl, inr, refl, sym, ap, ◌∙◌, subst, arith}
+use Rattle.ciborium_value.specs.Denotes.{Begins, BeginsItems, BeginsPairs, IsSeparated, IsToken, alone, depth}
+use Rattle.ciborium_value.specs.Denotes.{depth_of_items, depth_of_pairs, listed, mapped, no_item, no_pair, pair, tagged}
 use Rattle.ciborium_value.specs.Denotes as denotes
-use Rattle.ciborium_value.specs.Tokens.{Token, leaf, begin_tag, end_tag, begin_array, end_array, begin_map, end_map}
-use Rattle.ciborium_value.specs.Tokens.{comma, colon}
+use Rattle.ciborium_value.specs.Tokens.{Token, behind_blanks, token_at, leaf, begin_tag, end_tag, begin_array}
+use Rattle.ciborium_value.specs.Tokens.{end_array, begin_map, end_map, comma, colon}
 use Rattle.ciborium_value.specs.Tree as trees
 use Rattle.ciborium_value.specs.Tree.{Tree, Trees, TreePairs}
 use Rattle.ciborium_value.specs.View.{trees_from, tree_pairs_from}
-use Rattle.ciborium_value.specs.inner.ReadTokens.{Around, in_array, in_keys, in_values, in_tag, Complete, Completes}
-use Rattle.ciborium_value.specs.inner.ReadTokens.{Leads, item, array_part, map_part, behind, trees_before}
-use Rattle.ciborium_value.specs.inner.ReadTokens.{opens, pairs_before}
-use Rattle.ciborium_value.specs.Denotes.{MayRefuse}
-
-pub head-of : {A : Type 0} (a b : A) (x y : List A) → a ∷ x ≡ b ∷ y → a ≡ b
-head-of a b x y e = cc e
-
-pub tail-of : {A : Type 0} (a b : A) (x y : List A) → a ∷ x ≡ b ∷ y → x ≡ y
-tail-of a b x y e = cc e
+use Rattle.ciborium_value.specs.inner.ReadTokens.{Around, Complete, Completes, Leads, array_part, behind, in_array}
+use Rattle.ciborium_value.specs.inner.ReadTokens.{in_keys, in_tag, in_values, item, map_part, opens, pairs_before}
+use Rattle.ciborium_value.specs.inner.ReadTokens.{trees_before}
 
 -- ---- trees in a row
 
@@ -41,92 +33,128 @@ pairs-whole : (qs : List (Tree × Tree)) → pairs_before qs trees.no_tree_pairs
 pairs-whole [] = refl
 pairs-whole (q ∷ qs) = ap (trees.tree_pair q.0 q.1) (pairs-whole qs)
 
--- ---- an item that begins with this token, and behind which z is left
+-- ---- a text begins with one token at most
 
-abbrev pub Begun : Token → List Token → Tree → List Token → Type 0
-Begun (leaf v) r w z = (w ≡ v) × (r ≡ z)
-Begun (begin_tag n) r w z = (u : Tree) × (s : List Token) × Denote s u × (w ≡ trees.tag n u) ×
-    (r ≡ s ++ (end_tag ∷ z))
-Begun begin_array r w z = (vs : Trees) × (s : List Token) × DenoteItems s vs × (w ≡ trees.array vs) ×
-    (r ≡ s ++ (end_array ∷ z))
-Begun begin_map r w z = (ps : TreePairs) × (s : List Token) × DenotePairs s ps × (w ≡ trees.map ps) ×
-    (r ≡ s ++ (end_map ∷ z))
+pub one-token : (t : List ℕ) (k l : Token) (r s : List ℕ) → IsToken t k r → IsToken t l s → (k ≡ l) × (r ≡ s)
+one-token t k l r s (x, b, e) (y, c, f) =
+    let same : x ≡ y = cc (b, c) in
+    let pair : (k, r) ≡ (l, s) = cc (e, f, ap token_at same) in (
+      ap (λ (p : Token × List ℕ). p.0) pair,
+      ap (λ (p : Token × List ℕ). p.1) pair,
+    )
+
+pub no-token : (t : List ℕ) (k : Token) (r : List ℕ) → behind_blanks t ≡ Some [] → IsToken t k r → ⊥
+no-token t k r b (s, c, e) = let nil : s ≡ [] = cc (b, c) in absurd (cc (e, ap token_at nil))
+
+-- ---- what begins with this token, and is followed by z
+
+abbrev pub Begun : Token → List ℕ → Tree → List ℕ → Type 0
+Begun (leaf v) r w z = (w ≡ v) × (z ≡ r)
+Begun (begin_tag n) r w z = (u : Tree) × (s : List ℕ) × (w ≡ trees.tag n u) × Begins r u s × IsToken s end_tag z
+Begun begin_array r w z = (vs : Trees) × (w ≡ trees.array vs) × BeginsItems false r vs z
+Begun begin_map r w z = (ps : TreePairs) × (w ≡ trees.map ps) × BeginsPairs false r ps z
 Begun _ r w z = ⊥
 
-pub begun : (k : Token) (r s z : List Token) (w : Tree) → Denote s w → k ∷ r ≡ s ++ z → Begun k r w z
-begun k r s z w (alone v ks f) e =
-    let g : k ∷ r ≡ leaf v ∷ z = e ∙ ap (λ (x : List Token). x ++ z) f in
-    subst (λ h. Begun h r v z) (sym (head-of k (leaf v) r z g)) (refl, tail-of k (leaf v) r z g)
-begun k r s z w (tagged n v t ks d f) e =
-    let g : k ∷ r ≡ begin_tag n ∷ ((t ++ (end_tag ∷ [])) ++ z) = e ∙ ap (λ (x : List Token). x ++ z) f in
-    subst (λ h. Begun h r w z) (sym (head-of k (begin_tag n) r _ g))
-    (v, t, d, refl, tail-of k (begin_tag n) r _ g ∙ append_assoc t (end_tag ∷ []) z)
-begun k r s z w (listed vs t ks d f) e =
-    let g : k ∷ r ≡ begin_array ∷ ((t ++ (end_array ∷ [])) ++ z) = e ∙ ap (λ (x : List Token). x ++ z) f in
-    subst (λ h. Begun h r w z) (sym (head-of k begin_array r _ g))
-    (vs, t, d, refl, tail-of k begin_array r _ g ∙ append_assoc t (end_array ∷ []) z)
-begun k r s z w (mapped ps t ks d f) e =
-    let g : k ∷ r ≡ begin_map ∷ ((t ++ (end_map ∷ [])) ++ z) = e ∙ ap (λ (x : List Token). x ++ z) f in
-    subst (λ h. Begun h r w z) (sym (head-of k begin_map r _ g))
-    (ps, t, d, refl, tail-of k begin_map r _ g ∙ append_assoc t (end_map ∷ []) z)
+pub begun : (k : Token) (t r z : List ℕ) (w : Tree) → IsToken t k r → Begins t w z → Begun k r w z
+begun k t r z w at (alone v _ _ is) =
+    let (e, f) = one-token t k (leaf v) r z at is in subst (λ h. Begun h r v z) (sym e) (refl, sym f)
+begun k t r z w at (tagged n v _ s u _ is d end) =
+    let (e, f) = one-token t k (begin_tag n) r s at is in
+    subst (λ h. Begun h r (trees.tag n v) z) (sym e) (v, u, refl, subst (λ x. Begins x v u) (sym f) d, end)
+begun k t r z w at (listed vs _ s _ is m) =
+    let (e, f) = one-token t k begin_array r s at is in
+    subst (λ h. Begun h r (trees.array vs) z) (sym e) (vs, refl, subst (λ x. BeginsItems false x vs z) (sym f) m)
+begun k t r z w at (mapped ps _ s _ is m) =
+    let (e, f) = one-token t k begin_map r s at is in
+    subst (λ h. Begun h r (trees.map ps) z) (sym e) (ps, refl, subst (λ x. BeginsPairs false x ps z) (sym f) m)
 
--- an item has a token
-begun-not-nil : (s z : List Token) (w : Tree) → Denote s w → [] ≡ s ++ z → ⊥
-begun-not-nil s z w (alone v ks f) e = absurd (cc (e ∙ ap (λ (x : List Token). x ++ z) f))
-begun-not-nil s z w (tagged n v t ks d f) e = absurd (cc (e ∙ ap (λ (x : List Token). x ++ z) f))
-begun-not-nil s z w (listed vs t ks d f) e = absurd (cc (e ∙ ap (λ (x : List Token). x ++ z) f))
-begun-not-nil s z w (mapped ps t ks d f) e = absurd (cc (e ∙ ap (λ (x : List Token). x ++ z) f))
+pub items-end : (due : Bool) (t r z : List ℕ) (vs : Trees) → IsToken t end_array r → BeginsItems due t vs z →
+    (vs ≡ trees.no_trees) × (z ≡ r)
+items-end due t r z vs at (no_item _ _ _ is) = (refl, sym (one-token t end_array end_array r z at is).1)
+items-end false t r z vs at (denotes.item _ v us _ s u _ e d m) =
+    absurd (begun end_array s r u v (subst (λ x. IsToken x end_array r) (sym e) at) d)
+items-end true t r z vs at (denotes.item _ v us _ s u _ is d m) = absurd (cc (one-token t end_array comma r s at is).0)
+
+-- an item that its row begins with, and the others
+abbrev Row : List ℕ → Trees → List ℕ → Type 0
+Row t vs z = (v : Tree) × (us : Trees) × (u : List ℕ) × (vs ≡ trees.tree v us) × Begins t v u × BeginsItems true u us z
+
+item-first : (k : Token) (t r z : List ℕ) (vs : Trees) → k ≢ end_array → IsToken t k r →
+    BeginsItems false t vs z → Row t vs z
+item-first k t r z vs other at (no_item _ _ _ is) = absurd (other (one-token t k end_array r z at is).0)
+item-first k t r z vs other at (denotes.item _ v us _ s u _ e d m) =
+    (v, us, u, refl, subst (λ x. Begins x v u) e d, m)
+
+pub item-comma : (t r z : List ℕ) (vs : Trees) → IsToken t comma r → BeginsItems true t vs z → Row r vs z
+item-comma t r z vs at (no_item _ _ _ is) = absurd (cc (one-token t comma end_array r z at is).0)
+item-comma t r z vs at (denotes.item _ v us _ s u _ is d m) =
+    (v, us, u, refl, subst (λ x. Begins x v u) (sym (one-token t comma comma r s at is).1) d, m)
+
+pub other-behind-item : (k : Token) (t r z : List ℕ) (vs : Trees) → k ≢ end_array → k ≢ comma → IsToken t k r →
+    BeginsItems true t vs z → ⊥
+other-behind-item k t r z vs f g at (no_item _ _ _ is) = f (one-token t k end_array r z at is).0
+other-behind-item k t r z vs f g at (denotes.item _ v us _ s u _ is d m) = g (one-token t k comma r s at is).0
+
+pub pairs-end : (due : Bool) (t r z : List ℕ) (ps : TreePairs) → IsToken t end_map r → BeginsPairs due t ps z →
+    (ps ≡ trees.no_tree_pairs) × (z ≡ r)
+pairs-end due t r z ps at (no_pair _ _ _ is) = (refl, sym (one-token t end_map end_map r z at is).1)
+pairs-end false t r z ps at (pair _ k v qs _ s u w x _ e d is f m) =
+    absurd (begun end_map s r u k (subst (λ x. IsToken x end_map r) (sym e) at) d)
+pairs-end true t r z ps at (pair _ k v qs _ s u w x _ sep d is f m) =
+    absurd (cc (one-token t end_map comma r s at sep).0)
+
+-- a pair that its row begins with, and the others
+abbrev PairRow : List ℕ → TreePairs → List ℕ → Type 0
+PairRow t ps z = (k : Tree) × (v : Tree) × (qs : TreePairs) × (u : List ℕ) × (w : List ℕ) × (x : List ℕ) ×
+    (ps ≡ trees.tree_pair k v qs) × Begins t k u × IsToken u colon w × Begins w v x × BeginsPairs true x qs z
+
+pair-first : (l : Token) (t r z : List ℕ) (ps : TreePairs) → l ≢ end_map → IsToken t l r → BeginsPairs false t ps z →
+    PairRow t ps z
+pair-first l t r z ps other at (no_pair _ _ _ is) = absurd (other (one-token t l end_map r z at is).0)
+pair-first l t r z ps other at (pair _ k v qs _ s u w x _ e d is f m) =
+    (k, v, qs, u, w, x, refl, subst (λ y. Begins y k u) e d, is, f, m)
+
+pub pair-comma : (t r z : List ℕ) (ps : TreePairs) → IsToken t comma r → BeginsPairs true t ps z → PairRow r ps z
+pair-comma t r z ps at (no_pair _ _ _ is) = absurd (cc (one-token t comma end_map r z at is).0)
+pair-comma t r z ps at (pair _ k v qs _ s u w x _ sep d is f m) =
+    (k, v, qs, u, w, x, refl, subst (λ y. Begins y k u) (sym (one-token t comma comma r s at sep).1) d, is, f, m)
+
+pub other-behind-value : (l : Token) (t r z : List ℕ) (ps : TreePairs) → l ≢ end_map → l ≢ comma → IsToken t l r →
+    BeginsPairs true t ps z → ⊥
+other-behind-value l t r z ps f g at (no_pair _ _ _ is) = f (one-token t l end_map r z at is).0
+other-behind-value l t r z ps f g at (pair _ k v qs _ s u w x _ sep d is y m) = g (one-token t l comma r s at sep).0
+
+-- the same tree behind the same text
+moved : (levels : List Around) (x : Tree) {v w : Tree} {r s : List ℕ} → v ≡ w → r ≡ s → Complete levels v r x →
+    Complete levels w s x
+moved levels x {v = v} {s = s} e f c =
+    subst (λ y. Complete levels y s x) e (subst (λ y. Complete levels v y x) f c)
 
 -- ---- where an item is due
 
 pub leads-leaf : (levels : List Around) (v : Tree) → Leads levels item (leaf v) levels (behind v)
 leads-leaf levels v = record {
-  on = λ ks t (w, s, r, d, e, c). let b = begun (leaf v) ks s r w d e in
-      subst (λ x. Complete levels v x t) (sym b.1) (subst (λ x. Complete levels x r t) b.0 c);
-  back = λ ks t c. (v, leaf v ∷ [], ks, alone v _ refl, refl, c);
+  on = λ t r x at (w, z, d, c). let (e, f) = begun (leaf v) t r z w at d in moved levels x e f c;
+  back = λ t r x at c. (v, r, alone v t r at, c);
 }
 
 pub leads-tag : (levels : List Around) (n : ℕ) → Leads levels item (begin_tag n) (in_tag n ∷ levels) item
 leads-tag levels n = record {
-  on = λ ks t (w, s, r, d, e, c). let b = begun (begin_tag n) ks s r w d e in
-      (b.0, b.1, end_tag ∷ r, b.2, b.4, (r, refl, subst (λ x. Complete levels x r t) b.3 c));
-  back = λ ks t (u, s, z, d, e, (r, f, c)). (
-    trees.tag n u,
-    begin_tag n ∷ (s ++ (end_tag ∷ [])),
-    r,
-    tagged n u s _ d refl,
-    ap (λ (x : List Token). begin_tag n ∷ x)
-        (e ∙ ap (λ (x : List Token). s ++ x) f ∙ sym (append_assoc s (end_tag ∷ []) r)),
-    c,
-  );
+  on = λ t r x at (w, z, d, c).
+      let (u, s, e, f, end) = begun (begin_tag n) t r z w at d in (u, s, f, (z, end, moved levels x e refl c));
+  back = λ t r x at (u, s, f, (z, end, c)). (trees.tag n u, z, tagged n u t r s z at f end, c);
 }
 
 pub leads-array : (levels : List Around) → Leads levels item begin_array levels array_part
 leads-array levels = record {
-  on = λ ks t (w, s, r, d, e, c). let b = begun begin_array ks s r w d e in
-      (b.0, b.1, r, b.2, b.4, subst (λ x. Complete levels x r t) b.3 c);
-  back = λ ks t (vs, s, r, d, e, c). (
-    trees.array vs,
-    begin_array ∷ (s ++ (end_array ∷ [])),
-    r,
-    listed vs s _ d refl,
-    ap (λ (x : List Token). begin_array ∷ x) (e ∙ sym (append_assoc s (end_array ∷ []) r)),
-    c,
-  );
+  on = λ t r x at (w, z, d, c). let (vs, e, m) = begun begin_array t r z w at d in (vs, z, m, moved levels x e refl c);
+  back = λ t r x at (vs, z, m, c). (trees.array vs, z, listed vs t r z at m, c);
 }
 
 pub leads-map : (levels : List Around) → Leads levels item begin_map levels map_part
 leads-map levels = record {
-  on = λ ks t (w, s, r, d, e, c). let b = begun begin_map ks s r w d e in
-      (b.0, b.1, r, b.2, b.4, subst (λ x. Complete levels x r t) b.3 c);
-  back = λ ks t (ps, s, r, d, e, c). (
-    trees.map ps,
-    begin_map ∷ (s ++ (end_map ∷ [])),
-    r,
-    mapped ps s _ d refl,
-    ap (λ (x : List Token). begin_map ∷ x) (e ∙ sym (append_assoc s (end_map ∷ []) r)),
-    c,
-  );
+  on = λ t r x at (w, z, d, c). let (ps, e, m) = begun begin_map t r z w at d in (ps, z, m, moved levels x e refl c);
+  back = λ t r x at (ps, z, m, c). (trees.map ps, z, mapped ps t r z at m, c);
 }
 
 -- ---- where the first part of an array is due
@@ -134,268 +162,151 @@ leads-map levels = record {
 pub leads-no-item : (levels : List Around) →
     Leads levels array_part end_array levels (behind (trees.array trees.no_trees))
 leads-no-item levels = record {
-  on = λ ks t (vs, s, r, d, e, c). on ks t vs s r d e c;
-  back = λ ks t c. (trees.no_trees, [], ks, denotes.no_item _ refl, refl, c);
+  on = λ t r x at (vs, z, m, c).
+      let (e, f) = items-end false t r z vs at m in moved levels x (ap trees.array e) f c;
+  back = λ t r x at c. (trees.no_trees, r, no_item false t r at, c);
 }
-  where
-    on : (ks : List Token) (t : Tree) (vs : Trees) (s r : List Token) → DenoteItems s vs →
-        end_array ∷ ks ≡ s ++ (end_array ∷ r) → Complete levels (trees.array vs) r t →
-        Complete levels (trees.array trees.no_trees) ks t
-    on ks t vs s r (denotes.no_item _ f) e c =
-        let g : end_array ∷ ks ≡ end_array ∷ r = e ∙ ap (λ (x : List Token). x ++ (end_array ∷ r)) f in
-        subst (λ x. Complete levels (trees.array trees.no_trees) x t) (sym (tail-of end_array end_array ks r g)) c
-    on ks t vs s r (denotes.item v ws u z _ d m f) e c =
-        absurd (begun end_array ks u _ v d
-        (e ∙ ap (λ (x : List Token). x ++ (end_array ∷ r)) f ∙ append_assoc u z (end_array ∷ r)))
 
 -- another token begins the first item
-pub first-item : (levels : List Around) (k : Token) (ks : List Token) (t : Tree) → k ≢ end_array →
-    Completes levels array_part (k ∷ ks) t → Completes (in_array [] ∷ levels) item (k ∷ ks) t
-first-item levels k ks t other (vs, s, r, d, e, c) = of vs d e c
-  where
-    of : (vs : Trees) → DenoteItems s vs → k ∷ ks ≡ s ++ (end_array ∷ r) → Complete levels (trees.array vs) r t →
-        Completes (in_array [] ∷ levels) item (k ∷ ks) t
-    of vs (denotes.no_item _ f) e c =
-        absurd (other (head-of k end_array ks r (e ∙ ap (λ (x : List Token). x ++ (end_array ∷ r)) f)))
-    of vs (denotes.item v ws u z _ d m f) e c = (
-      v,
-      u,
-      z ++ (end_array ∷ r),
-      d,
-      e ∙ ap (λ (x : List Token). x ++ (end_array ∷ r)) f ∙ append_assoc u z (end_array ∷ r),
-      (ws, z, r, m, refl, c),
-    )
+pub first-item : (levels : List Around) (k : Token) (t r : List ℕ) (x : Tree) → k ≢ end_array → IsToken t k r →
+    Completes levels array_part t x → Completes (in_array [] ∷ levels) item t x
+first-item levels k t r x other at (vs, z, m, c) =
+    let (v, us, u, e, d, more) = item-first k t r z vs other at m in
+    (v, u, d, (us, z, more, moved levels x (ap trees.array e) refl c))
 
-pub item-first : (levels : List Around) (ks : List Token) (t : Tree) →
-    Completes (in_array [] ∷ levels) item ks t → Completes levels array_part ks t
-item-first levels ks t (w, s, z, d, e, (vs, u, r, m, f, c)) = (
-  trees.tree w vs,
-  s ++ u,
-  r,
-  denotes.item w vs s u _ d m refl,
-  e ∙ ap (λ (x : List Token). s ++ x) f ∙ sym (append_assoc s u (end_array ∷ r)),
-  c,
-)
+pub first_leads : (levels more : List Around) (k : Token) (next : _) → k ≢ end_array →
+    Leads (in_array [] ∷ levels) item k more next → Leads levels array_part k more next
+first_leads levels more k next other leads = record {
+  on = λ t r x at h. leads.on t r x at (first-item levels k t r x other at h);
+  back = λ t r x at h. let (v, u, d, (us, z, m, c)) = leads.back t r x at h in
+      (trees.tree v us, z, denotes.item false v us t t u z refl d m, c);
+}
 
 -- ---- where the first part of a map is due
 
 pub leads-no-pair : (levels : List Around) →
     Leads levels map_part end_map levels (behind (trees.map trees.no_tree_pairs))
 leads-no-pair levels = record {
-  on = λ ks t (ps, s, r, d, e, c). on ks t ps s r d e c;
-  back = λ ks t c. (trees.no_tree_pairs, [], ks, denotes.no_pair _ refl, refl, c);
+  on = λ t r x at (ps, z, m, c). let (e, f) = pairs-end false t r z ps at m in moved levels x (ap trees.map e) f c;
+  back = λ t r x at c. (trees.no_tree_pairs, r, no_pair false t r at, c);
 }
-  where
-    on : (ks : List Token) (t : Tree) (ps : TreePairs) (s r : List Token) → DenotePairs s ps →
-        end_map ∷ ks ≡ s ++ (end_map ∷ r) → Complete levels (trees.map ps) r t →
-        Complete levels (trees.map trees.no_tree_pairs) ks t
-    on ks t ps s r (denotes.no_pair _ f) e c =
-        let g : end_map ∷ ks ≡ end_map ∷ r = e ∙ ap (λ (x : List Token). x ++ (end_map ∷ r)) f in
-        subst (λ x. Complete levels (trees.map trees.no_tree_pairs) x t) (sym (tail-of end_map end_map ks r g)) c
-    on ks t ps s r (denotes.pair k v qs u w z _ d x m f) e c =
-        absurd (begun end_map ks u _ k d
-        (e ∙ ap (λ (y : List Token). y ++ (end_map ∷ r)) f ∙ append_assoc u (colon ∷ (w ++ z)) (end_map ∷ r)))
 
-pub first-key : (levels : List Around) (k : Token) (ks : List Token) (t : Tree) → k ≢ end_map →
-    Completes levels map_part (k ∷ ks) t → Completes (in_keys [] ∷ levels) item (k ∷ ks) t
-first-key levels k ks t other (ps, s, r, d, e, c) = of ps d e c
-  where
-    of : (ps : TreePairs) → DenotePairs s ps → k ∷ ks ≡ s ++ (end_map ∷ r) → Complete levels (trees.map ps) r t →
-        Completes (in_keys [] ∷ levels) item (k ∷ ks) t
-    of ps (denotes.no_pair _ f) e c =
-        absurd (other (head-of k end_map ks r (e ∙ ap (λ (x : List Token). x ++ (end_map ∷ r)) f)))
-    of ps (denotes.pair x v qs u w z _ d y m f) e c = (
-      x,
-      u,
-      colon ∷ (w ++ (z ++ (end_map ∷ r))),
-      d,
-      e ∙ ap (λ (a : List Token). a ++ (end_map ∷ r)) f ∙ append_assoc u (colon ∷ (w ++ z)) (end_map ∷ r) ∙
-          ap (λ (a : List Token). u ++ (colon ∷ a)) (append_assoc w z (end_map ∷ r)),
-      (v, qs, w, z, r, y, m, refl, c),
-    )
+pub first-key : (levels : List Around) (k : Token) (t r : List ℕ) (x : Tree) → k ≢ end_map → IsToken t k r →
+    Completes levels map_part t x → Completes (in_keys [] ∷ levels) item t x
+first-key levels k t r x other at (ps, z, m, c) =
+    let (a, v, qs, u, w, y, e, d, is, f, more) = pair-first k t r z ps other at m in
+    (a, u, d, (v, w, y, qs, z, is, f, more, moved levels x (ap trees.map e) refl c))
 
-pub key-first : (levels : List Around) (ks : List Token) (t : Tree) →
-    Completes (in_keys [] ∷ levels) item ks t → Completes levels map_part ks t
-key-first levels ks t (w, s, z, d, e, (x, ps, u, a, r, y, m, f, c)) = (
-  trees.tree_pair w x ps,
-  s ++ (colon ∷ (u ++ a)),
-  r,
-  denotes.pair w x ps s u a _ d y m refl,
-  e ∙ ap (λ (b : List Token). s ++ b) (f ∙ ap (λ (b : List Token). colon ∷ b) (sym (append_assoc u a (end_map ∷ r))))
-      ∙ sym (append_assoc s (colon ∷ (u ++ a)) (end_map ∷ r)),
-  c,
-)
+pub key_leads : (levels more : List Around) (k : Token) (next : _) → k ≢ end_map →
+    Leads (in_keys [] ∷ levels) item k more next → Leads levels map_part k more next
+key_leads levels more k next other leads = record {
+  on = λ t r x at h. leads.on t r x at (first-key levels k t r x other at h);
+  back = λ t r x at h. let (a, u, d, (v, w, y, qs, z, is, f, m, c)) = leads.back t r x at h in
+      (trees.tree_pair a v qs, z, pair false a v qs t t u w y z refl d is f m, c);
+}
 
 -- ---- behind an item
 
 pub leads-comma : (levels : List Around) (ws : List Tree) (w : Tree) →
     Leads (in_array ws ∷ levels) (behind w) comma (in_array (ws ++ w ∷ []) ∷ levels) item
 leads-comma levels ws w = record {
-  on = λ ks t (vs, s, r, m, e, c). on ks t vs s r m e c;
-  back = λ ks t (v, s, z, d, e, (vs, u, r, m, f, c)). (
-    trees.tree v vs,
-    comma ∷ (s ++ u),
-    r,
-    one_more_item v vs s u _ d m refl,
-    ap (λ (x : List Token). comma ∷ x)
-        (e ∙ ap (λ (x : List Token). s ++ x) f ∙ sym (append_assoc s u (end_array ∷ r))),
-    subst (λ x. Complete levels (trees.array x) r t) (trees-behind ws w (trees.tree v vs)) c,
-  );
+  on = λ t r x at (vs, z, m, c). let (v, us, u, e, d, more) = item-comma t r z vs at m in
+      let whole = ap (λ y. trees.array (trees_before ws (trees.tree w y))) e ∙ ap trees.array (sym (trees-behind ws w
+      (trees.tree v us))) in (v, u, d, (us, z, more, moved levels x whole refl c));
+  back = λ t r x at (v, u, d, (us, z, m, c)).
+      let whole = moved levels x (ap trees.array (trees-behind ws w (trees.tree v us))) refl c in
+      (trees.tree v us, z, denotes.item true v us t r u z at d m, whole);
 }
-  where
-    on : (ks : List Token) (t : Tree) (vs : Trees) (s r : List Token) → DenoteMoreItems s vs →
-        comma ∷ ks ≡ s ++ (end_array ∷ r) → Complete levels (trees.array (trees_before ws (trees.tree w vs))) r t →
-        Completes (in_array (ws ++ w ∷ []) ∷ levels) item ks t
-    on ks t vs s r (no_more_items _ f) e c =
-        absurd (cc (head-of comma end_array ks r (e ∙ ap (λ (x : List Token). x ++ (end_array ∷ r)) f)))
-    on ks t vs s r (one_more_item v us u z _ d m f) e c = (
-      v,
-      u,
-      z ++ (end_array ∷ r),
-      d,
-      tail-of comma comma ks _ (e ∙ ap (λ (x : List Token). x ++ (end_array ∷ r)) f) ∙ append_assoc u z (end_array ∷ r),
-      (
-        us,
-        z,
-        r,
-        m,
-        refl,
-        subst (λ x. Complete levels (trees.array x) r t) (sym (trees-behind ws w (trees.tree v us)))
-            c,
-      ),
-    )
 
 pub leads-end : (levels : List Around) (ws : List Tree) (w : Tree) →
     Leads (in_array ws ∷ levels) (behind w) end_array levels (behind (trees.array (trees_from (ws ++ w ∷ []))))
 leads-end levels ws w = record {
-  on = λ ks t (vs, s, r, m, e, c). on ks t vs s r m e c;
-  back = λ ks t c. (
-    trees.no_trees,
-    [],
-    ks,
-    no_more_items _ refl,
-    refl,
-    subst (λ x. Complete levels (trees.array x) ks t) (sym same) c,
-  );
+  on = λ t r x at (vs, z, m, c). let (e, f) = items-end true t r z vs at m in
+      moved levels x (ap (λ y. trees.array (trees_before ws (trees.tree w y))) e ∙ whole) f c;
+  back = λ t r x at c. (trees.no_trees, r, no_item true t r at, moved levels x (sym whole) refl c);
 }
   where
-    same : trees_before ws (trees.tree w trees.no_trees) ≡ trees_from (ws ++ w ∷ [])
-    same = sym (trees-behind ws w trees.no_trees) ∙ trees-whole (ws ++ w ∷ [])
-
-    on : (ks : List Token) (t : Tree) (vs : Trees) (s r : List Token) → DenoteMoreItems s vs →
-        end_array ∷ ks ≡ s ++ (end_array ∷ r) →
-        Complete levels (trees.array (trees_before ws (trees.tree w vs))) r t →
-        Complete levels (trees.array (trees_from (ws ++ w ∷ []))) ks t
-    on ks t vs s r (no_more_items _ f) e c =
-        let g : end_array ∷ ks ≡ end_array ∷ r = e ∙ ap (λ (x : List Token). x ++ (end_array ∷ r)) f in
-        subst (λ x. Complete levels (trees.array (trees_from (ws ++ w ∷ []))) x t)
-        (sym (tail-of end_array end_array ks r g)) (subst (λ x. Complete levels (trees.array x) r t) same c)
-    on ks t vs s r (one_more_item v us u z _ d m f) e c =
-        absurd (cc (head-of end_array comma ks _ (e ∙ ap (λ (x : List Token). x ++ (end_array ∷ r)) f)))
+    whole : trees.array (trees_before ws (trees.tree w trees.no_trees)) ≡ trees.array (trees_from (ws ++ w ∷ []))
+    whole = ap trees.array (sym (trees-behind ws w trees.no_trees) ∙ trees-whole (ws ++ w ∷ []))
 
 pub leads-colon : (levels : List Around) (qs : List (Tree × Tree)) (w : Tree) →
     Leads (in_keys qs ∷ levels) (behind w) colon (in_values qs w ∷ levels) item
 leads-colon levels qs w = record {
-  on = λ ks t (x, ps, s, u, r, d, m, e, c).
-      (x, s, u ++ (end_map ∷ r), d, tail-of colon colon ks _ e, (ps, u, r, m, refl, c));
-  back = λ ks t (x, s, z, d, e, (ps, u, r, m, f, c)).
-      (x, ps, s, u, r, d, m, ap (λ (a : List Token). colon ∷ a) (e ∙ ap (λ (a : List Token). s ++ a) f), c);
+  on = λ t r x at (v, s, u, ps, z, is, d, m, c).
+      (v, u, subst (λ y. Begins y v u) (sym (one-token t colon colon r s at is).1) d, (ps, z, m, c));
+  back = λ t r x at (v, u, d, (ps, z, m, c)). (v, r, u, ps, z, at, d, m, c);
 }
 
 pub leads-next-key : (levels : List Around) (qs : List (Tree × Tree)) (k w : Tree) →
     Leads (in_values qs k ∷ levels) (behind w) comma (in_keys (qs ++ (k, w) ∷ []) ∷ levels) item
 leads-next-key levels qs k w = record {
-  on = λ ks t (ps, s, r, m, e, c). on ks t ps s r m e c;
-  back = λ ks t (x, s, z, d, e, (y, ps, u, a, r, g, m, f, c)). (
-    trees.tree_pair x y ps,
-    comma ∷ (s ++ (colon ∷ (u ++ a))),
-    r,
-    one_more_pair x y ps s u a _ d g m refl,
-    ap (λ (b : List Token). comma ∷ b) (e ∙ ap (λ (b : List Token). s ++ b)
-        (f ∙ ap (λ (b : List Token). colon ∷ b) (sym (append_assoc u a (end_map ∷ r))))
-        ∙ sym (append_assoc s (colon ∷ (u ++ a)) (end_map ∷ r))),
-    subst (λ b. Complete levels (trees.map b) r t) (pairs-behind qs (k, w) (trees.tree_pair x y ps)) c,
-  );
+  on = λ t r x at (ps, z, m, c). let (a, v, us, u, s, y, e, d, is, f, more) = pair-comma t r z ps at m in
+      let whole = ap (λ b. trees.map (pairs_before qs (trees.tree_pair k w b))) e ∙ ap trees.map (sym (pairs-behind qs
+      (k, w) (trees.tree_pair a v us))) in (a, u, d, (v, s, y, us, z, is, f, more, moved levels x whole refl c));
+  back = λ t r x at (a, u, d, (v, s, y, us, z, is, f, m, c)).
+      let whole = moved levels x (ap trees.map (pairs-behind qs (k, w) (trees.tree_pair a v us))) refl c in
+      (trees.tree_pair a v us, z, pair true a v us t r u s y z at d is f m, whole);
 }
-  where
-    on : (ks : List Token) (t : Tree) (ps : TreePairs) (s r : List Token) → DenoteMorePairs s ps →
-        comma ∷ ks ≡ s ++ (end_map ∷ r) → Complete levels (trees.map (pairs_before qs (trees.tree_pair k w ps))) r t →
-        Completes (in_keys (qs ++ (k, w) ∷ []) ∷ levels) item ks t
-    on ks t ps s r (no_more_pairs _ f) e c =
-        absurd (cc (head-of comma end_map ks r (e ∙ ap (λ (x : List Token). x ++ (end_map ∷ r)) f)))
-    on ks t ps s r (one_more_pair x y us u v z _ d g m f) e c = (
-      x,
-      u,
-      colon ∷ (v ++ (z ++ (end_map ∷ r))),
-      d,
-      tail-of comma comma ks _ (e ∙ ap (λ (b : List Token). b ++ (end_map ∷ r)) f) ∙
-          append_assoc u (colon ∷ (v ++ z)) (end_map ∷ r) ∙
-          ap (λ (b : List Token). u ++ (colon ∷ b)) (append_assoc v z (end_map ∷ r)),
-      (
-        y,
-        us,
-        v,
-        z,
-        r,
-        g,
-        m,
-        refl,
-        subst (λ b. Complete levels (trees.map b) r t) (sym (pairs-behind qs (k, w) (trees.tree_pair x y us))) c,
-      ),
-    )
 
 pub leads-map-end : (levels : List Around) (qs : List (Tree × Tree)) (k w : Tree) →
     Leads (in_values qs k ∷ levels) (behind w) end_map levels (behind (trees.map (tree_pairs_from (qs ++ (k, w) ∷ []))))
 leads-map-end levels qs k w = record {
-  on = λ ks t (ps, s, r, m, e, c). on ks t ps s r m e c;
-  back = λ ks t c. (
-    trees.no_tree_pairs,
-    [],
-    ks,
-    no_more_pairs _ refl,
-    refl,
-    subst (λ x. Complete levels (trees.map x) ks t) (sym same) c,
-  );
+  on = λ t r x at (ps, z, m, c). let (e, f) = pairs-end true t r z ps at m in
+      moved levels x (ap (λ y. trees.map (pairs_before qs (trees.tree_pair k w y))) e ∙ whole) f c;
+  back = λ t r x at c. (trees.no_tree_pairs, r, no_pair true t r at, moved levels x (sym whole) refl c);
 }
   where
-    same : pairs_before qs (trees.tree_pair k w trees.no_tree_pairs) ≡ tree_pairs_from (qs ++ (k, w) ∷ [])
-    same = sym (pairs-behind qs (k, w) trees.no_tree_pairs) ∙ pairs-whole (qs ++ (k, w) ∷ [])
-
-    on : (ks : List Token) (t : Tree) (ps : TreePairs) (s r : List Token) → DenoteMorePairs s ps →
-        end_map ∷ ks ≡ s ++ (end_map ∷ r) →
-        Complete levels (trees.map (pairs_before qs (trees.tree_pair k w ps))) r t →
-        Complete levels (trees.map (tree_pairs_from (qs ++ (k, w) ∷ []))) ks t
-    on ks t ps s r (no_more_pairs _ f) e c =
-        let g : end_map ∷ ks ≡ end_map ∷ r = e ∙ ap (λ (x : List Token). x ++ (end_map ∷ r)) f in
-        subst (λ x. Complete levels (trees.map (tree_pairs_from (qs ++ (k, w) ∷ []))) x t)
-        (sym (tail-of end_map end_map ks r g)) (subst (λ x. Complete levels (trees.map x) r t) same c)
-    on ks t ps s r (one_more_pair x y us u v z _ d g m f) e c =
-        absurd (cc (head-of end_map comma ks _ (e ∙ ap (λ (b : List Token). b ++ (end_map ∷ r)) f)))
+    whole : trees.map (pairs_before qs (trees.tree_pair k w trees.no_tree_pairs)) ≡
+        trees.map (tree_pairs_from (qs ++ (k, w) ∷ []))
+    whole = ap trees.map (sym (pairs-behind qs (k, w) trees.no_tree_pairs) ∙ pairs-whole (qs ++ (k, w) ∷ []))
 
 pub leads-tag-end : (levels : List Around) (n : ℕ) (w : Tree) →
     Leads (in_tag n ∷ levels) (behind w) end_tag levels (behind (trees.tag n w))
 leads-tag-end levels n w = record {
-  on = λ ks t (r, e, c). subst (λ x. Complete levels (trees.tag n w) x t) (sym (tail-of end_tag end_tag ks r e)) c;
-  back = λ ks t c. (ks, refl, c);
+  on = λ t r x at (z, is, c). moved levels x refl (sym (one-token t end_tag end_tag r z at is).1) c;
+  back = λ t r x at c. (r, at, c);
 }
 
--- ---- where the tokens end
+-- ---- what stands at the front: a token, or the end where an item has ended in no level
 
-nil-not-behind : (s : List Token) (k : Token) (r : List Token) → [] ≡ s ++ (k ∷ r) → ⊥
-nil-not-behind [] k r e = cc e
-nil-not-behind (x ∷ s) k r e = cc e
+-- a token stands at the front
+abbrev HasToken : List ℕ → Type 0
+HasToken t = (k : Token) × (r : List ℕ) × IsToken t k r
 
--- where the tokens end, an item has ended in no level
-pub ends : (levels : List Around) (due : _) (t : Tree) → Completes levels due [] t →
-    (levels ≡ []) × (w : Tree) × (due ≡ behind w)
-ends levels item t (w, s, r, d, e, c) = absurd (begun-not-nil s r w d e)
-ends levels array_part t (vs, s, r, d, e, c) = absurd (nil-not-behind s end_array r e)
-ends levels map_part t (ps, s, r, d, e, c) = absurd (nil-not-behind s end_map r e)
-ends [] (behind w) t c = (refl, w, refl)
-ends (in_array ws ∷ levels) (behind w) t (vs, s, r, m, e, c) = absurd (nil-not-behind s end_array r e)
-ends (in_keys qs ∷ levels) (behind w) t (x, ps, s, u, r, d, m, e, c) = absurd (cc e)
-ends (in_values qs k ∷ levels) (behind w) t (ps, s, r, m, e, c) = absurd (nil-not-behind s end_map r e)
-ends (in_tag n ∷ levels) (behind w) t (r, e, c) = absurd (cc e)
+begins-token : (t r : List ℕ) (v : Tree) → Begins t v r → HasToken t
+begins-token t r v (alone _ _ _ is) = (leaf v, r, is)
+begins-token t r v (tagged n _ _ s _ _ is d end) = (begin_tag n, s, is)
+begins-token t r v (listed _ _ s _ is m) = (begin_array, s, is)
+begins-token t r v (mapped _ _ s _ is m) = (begin_map, s, is)
+
+separated-token : (due : Bool) (t s r : List ℕ) (v : Tree) → IsSeparated due t s → Begins s v r → HasToken t
+separated-token false t s r v e d = begins-token t r v (subst (λ x. Begins x v r) e d)
+separated-token true t s r v is d = (comma, s, is)
+
+items-token : (due : Bool) (t r : List ℕ) (vs : Trees) → BeginsItems due t vs r → HasToken t
+items-token due t r vs (no_item _ _ _ is) = (end_array, r, is)
+items-token due t r vs (denotes.item _ v us _ s u _ sep d m) = separated-token due t s u v sep d
+
+pairs-token : (due : Bool) (t r : List ℕ) (ps : TreePairs) → BeginsPairs due t ps r → HasToken t
+pairs-token due t r ps (no_pair _ _ _ is) = (end_map, r, is)
+pairs-token due t r ps (pair _ k v qs _ s u w x _ sep d is f m) = separated-token due t s u k sep d
+
+pub front : (levels : List Around) (due : _) (t : List ℕ) (x : Tree) → Completes levels due t x →
+    ((behind_blanks t ≡ Some []) × (levels ≡ []) × (w : Tree) × (due ≡ behind w)) ⊎ HasToken t
+front levels item t x (w, r, d, c) = inr (begins-token t r w d)
+front levels array_part t x (vs, r, m, c) = inr (items-token false t r vs m)
+front levels map_part t x (ps, r, m, c) = inr (pairs-token false t r ps m)
+front [] (behind w) t x (none, e) = inl (none, refl, w, refl)
+front (in_array ws ∷ levels) (behind w) t x (vs, r, m, c) = inr (items-token true t r vs m)
+front (in_keys qs ∷ levels) (behind w) t x (v, s, u, ps, r, is, d, m, c) = inr (colon, s, is)
+front (in_values qs k ∷ levels) (behind w) t x (ps, r, m, c) = inr (pairs-token true t r ps m)
+front (in_tag n ∷ levels) (behind w) t x (r, is, c) = inr (end_tag, r, is)
+
+-- where the text ends, an item has ended in no level
+pub ends : (levels : List Around) (due : _) (t : List ℕ) (x : Tree) → behind_blanks t ≡ Some [] →
+    Completes levels due t x → levels ≡ []
+ends levels due t x none c = elim (front levels due t x c)
+    [ inl h ↦ h.1 | inr h ↦ absurd (no-token t h.0 h.1 none h.2) ]
 
 -- ---- how deep a tree is that is completed
 
@@ -409,40 +320,24 @@ depth-pairs-before : (qs : List (Tree × Tree)) (k v : Tree) (ps : TreePairs) �
 depth-pairs-before [] k v ps = omega arith
 depth-pairs-before (q ∷ qs) k v ps = let h = depth-pairs-before qs k v ps in omega (arith, h)
 
-pub deeper : (levels : List Around) (w : Tree) (ks : List Token) (t : Tree) → Complete levels w ks t →
-    length levels + depth w ≤ depth t
-deeper [] w ks t (e, f) = let g : depth t ≡ depth w = ap depth f in omega (arith, g)
-deeper (in_array ws ∷ levels) w ks t (vs, s, r, m, e, c) =
-    let h = deeper levels _ r t c in let g = depth-before ws w vs in omega (arith, h, g)
-deeper (in_keys qs ∷ levels) w ks t (x, ps, s, u, r, d, m, e, c) =
-    let h = deeper levels _ r t c in let g = depth-pairs-before qs w x ps in omega (arith, h, g)
-deeper (in_values qs k ∷ levels) w ks t (ps, s, r, m, e, c) =
-    let h = deeper levels _ r t c in let g = depth-pairs-before qs k w ps in omega (arith, h, g)
-deeper (in_tag n ∷ levels) w ks t (r, e, c) = let h = deeper levels _ r t c in omega (arith, h)
+pub deeper : (levels : List Around) (w : Tree) (t : List ℕ) (x : Tree) → Complete levels w t x →
+    length levels + depth w ≤ depth x
+deeper [] w t x (e, f) = let g : depth x ≡ depth w = ap depth f in omega (arith, g)
+deeper (in_array ws ∷ levels) w t x (vs, r, m, c) =
+    let h = deeper levels _ r x c in let g = depth-before ws w vs in omega (arith, h, g)
+deeper (in_keys qs ∷ levels) w t x (v, s, u, ps, r, is, d, m, c) =
+    let h = deeper levels _ r x c in let g = depth-pairs-before qs w v ps in omega (arith, h, g)
+deeper (in_values qs k ∷ levels) w t x (ps, r, m, c) =
+    let h = deeper levels _ r x c in let g = depth-pairs-before qs k w ps in omega (arith, h, g)
+deeper (in_tag n ∷ levels) w t x (r, is, c) = let h = deeper levels _ r x c in omega (arith, h)
 
-pub opens-deeper : (levels : List Around) (k : Token) (ks : List Token) (t : Tree) → opens k ≡ true →
-    Completes levels item (k ∷ ks) t → length levels < depth t
-opens-deeper levels k ks t o (w, s, r, d, e, c) =
-    let h = deeper levels w r t c in let g = of k o (begun k ks s r w d e) in omega (arith, h, g)
+pub opens-deeper : (levels : List Around) (k : Token) (t r : List ℕ) (x : Tree) → opens k ≡ true → IsToken t k r →
+    Completes levels item t x → length levels < depth x
+opens-deeper levels k t r x o at (w, z, d, c) =
+    let h = deeper levels w z x c in let g = of k o (begun k t r z w at d) in omega (arith, h, g)
   where
-    of : (k : Token) → opens k ≡ true → Begun k ks w r → 0 < depth w
-    of (begin_tag n) o (u, x, y, f, g) = subst (λ v. 0 < depth v) (sym f) (omega arith)
-    of begin_array o (u, x, y, f, g) = subst (λ v. 0 < depth v) (sym f) (omega arith)
-    of begin_map o (u, x, y, f, g) = subst (λ v. 0 < depth v) (sym f) (omega arith)
+    of : (k : Token) → opens k ≡ true → Begun k r w z → 0 < depth w
+    of (begin_tag n) o (u, s, e, f, g) = subst (λ v. 0 < depth v) (sym e) (omega arith)
+    of begin_array o (vs, e, m) = subst (λ v. 0 < depth v) (sym e) (omega arith)
+    of begin_map o (ps, e, m) = subst (λ v. 0 < depth v) (sym e) (omega arith)
     of _ o b = absurd (cc o)
-
--- ---- the first part of an array or a map that is no end
-
-pub first_leads : (levels more : List Around) (k : Token) (next : _) → k ≢ end_array →
-    Leads (in_array [] ∷ levels) item k more next → Leads levels array_part k more next
-first_leads levels more k next other leads = record {
-  on = λ ks t h. leads.on ks t (first-item levels k ks t other h);
-  back = λ ks t h. item-first levels (k ∷ ks) t (leads.back ks t h);
-}
-
-pub key_leads : (levels more : List Around) (k : Token) (next : _) → k ≢ end_map →
-    Leads (in_keys [] ∷ levels) item k more next → Leads levels map_part k more next
-key_leads levels more k next other leads = record {
-  on = λ ks t h. leads.on ks t (first-key levels k ks t other h);
-  back = λ ks t h. key-first levels (k ∷ ks) t (leads.back ks t h);
-}

@@ -1,11 +1,11 @@
 -- What reading diagnostic notation keeps between two tokens, and what it promises of them.
-use Rattle.std.specs.Prelude.{◌≡◌, ℕ, ◌^◌, ◌≤◌, ◌<◌, List, [], ◌∷◌, ◌++◌, map, reverse}
+use Rattle.std.specs.Prelude.{◌≡◌, ℕ, ◌^◌, ◌≤◌, ◌<◌, List, [], ◌∷◌, map, reverse}
 use Rattle.std.specs.Prelude.{Option, Some, None, ◌==◌, if◌then◌else◌, true, Bool, false}
-use Rattle.ciborium_value.specs.Denotes.{AreTokens, Denote, DenoteItems, DenoteMoreItems}
-use Rattle.ciborium_value.specs.Denotes.{DenoteMorePairs, DenotePairs, MayRefuse}
+use Rattle.ciborium_value.specs.Denotes.{Begins, BeginsItems, BeginsPairs, Denotes}
+use Rattle.ciborium_value.specs.Denotes.{IsToken, MayRefuse}
 use Rattle.ciborium_value.specs.Notation.{needs_escape}
 use Rattle.ciborium_value.specs.Tokens as tokens
-use Rattle.ciborium_value.specs.Tokens.{Token}
+use Rattle.ciborium_value.specs.Tokens.{Token, behind_blanks}
 use Rattle.ciborium_value.specs.Tree as trees
 use Rattle.ciborium_value.specs.Tree.{Tree, Trees, TreePairs}
 use Rattle.ciborium_value.specs.View.{pair_trees, tree_of}
@@ -118,50 +118,46 @@ abbrev pub pairs_before : List (Tree × Tree) → TreePairs → TreePairs
 pairs_before [] ps = ps
 pairs_before (q ∷ qs) ps = trees.tree_pair q.0 q.1 (pairs_before qs ps)
 
--- behind an item that means w in these levels the tokens complete the tree v
-abbrev pub Complete : List Around → Tree → List Token → Tree → Type 0
-Complete [] w ks v = (ks ≡ []) × (v ≡ w)
-Complete (in_array ws ∷ levels) w ks v = (vs : Trees) × (s : List Token) × (r : List Token) ×
-    DenoteMoreItems s vs × (ks ≡ s ++ (tokens.end_array ∷ r)) ×
+-- behind an item that means w in these levels the text t completes the tree v
+abbrev pub Complete : List Around → Tree → List ℕ → Tree → Type 0
+Complete [] w t v = (behind_blanks t ≡ Some []) × (v ≡ w)
+Complete (in_array ws ∷ levels) w t v = (vs : Trees) × (r : List ℕ) × BeginsItems true t vs r ×
     Complete levels (trees.array (trees_before ws (trees.tree w vs))) r v
-Complete (in_keys qs ∷ levels) w ks v = (x : Tree) × (ps : TreePairs) × (s : List Token) ×
-    (t : List Token) × (r : List Token) × Denote s x × DenoteMorePairs t ps ×
-    (ks ≡ tokens.colon ∷ (s ++ (t ++ (tokens.end_map ∷ r)))) ×
+Complete (in_keys qs ∷ levels) w t v = (x : Tree) × (s : List ℕ) × (u : List ℕ) ×
+    (ps : TreePairs) × (r : List ℕ) × IsToken t tokens.colon s × Begins s x u ×
+    BeginsPairs true u ps r ×
     Complete levels (trees.map (pairs_before qs (trees.tree_pair w x ps))) r v
-Complete (in_values qs k ∷ levels) w ks v = (ps : TreePairs) × (t : List Token) ×
-    (r : List Token) × DenoteMorePairs t ps × (ks ≡ t ++ (tokens.end_map ∷ r)) ×
+Complete (in_values qs k ∷ levels) w t v = (ps : TreePairs) × (r : List ℕ) ×
+    BeginsPairs true t ps r ×
     Complete levels (trees.map (pairs_before qs (trees.tree_pair k w ps))) r v
-Complete (in_tag n ∷ levels) w ks v = (r : List Token) × (ks ≡ tokens.end_tag ∷ r) ×
+Complete (in_tag n ∷ levels) w t v = (r : List ℕ) × IsToken t tokens.end_tag r ×
     Complete levels (trees.tag n w) r v
 
--- where this is due in these levels, the tokens complete the tree v
-abbrev pub Completes : List Around → Await → List Token → Tree → Type 0
-Completes levels item ks v = (w : Tree) × (s : List Token) × (r : List Token) × Denote s w ×
-    (ks ≡ s ++ r) × Complete levels w r v
-Completes levels array_part ks v = (vs : Trees) × (s : List Token) × (r : List Token) ×
-    DenoteItems s vs × (ks ≡ s ++ (tokens.end_array ∷ r)) × Complete levels (trees.array vs) r v
-Completes levels map_part ks v = (ps : TreePairs) × (s : List Token) × (r : List Token) ×
-    DenotePairs s ps × (ks ≡ s ++ (tokens.end_map ∷ r)) × Complete levels (trees.map ps) r v
-Completes levels (behind w) ks v = Complete levels w ks v
+-- where this is due in these levels, the text t completes the tree v
+abbrev pub Completes : List Around → Await → List ℕ → Tree → Type 0
+Completes levels item t v = (w : Tree) × (r : List ℕ) × Begins t w r × Complete levels w r v
+Completes levels array_part t v = (vs : Trees) × (r : List ℕ) × BeginsItems false t vs r ×
+    Complete levels (trees.array vs) r v
+Completes levels map_part t v = (ps : TreePairs) × (r : List ℕ) × BeginsPairs false t ps r ×
+    Complete levels (trees.map ps) r v
+Completes levels (behind w) t v = Complete levels w t v
 
--- a token leads from what is due in some levels to what is due in others: the same tokens behind it
--- complete both, to the same tree
+-- a token leads from what is due in some levels to what is due in others: a text that it begins
+-- completes there just what the text behind it completes here
 pub record Leads (levels : List Around) (due : Await) (k : Token) (more : List Around)
     (next : Await) : Type 0 where
-  pub on : (ks : List Token) (v : Tree) → Completes levels due (k ∷ ks) v →
-      Completes more next ks v
-  pub back : (ks : List Token) (v : Tree) → Completes more next ks v →
-      Completes levels due (k ∷ ks) v
+  pub on : (t r : List ℕ) (v : Tree) → IsToken t k r → Completes levels due t v →
+      Completes more next r v
+  pub back : (t r : List ℕ) (v : Tree) → IsToken t k r → Completes more next r v →
+      Completes levels due t v
 
--- no tokens behind it complete a tree that is read within the limit
+-- no text that it begins completes a tree that is read within the limit
 abbrev pub IsMisplaced : List Around → Await → Token → ℕ → NotationError → Type 0
-IsMisplaced levels due k limit e = (ks : List Token) (v : Tree) →
-    Completes levels due (k ∷ ks) v → MayRefuse limit e v
+IsMisplaced levels due k limit e = (t r : List ℕ) (v : Tree) → IsToken t k r →
+    Completes levels due t v → MayRefuse limit e v
 
 -- this is due in these levels where t is left of a text that denotes just what is completed here
 pub record IsReached (text : List ℕ) (levels : List Around) (due : Await) (t : List ℕ) :
     Type 0 where
-  pub on : (ks : List Token) (v : Tree) → AreTokens text ks → Denote ks v →
-      (left : List Token) × AreTokens t left × Completes levels due left v
-  pub back : (left : List Token) (v : Tree) → AreTokens t left → Completes levels due left v →
-      (ks : List Token) × AreTokens text ks × Denote ks v
+  pub on : (v : Tree) → Denotes text v → Completes levels due t v
+  pub back : (v : Tree) → Completes levels due t v → Denotes text v

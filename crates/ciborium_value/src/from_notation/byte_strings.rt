@@ -6,7 +6,7 @@ ghost use Rattle.std.specs.Prelude.{IfSome, MatchOption, None, Some};
 ghost use Rattle.ciborium_value.specs.Tokens.{base64_at, base64_end, hex_at, is_white};
 ghost use Rattle.ciborium_value.specs.Tokens.{sextet_of};
 ghost use Rattle.ciborium_value.specs.inner.ReadTokens.{IsGroup, completed};
-ghost use Rattle.ciborium_value.specs.declared.from_notation.error.NotationError.TheVariants.{Memory};
+ghost use Rattle.ciborium_value.specs.Denotes.{Memory};
 
 use super::blanks::is_white;
 use super::error::{NotationError, NotationFault};

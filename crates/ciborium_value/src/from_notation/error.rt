@@ -5,7 +5,7 @@ ghost use Rattle.ciborium_value.specs.Denotes.{MayRefuse};
 ghost use Rattle.ciborium_value.specs.RefusalMessages.{notation_error_message};
 ghost use Rattle.ciborium_value.specs.RefusalMessages.{notation_fault_message};
 ghost use Rattle.ciborium_value.specs.Tree.{Tree};
-ghost use Rattle.ciborium_value.specs.declared.from_notation.error.NotationError.TheVariants.{Memory};
+ghost use Rattle.ciborium_value.specs.Denotes.{Memory};
 
 use std::alloc::{AllocError, AllocFailed};
 use std::{error, fmt};

@@ -1,6 +1,8 @@
 //! The arrays, maps and tags that are open while a text is read, and what each token does to them.
 
-ghost use Rattle.std.specs.Prelude.{◌≡◌, ◌<◌, ◌∷◌, [], IfErr, IfOk, length, map, nat_le};
+ghost use Rattle.std.specs.Prelude.{◌≡◌, ◌<◌, ◌∷◌, [], IfErr, IfOk, List, Some, length, map};
+ghost use Rattle.std.specs.Prelude.{nat_le, ℕ};
+ghost use Rattle.ciborium_value.specs.Tokens.{behind_blanks};
 ghost use Rattle.ciborium_value.specs.Tree.{Tree};
 ghost use Rattle.ciborium_value.specs.View.{pair_trees, tree_of};
 ghost use Rattle.ciborium_value.specs.inner.ReadTokens.{Completes, IsMisplaced, IsRoom, Leads};
@@ -69,8 +71,8 @@ impl Levels {
     pub fn end(&self, due: Due) -> Result<Value, NotationError>
         ensures ok { IfOk result (λ v. (open_in self.now ≡ []) ×
             (await_of due ≡ behind (tree_of v))) }
-        ensures refused { IfErr result (λ _. (v : Tree) →
-            ¬ Completes (open_in self.now) (await_of due) [] v) }
+        ensures refused { IfErr result (λ _. (t : List ℕ) (v : Tree) → behind_blanks t ≡ Some [] →
+            ¬ Completes (open_in self.now) (await_of due) t v) }
     {
         let Due::Behind(value) = due else {
             return Err(NotationError::At(0, NotationFault::Item));

@@ -9,7 +9,7 @@ ghost use Rattle.ciborium_value.specs.Tokens.{prepended, text_at};
 ghost use Rattle.ciborium_value.specs.Tokens.{text_token, unit_at, unit_in};
 ghost use Rattle.ciborium_value.specs.Tree as trees;
 ghost use Rattle.ciborium_value.specs.inner.ReadTokens.{Stops};
-ghost use Rattle.ciborium_value.specs.declared.from_notation.error.NotationError.TheVariants.{Memory};
+ghost use Rattle.ciborium_value.specs.Denotes.{Memory};
 
 use super::error::{NotationError, NotationFault};
 use super::numbers::digit_of;

@@ -8,7 +8,7 @@ ghost use Rattle.ciborium_value.specs.Tokens.{whole_at, word_token};
 ghost use Rattle.ciborium_value.specs.Number.{number_tree};
 ghost use Rattle.ciborium_value.specs.View.{tree_of};
 ghost use Rattle.ciborium_value.specs.inner.ReadTokens.{IsNoNumber, token_read};
-ghost use Rattle.ciborium_value.specs.declared.from_notation.error.NotationError.TheVariants.{Memory};
+ghost use Rattle.ciborium_value.specs.Denotes.{Memory};
 
 use super::byte_strings::{read_base64, read_hex};
 use super::error::{NotationError, NotationFault};

@@ -1,4 +1,6 @@
 use Rattle.std.proofs.Common.{rules}
+use Rattle.ciborium_value.specs.inner.ReadTokens.{token_read}
+use Rattle.ciborium_value.proofs.Denoting.Steps.{other-behind-item}
 use Rattle.ciborium_value.proofs.Denoting.Opened.{array_comma, array_end}
 use Rattle.ciborium_value.proofs.from_notation.levels.Levels.take_behind_item.Goals as goal
 
@@ -10,3 +12,7 @@ returns-in_ok-push-in-Comma-2-clause-taken c = array_comma c.args.items.items c.
 pub returns-in_ok-push-in-EndArray-clause-taken : goal.returns-in_ok-push-in-EndArray-clause-taken
 returns-in_ok-push-in-EndArray-clause-taken c =
     array_end c.args.items.items c.args.value _ c.push-in-EndArray.new.self c.args.token (search rules) (search rules)
+
+pub returns-in_default-clause-refused : goal.returns-in_default-clause-refused
+returns-in_default-clause-refused c = λ t r v at (vs, z, m, more).
+    other-behind-item (token_read c.args.token) t r z vs (search rules) (search rules) at m

@@ -1,4 +1,6 @@
 use Rattle.std.proofs.Common.{rules}
+use Rattle.ciborium_value.specs.inner.ReadTokens.{token_read}
+use Rattle.ciborium_value.proofs.Denoting.Steps.{other-behind-value}
 use Rattle.ciborium_value.proofs.Denoting.Opened.{map_end, value_comma}
 use Rattle.ciborium_value.proofs.from_notation.levels.Levels.take_behind_value.Goals as goal
 
@@ -10,3 +12,7 @@ returns-in_ok-push-in-Comma-2-clause-taken c = value_comma c.args.pairs.items c.
 pub returns-in_ok-push-in-EndMap-clause-taken : goal.returns-in_ok-push-in-EndMap-clause-taken
 returns-in_ok-push-in-EndMap-clause-taken c = map_end c.args.pairs.items c.args.key c.args.value _
     c.push-in-EndMap.new.self c.args.token (search rules) (search rules)
+
+pub returns-in_default-clause-refused : goal.returns-in_default-clause-refused
+returns-in_default-clause-refused c = λ t r v at (vs, z, m, more).
+    other-behind-value (token_read c.args.token) t r z vs (search rules) (search rules) at m

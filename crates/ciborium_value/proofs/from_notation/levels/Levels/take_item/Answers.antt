@@ -1,5 +1,7 @@
 use Rattle.std.proofs.Common.{rules}
-use Rattle.ciborium_value.proofs.Denoting.Opened.{array_begun, leaf_read, map_begun, tag_begun, too_deep}
+use Rattle.ciborium_value.specs.inner.ReadTokens.{token_read}
+use Rattle.ciborium_value.proofs.Denoting.Opened.{array_begun, leaf_read, map_begun, no_item_begun, tag_begun, too_deep}
+use Rattle.ciborium_value.proofs.Denoting.Steps.{begun}
 use Rattle.ciborium_value.proofs.from_notation.levels.Levels.take_item.Goals as goal
 
 pub returns-in-Leaf-clause-taken : goal.returns-in-Leaf-clause-taken
@@ -19,3 +21,8 @@ returns-in-BeginMap-clause-taken c = map_begun _ c.args.token (search rules)
 pub returns-then-is_full-clause-refused : goal.returns-then-is_full-clause-refused
 returns-then-is_full-clause-refused c = too_deep c.args.self.now.levels.items c.args.token c.args.self.now.limit
     c.args.place (search rules) (search rules)
+
+pub returns-in_default-clause-refused : goal.returns-in_default-clause-refused
+returns-in_default-clause-refused c = λ t r v at (w, z, d, more). no_item_begun c.args.token c.in_default.not-Leaf
+    c.in_default.not-BeginTag c.in_default.not-BeginArray c.in_default.not-BeginMap r z w
+    (begun (token_read c.args.token) t r z w at d)
