@@ -69,6 +69,17 @@ IsRefused spelling line limit Memory = Unit {0}
 IsRefused spelling line limit other = (b : List ℕ) × (decode_of line ≡ Ok b) ×
     AreRefused spelling b limit other
 
+-- what the text of a refusal begins with
+abbrev pub refusal_word : Refusal → List ℕ
+refusal_word Hex = hex_text
+refusal_word (Trailing n) = codes "trailing"
+refusal_word Io = codes "io"
+refusal_word (Syntax p) = codes "syntax"
+refusal_word (Semantic p reason) = codes "semantic"
+refusal_word Nesting = codes "nesting"
+refusal_word TooLong = codes "toolong"
+refusal_word Memory = codes "memory"
+
 -- the text of a refusal
 abbrev pub refused_text : Refusal → List ℕ
 refused_text Hex = hex_text

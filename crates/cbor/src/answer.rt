@@ -3,8 +3,8 @@
 ghost use Rattle.std.specs.Prelude.{◌≡◌, ◌⊎◌, ◌+◌, ◌<◌, IfNone, IfSome, Some};
 ghost use Rattle.ciborium_value.specs.declared.kind.Kind.TheVariants.{DuplicateKey, TooLarge};
 ghost use Rattle.ciborium_ll.specs.Bytes.{greatest_offset};
-ghost use Rattle.cbor.specs.Answer.{kind_of_reason, refusal_behind, refusal_offset, refused_text};
-ghost use Rattle.cbor.specs.Answer.{wants_memory};
+ghost use Rattle.cbor.specs.Answer.{kind_of_reason, refusal_behind, refusal_offset, refusal_word};
+ghost use Rattle.cbor.specs.Answer.{refused_text, wants_memory};
 ghost use Rattle.cbor.specs.Forms.{formless_text};
 ghost use Rattle.cbor.specs.Line.{kind_text};
 ghost use Rattle.cbor.specs.declared.answer.Refusal.TheVariants.{Memory};
@@ -77,6 +77,40 @@ impl Refusal {
             other => Some(other),
         }
     }
+
+    // What it prints first, and alone where it has no number.
+    fn word(&self) -> &'static str
+        ensures { result.now ≡ refusal_word self.now }
+    {
+        match self {
+            Refusal::Hex => "hex",
+            Refusal::Trailing(_) => "trailing",
+            Refusal::Io => "io",
+            Refusal::Syntax(_) => "syntax",
+            Refusal::Semantic(_, _) => "semantic",
+            Refusal::Nesting => "nesting",
+            Refusal::TooLong => "toolong",
+            Refusal::Memory => "memory",
+        }
+    }
+}
+
+impl Reason {
+    // What it prints.
+    fn word(self) -> &'static str
+        ensures { result.now ≡ kind_text (kind_of_reason self) }
+    {
+        match self {
+            Reason::Float => "float",
+            Reason::Simple => "simple",
+            Reason::Break => "break",
+            Reason::TooLarge => "toolarge",
+            Reason::NotShortest => "notshortest",
+            Reason::Open => "open",
+            Reason::NotFolded => "notfolded",
+            Reason::KeyOrder => "keyorder",
+        }
+    }
 }
 
 impl From<AllocError> for Refusal {
@@ -92,14 +126,10 @@ impl fmt::Display for Refusal {
 
     fn fmt<W: fmt::Write>(&self, f: &mut fmt::Formatter<W>) -> fmt::Result {
         match self {
-            Refusal::Hex => f.write_str("hex"),
             Refusal::Trailing(count) => write!(f, "trailing {count}"),
-            Refusal::Io => f.write_str("io"),
             Refusal::Syntax(offset) => write!(f, "syntax {offset}"),
             Refusal::Semantic(offset, reason) => write!(f, "semantic {offset} {reason}"),
-            Refusal::Nesting => f.write_str("nesting"),
-            Refusal::TooLong => f.write_str("toolong"),
-            Refusal::Memory => f.write_str("memory"),
+            _ => f.write_str(self.word()),
         }
     }
 }
@@ -108,16 +138,7 @@ impl fmt::Display for Reason {
     ghost output = { λ reason. Some (kind_text (kind_of_reason reason)) };
 
     fn fmt<W: fmt::Write>(&self, f: &mut fmt::Formatter<W>) -> fmt::Result {
-        match self {
-            Reason::Float => f.write_str("float"),
-            Reason::Simple => f.write_str("simple"),
-            Reason::Break => f.write_str("break"),
-            Reason::TooLarge => f.write_str("toolarge"),
-            Reason::NotShortest => f.write_str("notshortest"),
-            Reason::Open => f.write_str("open"),
-            Reason::NotFolded => f.write_str("notfolded"),
-            Reason::KeyOrder => f.write_str("keyorder"),
-        }
+        f.write_str(self.word())
     }
 }
 

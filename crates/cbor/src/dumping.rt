@@ -1,10 +1,11 @@
 //! Annotated dumps: a line for each head of an item.
 
-ghost use Rattle.std.specs.Prelude.{◌≡◌, ◌++◌, [], IfOk, OnOk, Some, codes};
+ghost use Rattle.std.specs.Prelude.{◌≡◌, ◌++◌, [], IfNone, IfOk, IfSome, OnOk, Some, codes};
+ghost use Rattle.std.specs.Prelude.{decimal};
 ghost use Rattle.std.specs.List.{repeat};
 ghost use Rattle.ciborium_value.specs.Notation.{quoted};
 ghost use Rattle.cbor.specs.Dumped.{AreLinesOf, IsDumpOf, entry_of};
-ghost use Rattle.cbor.specs.Dumped.{head_words, line_of};
+ghost use Rattle.cbor.specs.Dumped.{head_words, length_words, line_of, simple_words};
 ghost use Rattle.cbor.specs.Dumped.{payload_words, place_text, reason_text};
 ghost use Rattle.cbor.specs.Line.{trailing_text};
 
@@ -123,23 +124,49 @@ impl fmt::Display for Words {
         match self.header {
             Header::Positive(n) => write!(f, "unsigned {n}"),
             Header::Negative(n) => write!(f, "negative -{}", u128::from(n) + 1),
-            Header::Bytes(Some(n)) => write!(f, "bytes of {n}"),
-            Header::Bytes(None) => f.write_str("bytes of indefinite length"),
-            Header::Text(Some(n)) => write!(f, "text of {n}"),
-            Header::Text(None) => f.write_str("text of indefinite length"),
-            Header::Array(Some(n)) => write!(f, "array of {n}"),
-            Header::Array(None) => f.write_str("array of indefinite length"),
-            Header::Map(Some(n)) => write!(f, "map of {n}"),
-            Header::Map(None) => f.write_str("map of indefinite length"),
+            Header::Bytes(len) => write!(f, "bytes{}", Length { len }),
+            Header::Text(len) => write!(f, "text{}", Length { len }),
+            Header::Array(len) => write!(f, "array{}", Length { len }),
+            Header::Map(len) => write!(f, "map{}", Length { len }),
             Header::Tag(n) => write!(f, "tag {n}"),
-            Header::Simple(20) => f.write_str("false"),
-            Header::Simple(21) => f.write_str("true"),
-            Header::Simple(22) => f.write_str("null"),
-            Header::Simple(23) => f.write_str("undefined"),
-            Header::Simple(n) => write!(f, "simple {n}"),
+            Header::Simple(n) => match simple_word(n) {
+                Some(word) => f.write_str(word),
+                None => write!(f, "simple {n}"),
+            },
             Header::Float(n) => write!(f, "float of {n} bytes"),
             Header::Break => f.write_str("break"),
         }
+    }
+}
+
+// How long a string, an array or a map is said to be.
+#[derive(Clone, Copy)]
+struct Length {
+    len: Option<usize>,
+}
+
+impl fmt::Display for Length {
+    ghost output = { λ length. Some (length_words length.len) };
+
+    fn fmt<W: fmt::Write>(&self, f: &mut fmt::Formatter<W>) -> fmt::Result {
+        match self.len {
+            Some(n) => write!(f, " of {n}"),
+            None => f.write_str(" of indefinite length"),
+        }
+    }
+}
+
+// The name of a simple value, where it has one.
+fn simple_word(n: u8) -> Option<&'static str>
+    ensures named { IfSome result (λ word. word.now ≡ simple_words n) }
+    ensures numbered { IfNone result (simple_words n ≡ codes "simple " ++ decimal n) }
+{
+    match n {
+        20 => Some("false"),
+        21 => Some("true"),
+        22 => Some("null"),
+        23 => Some("undefined"),
+        _ => None,
     }
 }
 
