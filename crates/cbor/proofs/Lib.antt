@@ -6,7 +6,6 @@ pub mod DumpedInputs
 pub mod EncodedLines
 pub mod ExactNotation
 pub mod ExactlyStreamed
-pub mod HexDigits
 pub mod ItemsInRow
 pub mod JudgedAnswers
 pub mod JudgedLines

@@ -8,4 +8,5 @@ returns g c w e =
     let moved : c.in_ok-refusal.refusal ≡ refusal_behind c.args.offset c.args.refusal =
     grind (arith, c.behind.ensures.moved) in
     refused-shown c.args.place.now w c.args.number c.args.offset c.args.refusal c.in_ok-refusal.refusal _ _
-    c.put_line.result moved c.in_ok-write_refused_item.ensures (c.put_line.ensures (w ++ c.args.place.now) (c.in_ok-put_text.ensures w e))
+    c.put_line.result moved c.in_ok-write_refused_item.ensures
+    (c.put_line.ensures (w ++ c.args.place.now) (c.in_ok-put_text.ensures w e))

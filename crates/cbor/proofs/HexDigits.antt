@@ -1,1 +1,0 @@
--- The encoding of a value as hex digits.
