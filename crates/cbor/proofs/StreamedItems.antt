@@ -1,7 +1,8 @@
 -- Items of a stream are read and shown one by one.
 use Rattle.std.proofs.Common.{◌≡◌, ℕ, ◌<◌, ◌+◌, ◌==◌, Bool, ◌&&◌, true, false, List, [], ◌++◌, length, take, drop}
 use Rattle.std.proofs.Common.{arith, Option, Some, None, Result, Ok, Err, IfErr, IfOk, OnOk, inl, refl, ap}
-use Rattle.std.proofs.Common.{append_assoc, append-nil, length-append, length-take-le, sym, subst, take-append-drop, ◌∙◌}
+use Rattle.std.proofs.Common.{append_assoc, append-nil, length-append, length-take-le, sym, subst, take-append-drop}
+use Rattle.std.proofs.Common.{◌∙◌}
 use Rattle.std.proofs.lemmas.List.{drop_at, take_at}
 use Rattle.std.specs.Io.KnownBytes.{Consumes, prepend_known}
 use Rattle.ciborium_ll.specs.Levels.{AreItem}
