@@ -26,31 +26,31 @@ pub fn read_plain_types(alloc: Global, values: &Value) -> Result<(), Failure> {
 
 // A number of every width without a sign.
 fn read_unsigned_numbers(alloc: Global) -> Result<(), Failure> {
-    read_both(alloc, b"\x18\xff", &Value::from(255u8), &255u8)?;
-    read_both(alloc, b"\x19\xff\xff", &Value::from(65535u16), &65535u16)?;
+    read_both(alloc, b"\x18\xff", Value::from(255u8), &255u8)?;
+    read_both(alloc, b"\x19\xff\xff", Value::from(65535u16), &65535u16)?;
     read_both(
         alloc,
         b"\x1a\x00\x01\x00\x00",
-        &Value::from(65536u32),
+        Value::from(65536u32),
         &65536u32,
     )?;
-    read_both(alloc, b"\x18\x18", &Value::from(24u8), &24u64)?;
-    read_both(alloc, b"\x18\x18", &Value::from(24u8), &24usize)
+    read_both(alloc, b"\x18\x18", Value::from(24u8), &24u64)?;
+    read_both(alloc, b"\x18\x18", Value::from(24u8), &24usize)
 }
 
 // A number of every width with a sign.
 fn read_signed_numbers(alloc: Global) -> Result<(), Failure> {
-    read_both(alloc, b"\x38\x7f", &Value::from(-128i8), &-128i8)?;
-    read_both(alloc, b"\x38\x80", &Value::from(-129i16), &-129i16)?;
-    read_both(alloc, b"\x38\x80", &Value::from(-129i16), &-129i32)?;
-    read_both(alloc, b"\x38\x80", &Value::from(-129i16), &-129i64)?;
-    read_both(alloc, b"\x20", &Value::from(-1i8), &-1isize)
+    read_both(alloc, b"\x38\x7f", Value::from(-128i8), &-128i8)?;
+    read_both(alloc, b"\x38\x80", Value::from(-129i16), &-129i16)?;
+    read_both(alloc, b"\x38\x80", Value::from(-129i16), &-129i32)?;
+    read_both(alloc, b"\x38\x80", Value::from(-129i16), &-129i64)?;
+    read_both(alloc, b"\x20", Value::from(-1i8), &-1isize)
 }
 
 // Numbers of 128 bits; a bignum is read without memory of its own.
 fn read_great_numbers(alloc: Global) -> Result<(), Failure> {
-    read_both(alloc, b"\x01", &Value::from(1u8), &1u128)?;
-    read_both(alloc, b"\x20", &Value::from(-1i8), &-1i128)?;
+    read_both(alloc, b"\x01", Value::from(1u8), &1u128)?;
+    read_both(alloc, b"\x20", Value::from(-1i8), &-1i128)?;
     read_bytes(
         alloc,
         b"\xc2\x49\x01\0\0\0\0\0\0\0\0",
@@ -66,9 +66,9 @@ fn read_great_numbers(alloc: Global) -> Result<(), Failure> {
 
 // What is no number, tags and types made of such parts.
 fn read_scalars(alloc: Global) -> Result<(), Failure> {
-    read_both(alloc, b"\xf5", &Value::from(true), &true)?;
-    read_both(alloc, b"\xf6", &Value::Null, &())?;
-    read_both(alloc, b"\xf6", &Value::Null, &None::<u8>)?;
+    read_both(alloc, b"\xf5", Value::from(true), &true)?;
+    read_both(alloc, b"\xf6", Value::Null, &())?;
+    read_both(alloc, b"\xf6", Value::Null, &None::<u8>)?;
     read_bytes(alloc, b"\x62\xc3\xbc", &'\u{fc}')?;
     read_bytes(alloc, b"\x82\x01\xf4", &(1u8, false))?;
     read_bytes(alloc, b"\x82\x01\x02", &Span { start: 1, end: 2 })?;
@@ -94,11 +94,11 @@ fn read_items(alloc: Global, values: &Value) -> Result<(), Failure> {
 fn read_both<T: Deserialize + PartialEq>(
     alloc: Global,
     bytes: &[u8],
-    tree: &Value,
+    tree: Value,
     expected: &T,
 ) -> Result<(), Failure> {
     read_bytes(alloc, bytes, expected)?;
-    read_tree(alloc, tree, expected)
+    read_tree(alloc, &tree, expected)
 }
 
 // Fails unless the bytes give this value, all of them, by each call that reads.
