@@ -6,7 +6,7 @@ use Rattle.std.proofs.lemmas.Bool.Decides.{nat_tests}
 use Rattle.ciborium_value.specs.Tree.{Tree}
 use Rattle.cbor.specs.declared.reading.Spelling.{Spelling}
 use Rattle.cbor.specs.declared.reading.Spelling.TheVariants.{Any}
-use Rattle.cbor.specs.declared.answer.Refusal.{Refusal}
+use Rattle.cbor.specs.declared.answer.LineRefusal.{LineRefusal}
 use Rattle.cbor.specs.Answer.{IsFrontRefused, refused_text, wants_memory}
 use Rattle.cbor.specs.Sequence.{AreItemsBefore, AreNoSequence, AreSequence, item_text, refused_item_text, sequence_text}
 use Rattle.cbor.specs.Spellings.{HasItemBefore}
@@ -46,7 +46,7 @@ all-items b rest text number (trees, a, same, count) none =
     (trees, subst (λ (r : List ℕ). AreItemsBefore Any b 256 trees r) none a, same)
 
 -- and that of the first that is refused that they are none
-pub first-refused : (b rest text answer : List ℕ) (number : ℕ) (e : Refusal) → IsSoFar b rest text number →
+pub first-refused : (b rest text answer : List ℕ) (number : ℕ) (e : LineRefusal) → IsSoFar b rest text number →
     false ≡ (length rest == 0) → IsFrontRefused Any rest 256 e →
     (wants_memory e ≡ false) × (answer ≡ refused_item_text number (refused_text e)) → AreNoSequence b 256 answer
 first-refused b rest text answer number e (trees, a, same, count) more h is =

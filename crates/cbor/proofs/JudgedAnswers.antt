@@ -7,9 +7,9 @@ use Rattle.hex.specs.declared.error.FromHexError.{FromHexError}
 use Rattle.ciborium_ll.specs.Refusal as faults
 use Rattle.ciborium_ll.specs.Refusal.{io, syntax, too_long, semantic, recursion_limit_exceeded}
 use Rattle.ciborium_value.specs.Tree.{Tree}
-use Rattle.cbor.specs.declared.answer.Refusal.{Refusal}
-use Rattle.cbor.specs.declared.answer.Refusal.TheVariants.{Hex, Trailing, Io, Syntax, Semantic, Nesting, TooLong}
-use Rattle.cbor.specs.declared.answer.Refusal.TheVariants.{Memory}
+use Rattle.cbor.specs.declared.answer.LineRefusal.{LineRefusal}
+use Rattle.cbor.specs.declared.answer.LineRefusal.TheVariants.{Hex, Trailing, Io, Syntax, Semantic, Nesting, TooLong}
+use Rattle.cbor.specs.declared.answer.LineRefusal.TheVariants.{Memory}
 use Rattle.cbor.specs.declared.reading.Reading.TheVariants.{Item, Sequence}
 use Rattle.cbor.specs.declared.reading.Spelling.{Spelling}
 use Rattle.cbor.specs.declared.reading.Spelling.TheVariants.{Any}
@@ -21,7 +21,7 @@ use Rattle.cbor.specs.Sequence.{refused_item_text}
 use Rattle.cbor.specs.Spellings.{RefusesItem}
 use Rattle.cbor.proofs.JudgedLines.{item-answer, refusal_is_answered}
 
-pub not-memory : (e : Refusal) → wants_memory e ≡ false → e ≡ Memory → ⊥
+pub not-memory : (e : LineRefusal) → wants_memory e ≡ false → e ≡ Memory → ⊥
 not-memory e m same = let no : true ≡ false = ap wants_memory (sym same) ∙ m in cc
 
 -- ---- items
@@ -38,7 +38,7 @@ item-answers spelling line limit false text (e, h, m, same) =
 -- ---- sequences
 
 -- what the front of some bytes is refused for
-pub front-refusal : (spelling : Spelling) (rest : List ℕ) (limit : ℕ) (e : Refusal) → wants_memory e ≡ false →
+pub front-refusal : (spelling : Spelling) (rest : List ℕ) (limit : ℕ) (e : LineRefusal) → wants_memory e ≡ false →
     IsFrontRefused spelling rest limit e →
     (f : faults.Refusal) × RefusesItem spelling rest limit f × (refused_text e ≡ refusal_text f)
 front-refusal spelling rest limit Hex m h = absurd h
@@ -51,7 +51,7 @@ front-refusal spelling rest limit TooLong m h = (too_long, h, refl)
 front-refusal spelling rest limit Memory m h = absurd cc
 
 -- the text of the item that is refused behind some good ones answers the bytes
-pub item-refused : (b : List ℕ) (trees : List Tree) (rest : List ℕ) (n : ℕ) (e : Refusal) (text : List ℕ) →
+pub item-refused : (b : List ℕ) (trees : List Tree) (rest : List ℕ) (n : ℕ) (e : LineRefusal) (text : List ℕ) →
     AreItemsBefore Any b 256 trees rest → 0 < length rest →
     n ≡ length trees + 1 → IsFrontRefused Any rest 256 e → (wants_memory e ≡ false) ×
     (text ≡ refused_item_text n (refused_text e)) → AreNoSequence b 256 text

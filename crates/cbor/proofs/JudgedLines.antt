@@ -5,9 +5,9 @@ use Rattle.hex.specs.Hex.{decode_of}
 use Rattle.hex.specs.declared.error.FromHexError.{FromHexError}
 use Rattle.ciborium_ll.specs.Refusal.{io, syntax, too_long, semantic, recursion_limit_exceeded}
 use Rattle.ciborium_value.specs.Tree.{Tree}
-use Rattle.cbor.specs.declared.answer.Refusal.{Refusal}
-use Rattle.cbor.specs.declared.answer.Refusal.TheVariants.{Hex, Trailing, Io, Syntax, Semantic, Nesting, TooLong}
-use Rattle.cbor.specs.declared.answer.Refusal.TheVariants.{Memory}
+use Rattle.cbor.specs.declared.answer.LineRefusal.{LineRefusal}
+use Rattle.cbor.specs.declared.answer.LineRefusal.TheVariants.{Hex, Trailing, Io, Syntax, Semantic, Nesting, TooLong}
+use Rattle.cbor.specs.declared.answer.LineRefusal.TheVariants.{Memory}
 use Rattle.cbor.specs.declared.reading.Spelling.{Spelling}
 use Rattle.cbor.specs.Answer.{AreRefused, IsFrontRefused, IsRefused, kind_of_reason, refused_text}
 use Rattle.cbor.specs.Laws.{ItemIsAnswered, RefusalIsAnswered, RefusedMeansNothing}
@@ -16,8 +16,8 @@ use Rattle.cbor.specs.Spellings.{IsItem}
 use Rattle.cbor.proofs.OneLineAnswer.{one_answer}
 
 -- what refuses the front of some bytes refuses them
-pub front-refused : (spelling : Spelling) (b : List ℕ) (limit : ℕ) (e : Refusal) → IsFrontRefused spelling b limit e →
-    AreRefused spelling b limit e
+pub front-refused : (spelling : Spelling) (b : List ℕ) (limit : ℕ) (e : LineRefusal) →
+    IsFrontRefused spelling b limit e → AreRefused spelling b limit e
 front-refused spelling b limit Hex h = h
 front-refused spelling b limit (Trailing n) h = absurd h
 front-refused spelling b limit Io h = h
@@ -28,8 +28,8 @@ front-refused spelling b limit TooLong h = h
 front-refused spelling b limit Memory h = h
 
 -- what refuses the bytes of a line refuses the line
-pub refused-by : (spelling : Spelling) (line : List ℕ) (limit : ℕ) (b : List ℕ) (e : Refusal) → decode_of line ≡ Ok b →
-    AreRefused spelling b limit e → IsRefused spelling line limit e
+pub refused-by : (spelling : Spelling) (line : List ℕ) (limit : ℕ) (b : List ℕ) (e : LineRefusal) → decode_of line ≡
+    Ok b → AreRefused spelling b limit e → IsRefused spelling line limit e
 refused-by spelling line limit b Hex d h = absurd h
 refused-by spelling line limit b (Trailing n) d h = (b, d, h)
 refused-by spelling line limit b Io d h = (b, d, h)
@@ -48,7 +48,7 @@ item-answer spelling (Err e) limit v answer means same = absurd means
 pub item_is_answered : ItemIsAnswered
 item_is_answered spelling line limit v means = item-answer spelling (decode_of line) limit v (tree_text v) means refl
 
-bytes-answer : (spelling : Spelling) (b : List ℕ) (limit : ℕ) (e : Refusal) → e ≢ Memory →
+bytes-answer : (spelling : Spelling) (b : List ℕ) (limit : ℕ) (e : LineRefusal) → e ≢ Memory →
     AreRefused spelling b limit e → HasAnswer spelling b limit (refused_text e)
 bytes-answer spelling b limit Hex m h = absurd h
 bytes-answer spelling b limit (Trailing n) m (v, left, before, more, same) =
@@ -92,7 +92,7 @@ first : List ℕ → ℕ
 first xs = get_or xs 0 0
 
 -- no refusal has the text of a tree
-other-text : (v : Tree) (e : Refusal) → tree_text v ≡ refused_text e → ⊥
+other-text : (v : Tree) (e : LineRefusal) → tree_text v ≡ refused_text e → ⊥
 unfolding first
 other-text v Hex same = let f : 111 ≡ 104 = ap first same in omega (arith, f)
 other-text v (Trailing n) same = let f : 111 ≡ 116 = ap first same in omega (arith, f)

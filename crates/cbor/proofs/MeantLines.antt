@@ -9,7 +9,7 @@ use Rattle.ciborium_value.specs.Tree.{Tree}
 use Rattle.ciborium_value.specs.View.{tree_of}
 use Rattle.ciborium_value.specs.declared.key_order.KeyOrder.{KeyOrder}
 use Rattle.ciborium_value.specs.declared.tree.Value.{Value}
-use Rattle.cbor.specs.declared.answer.Refusal.{Refusal}
+use Rattle.cbor.specs.declared.answer.LineRefusal.{LineRefusal}
 use Rattle.cbor.specs.declared.reading.Spelling.TheVariants.{Any}
 use Rattle.cbor.specs.Answer.{IsMeant, IsRefused, refused_text}
 use Rattle.cbor.specs.Lines as lines
@@ -58,7 +58,7 @@ one-more-read b limit left next values kept value line shown more n (rest, e, a,
 
 -- the next line is no item
 pub first-refused : (b : List ℕ) (limit : ℕ) (left next : Option (List ℕ)) (trees : List Tree)
-    (line shown : List ℕ) (more : Bool) (n : ℕ) (e : Refusal) → AreRead b limit left trees n →
+    (line shown : List ℕ) (more : Bool) (n : ℕ) (e : LineRefusal) → AreRead b limit left trees n →
     LineIsRead left next line more → more ≡ true → shown ≡ line → IsRefused Any shown limit e →
     IsFirstRefused b limit n e
 first-refused b limit left next trees line shown more n e (rest, is, a, count) read m same h =

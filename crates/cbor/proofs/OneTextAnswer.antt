@@ -5,15 +5,15 @@ use Rattle.hex.specs.Hex.{decode_of}
 use Rattle.hex.specs.declared.error.FromHexError.{FromHexError}
 use Rattle.ciborium_ll.specs.Refusal as refusal
 use Rattle.ciborium_value.specs.DeterministicForms.{deterministic_form}
-use Rattle.ciborium_value.specs.Taken.{Outcome, gives, refuses, nests}
+use Rattle.ciborium_value.specs.Given.{Outcome, gives, refuses, nests}
 use Rattle.ciborium_value.specs.Tree.{Tree}
 use Rattle.ciborium_value.specs.declared.key_order.KeyOrder.{KeyOrder}
 use Rattle.ciborium_value.specs.declared.kind.Kind.TheVariants as kinds
 use Rattle.ciborium_value.proofs.Forms.RefusedForms.{form_or_refused}
 use Rattle.cbor.specs.declared.answer.Reason.{Reason}
 use Rattle.cbor.specs.declared.answer.Reason.TheVariants as reasons
-use Rattle.cbor.specs.declared.answer.Refusal.{Refusal}
-use Rattle.cbor.specs.declared.answer.Refusal.TheVariants.{Hex, Trailing, Io, Syntax, Semantic, Nesting, TooLong}
+use Rattle.cbor.specs.declared.answer.LineRefusal.{LineRefusal}
+use Rattle.cbor.specs.declared.answer.LineRefusal.TheVariants.{Hex, Trailing, Io, Syntax, Semantic, Nesting, TooLong}
 use Rattle.cbor.specs.declared.reading.Spelling.TheVariants.{Any}
 use Rattle.cbor.specs.Answer.{AreRefused, IsMeant, IsRefused, TellsRefusal, kind_of_reason, refused_text, wants_memory}
 use Rattle.cbor.specs.Forms.{IsFormAnswer, formless_text}
@@ -85,7 +85,7 @@ one_notation_answer layout line limit a b p q = one-of (notation_text layout) li
 
 -- ---- each line means a tree or is refused
 
-reason-of : (k : refusal.Kind) → (reason : Reason) × (kind_of_reason reason ≡ k)
+reason-of : (k : refusal.SemanticKind) → (reason : Reason) × (kind_of_reason reason ≡ k)
 reason-of refusal.Float = (reasons.Float, refl)
 reason-of refusal.Simple = (reasons.Simple, refl)
 reason-of refusal.Break = (reasons.Break, refl)
@@ -96,7 +96,7 @@ reason-of refusal.NotFolded = (reasons.NotFolded, refl)
 reason-of refusal.KeyOrder = (reasons.KeyOrder, refl)
 
 -- what refuses some bytes, as the program names it
-named : (b : List ℕ) (limit : ℕ) (e : refusal.Refusal) → RefusesItem Any b limit e → (r : Refusal) ×
+named : (b : List ℕ) (limit : ℕ) (e : refusal.Refusal) → RefusesItem Any b limit e → (r : LineRefusal) ×
     (wants_memory r ≡ false) × AreRefused Any b limit r
 named b limit refusal.io h = (Io, refl, h)
 named b limit (refusal.syntax p) h = (Syntax p, refl, h)
@@ -105,14 +105,14 @@ named b limit (refusal.semantic p k) h =
     let (reason, same) = reason-of k in (
       Semantic p reason,
       refl,
-      subst (λ (j : refusal.Kind). RefusesItem Any b limit (refusal.semantic p j)) (sym same) h,
+      subst (λ (j : refusal.SemanticKind). RefusesItem Any b limit (refusal.semantic p j)) (sym same) h,
     )
 named b limit refusal.recursion_limit_exceeded h = (Nesting, refl, h)
 
 -- a line means a tree, or is refused
 abbrev IsMeantOrRefused : List ℕ → ℕ → Type 0
 IsMeantOrRefused line limit = ((v : Tree) × IsMeant Any line limit v) ⊎
-    ((e : Refusal) × (wants_memory e ≡ false) × IsRefused Any line limit e)
+    ((e : LineRefusal) × (wants_memory e ≡ false) × IsRefused Any line limit e)
 
 meant-by : (line b : List ℕ) (limit : ℕ) (v : Tree) → decode_of line ≡ Ok b → IsItem Any b limit v →
     IsMeant Any line limit v

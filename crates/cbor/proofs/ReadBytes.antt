@@ -4,14 +4,14 @@ use Rattle.std.proofs.Common.{unwrap_or, inl, inr, refl, ◌≢◌, sym, subst, 
 use Rattle.std.proofs.lemmas.List.{nil_from_length}
 use Rattle.std.proofs.lemmas.Bool.Decides.{nat_tests}
 use Rattle.ciborium_value.specs.declared.kind.Kind.TheVariants.{TrailingData}
-use Rattle.ciborium_ll.specs.Refusal.{Refusal, Kind}
+use Rattle.ciborium_ll.specs.Refusal.{Refusal, SemanticKind}
 use Rattle.ciborium.specs.declared.de.error.Error.{Error}
 use Rattle.ciborium.specs.declared.de.error.Error.TheVariants as errors
 use Rattle.ciborium.specs.ValueAnswers.{IsNamed, IsRefusedBy, refusal_kind_of}
 use Rattle.ciborium.specs.SliceAnswers.{AreAllRead}
-use Rattle.cbor.specs.declared.answer.Refusal.{Refusal as Reason}
-use Rattle.cbor.specs.declared.answer.Refusal.TheVariants as reasons
-use Rattle.cbor.specs.declared.answer.Refusal.TheVariants.{Memory}
+use Rattle.cbor.specs.declared.answer.LineRefusal.{LineRefusal as Reason}
+use Rattle.cbor.specs.declared.answer.LineRefusal.TheVariants as reasons
+use Rattle.cbor.specs.declared.answer.LineRefusal.TheVariants.{Memory}
 use Rattle.cbor.specs.declared.reading.Spelling.{Spelling}
 use Rattle.cbor.specs.declared.reading.Spelling.TheVariants.{Any}
 use Rattle.cbor.specs.Answer.{AreRefused, IsFrontRefused, StandsFor}
@@ -28,7 +28,8 @@ named-anyway left (errors.Io x) P h = λ _. tt
 named-anyway left (errors.Syntax p) P h = tt
 named-anyway left (errors.Semantic p k) P h = some-name p (refusal_kind_of k) P h
   where
-    some-name : (p : Option ℕ) (k : Option Kind) (P : Refusal → Type 0) → IsNamed p k P → IsNamed p k (λ _. Unit {0})
+    some-name : (p : Option ℕ) (k : Option SemanticKind) (P : Refusal → Type 0) → IsNamed p k P →
+        IsNamed p k (λ _. Unit {0})
     some-name (Some p) (Some k) P h = tt
     some-name (Some p) None P h = h
     some-name None k P h = h

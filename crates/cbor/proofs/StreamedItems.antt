@@ -11,8 +11,8 @@ use Rattle.ciborium.specs.NextItems.{TakesTo}
 use Rattle.ciborium_value.specs.Tree.{Tree}
 use Rattle.ciborium_value.specs.View.{tree_of}
 use Rattle.ciborium_value.specs.declared.tree.Value.{Value}
-use Rattle.cbor.specs.declared.answer.Refusal.{Refusal}
-use Rattle.cbor.specs.declared.answer.Refusal.TheVariants.{Memory}
+use Rattle.cbor.specs.declared.answer.LineRefusal.{LineRefusal}
+use Rattle.cbor.specs.declared.answer.LineRefusal.TheVariants.{Memory}
 use Rattle.cbor.specs.declared.reading.Showing.{Showing}
 use Rattle.cbor.specs.declared.reading.Spelling.{Spelling}
 use Rattle.cbor.specs.declared.streams.Next.TheVariants.{Item, NoItem as NoNext}
@@ -57,7 +57,7 @@ whole-item spelling s limit v left i (t, item, is) =
     let same : t ≡ s = sym (append-nil t) ∙ ap (λ (x : List ℕ). t ++ x) (sym none) ∙ sym is in
     subst (λ (x : List ℕ). IsItem spelling x limit v) same item
 
-pub item-judged : (spelling : Spelling) (s : List ℕ) (limit : ℕ) (r : Result Value Refusal) (left : List ℕ) →
+pub item-judged : (spelling : Spelling) (s : List ℕ) (limit : ℕ) (r : Result Value LineRefusal) (left : List ℕ) →
     AreItem s → IfOk r (λ v. HasItemBefore spelling s limit (tree_of v) left) →
     IfErr r (λ e. IsFrontRefused spelling s limit e) → IsJudged spelling s limit r
 item-judged spelling s limit (Ok v) left i item refuses = whole-item spelling s limit (tree_of v) left i item
@@ -80,11 +80,11 @@ front-read spelling b limit v left size (s, item, is) count =
     )
 
 -- a refusal is not one for memory where it is none with its offset counted so
-memory-behind : (p : ℕ) (e : Refusal) → wants_memory (refusal_behind p e) ≡ false → wants_memory e ≡ false
+memory-behind : (p : ℕ) (e : LineRefusal) → wants_memory (refusal_behind p e) ≡ false → wants_memory e ≡ false
 memory-behind p Memory h = h
 memory-behind p other h = refl
 
-pub refused-shown : {E : Type 0} (place w : List ℕ) (n offset : ℕ) (e f : Refusal) (text : List ℕ)
+pub refused-shown : {E : Type 0} (place w : List ℕ) (n offset : ℕ) (e f : LineRefusal) (text : List ℕ)
     (after : Option (List ℕ)) (r : Result Unit E) → f ≡ refusal_behind offset e →
     (wants_memory f ≡ false) × (text ≡ refused_item_text n (refused_text f)) →
     OnOk r (after ≡ Some ((w ++ place) ++ text_line text)) →
@@ -93,7 +93,7 @@ pub refused-shown : {E : Type 0} (place w : List ℕ) (n offset : ℕ) (e f : Re
 refused-shown place w n offset e f text after (Ok u) is (m, same) h = (
   memory-behind offset e (rw is at m),
   h ∙ ap Some (append_assoc w place (text_line text) ∙ ap (λ (t : List ℕ). w ++ (place ++ text_line t))
-      (same ∙ ap (λ (x : Refusal). refused_item_text n (refused_text x)) is)),
+      (same ∙ ap (λ (x : LineRefusal). refused_item_text n (refused_text x)) is)),
 )
 refused-shown place w n offset e f text after (Err x) is same h = tt
 
@@ -143,7 +143,7 @@ module _ (place : List ℕ) (showing : Showing) (limit : ℕ) where
         )
 
     -- one more item has its line
-    pub one-more-shown : (next now : Option (List ℕ)) (judged : Result Value Refusal) (size behind : ℕ)
+    pub one-more-shown : (next now : Option (List ℕ)) (judged : Result Value LineRefusal) (size behind : ℕ)
         (is_shown : Bool) → behind ≡ offset + size →
         ((xs : List ℕ) → left ≡ Some xs →
         (0 < length xs) × IsTaken (shown_spelling showing) xs limit next (Item judged size)) →
@@ -179,7 +179,7 @@ module _ (place : List ℕ) (showing : Showing) (limit : ℕ) where
         and-assoc false u v = refl
 
     -- no item comes next, and the line says so
-    pub none-follows : (now : Option (List ℕ)) (e : Refusal) →
+    pub none-follows : (now : Option (List ℕ)) (e : LineRefusal) →
         ((xs : List ℕ) → left ≡ Some xs →
         (0 < length xs) × IsTaken (shown_spelling showing) xs limit None (NoNext e)) →
         ((ys : List ℕ) → kept ≡ Some ys → (wants_memory e ≡ false) ×

@@ -8,9 +8,9 @@ use Rattle.ciborium.specs.declared.de.error.Error.{Error}
 use Rattle.ciborium.specs.ValueAnswers.{IsRefusedBy}
 use Rattle.cbor.specs.declared.answer.Reason.{Reason}
 use Rattle.cbor.specs.declared.answer.Reason.TheVariants as reasons
-use Rattle.cbor.specs.declared.answer.Refusal.{Refusal}
-use Rattle.cbor.specs.declared.answer.Refusal.TheVariants.{Hex, Trailing, Io, Syntax, Semantic}
-use Rattle.cbor.specs.declared.answer.Refusal.TheVariants.{Nesting, TooLong, Memory}
+use Rattle.cbor.specs.declared.answer.LineRefusal.{LineRefusal}
+use Rattle.cbor.specs.declared.answer.LineRefusal.TheVariants.{Hex, Trailing, Io, Syntax, Semantic}
+use Rattle.cbor.specs.declared.answer.LineRefusal.TheVariants.{Nesting, TooLong, Memory}
 use Rattle.cbor.specs.declared.reading.Spelling.{Spelling}
 use Rattle.cbor.specs.Spellings.{HasItemBefore, IsItem, RefusesItem}
 use Rattle.cbor.specs.Line.{hex_text, refusal_text, trailing_text}
@@ -21,7 +21,7 @@ IsMeant spelling line limit v = MatchResult (decode_of line) (λ b. IsItem spell
     (λ _. ⊥)
 
 -- the kind that a reason is
-abbrev pub kind_of_reason : Reason → refusal.Kind
+abbrev pub kind_of_reason : Reason → refusal.SemanticKind
 kind_of_reason reasons.Float = refusal.Float
 kind_of_reason reasons.Simple = refusal.Simple
 kind_of_reason reasons.Break = refusal.Break
@@ -37,7 +37,7 @@ HasTrailing spelling b limit n = (v : Tree) × (left : List ℕ) ×
     HasItemBefore spelling b limit v left × (0 < length left) × (n ≡ length left)
 
 -- b begins with no item, for this reason; `Memory` says nothing of it
-abbrev pub IsFrontRefused : Spelling → List ℕ → ℕ → Refusal → Type 0
+abbrev pub IsFrontRefused : Spelling → List ℕ → ℕ → LineRefusal → Type 0
 IsFrontRefused spelling b limit Hex = ⊥
 IsFrontRefused spelling b limit (Trailing n) = ⊥
 IsFrontRefused spelling b limit Io = RefusesItem spelling b limit refusal.io
@@ -51,26 +51,26 @@ IsFrontRefused spelling b limit Memory = Unit {0}
 
 -- the refusal says of any bytes what an error of reading a value says of them, where the reader is
 -- then at its end or not
-abbrev pub StandsFor : {E : Type 0} → Error E → Bool → Refusal → Type 0
+abbrev pub StandsFor : {E : Type 0} → Error E → Bool → LineRefusal → Type 0
 StandsFor error is_at_end e =
     (spelling : Spelling) (b : List ℕ) (limit : ℕ) (left : Option (List ℕ)) →
     (IsTrue is_at_end → left ≡ Some []) →
     IsRefusedBy left error (RefusesItem spelling b limit) → IsFrontRefused spelling b limit e
 
 -- b is no item: more bytes follow one, or it begins with none
-abbrev pub AreRefused : Spelling → List ℕ → ℕ → Refusal → Type 0
+abbrev pub AreRefused : Spelling → List ℕ → ℕ → LineRefusal → Type 0
 AreRefused spelling b limit (Trailing n) = HasTrailing spelling b limit n
 AreRefused spelling b limit other = IsFrontRefused spelling b limit other
 
 -- a line is no hex, or the hex of bytes that are no item; `Memory` says nothing of it
-abbrev pub IsRefused : Spelling → List ℕ → ℕ → Refusal → Type 0
+abbrev pub IsRefused : Spelling → List ℕ → ℕ → LineRefusal → Type 0
 IsRefused spelling line limit Hex = IsErr (decode_of line)
 IsRefused spelling line limit Memory = Unit {0}
 IsRefused spelling line limit other = (b : List ℕ) × (decode_of line ≡ Ok b) ×
     AreRefused spelling b limit other
 
 -- what the text of a refusal begins with
-abbrev pub refusal_word : Refusal → List ℕ
+abbrev pub refusal_word : LineRefusal → List ℕ
 refusal_word Hex = hex_text
 refusal_word (Trailing n) = codes "trailing"
 refusal_word Io = codes "io"
@@ -81,7 +81,7 @@ refusal_word TooLong = codes "toolong"
 refusal_word Memory = codes "memory"
 
 -- the text of a refusal
-abbrev pub refused_text : Refusal → List ℕ
+abbrev pub refused_text : LineRefusal → List ℕ
 refused_text Hex = hex_text
 refused_text (Trailing n) = trailing_text n
 refused_text Io = refusal_text refusal.io
@@ -92,24 +92,24 @@ refused_text TooLong = refusal_text refusal.too_long
 refused_text Memory = codes "memory"
 
 -- the offset of a refusal, or 0 where it has none
-abbrev pub refusal_offset : Refusal → ℕ
+abbrev pub refusal_offset : LineRefusal → ℕ
 refusal_offset (Syntax p) = p
 refusal_offset (Semantic p reason) = p
 refusal_offset other = 0
 
 -- a refusal of bytes behind so many others, with its offset counted from the first of those
-abbrev pub refusal_behind : ℕ → Refusal → Refusal
+abbrev pub refusal_behind : ℕ → LineRefusal → LineRefusal
 refusal_behind skipped (Syntax p) = Syntax (skipped + p)
 refusal_behind skipped (Semantic p reason) = Semantic (skipped + p) reason
 refusal_behind skipped other = other
 
 -- whether memory was refused
-abbrev pub wants_memory : Refusal → Bool
+abbrev pub wants_memory : LineRefusal → Bool
 wants_memory Memory = true
 wants_memory other = false
 
 -- a line is no hex; `Memory` says nothing of it
-abbrev pub IsHexRefused : List ℕ → Refusal → Type 0
+abbrev pub IsHexRefused : List ℕ → LineRefusal → Type 0
 IsHexRefused line Hex = IsErr (decode_of line)
 IsHexRefused line Memory = Unit {0}
 IsHexRefused line other = ⊥
@@ -117,5 +117,5 @@ IsHexRefused line other = ⊥
 -- the text tells why a line is no such item; want of memory is told elsewhere
 abbrev pub TellsRefusal : Spelling → List ℕ → ℕ → List ℕ → Type 0
 TellsRefusal spelling line limit text =
-    (e : Refusal) × IsRefused spelling line limit e × (wants_memory e ≡ false) ×
+    (e : LineRefusal) × IsRefused spelling line limit e × (wants_memory e ≡ false) ×
     (text ≡ refused_text e)

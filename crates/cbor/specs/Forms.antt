@@ -2,7 +2,7 @@
 -- section 4.2). Texts are lists of bytes.
 use Rattle.std.specs.Prelude.{◌≡◌, ◌⊎◌, ℕ, List, codes}
 use Rattle.ciborium_value.specs.DeterministicForms.{deterministic_form}
-use Rattle.ciborium_value.specs.Taken.{gives, refuses}
+use Rattle.ciborium_value.specs.Given.{gives, refuses}
 use Rattle.ciborium_value.specs.Tree.{Tree}
 use Rattle.ciborium_value.specs.declared.key_order.KeyOrder.{KeyOrder}
 use Rattle.ciborium_value.specs.declared.kind.Kind.{Kind}

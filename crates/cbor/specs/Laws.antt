@@ -5,8 +5,8 @@ use Rattle.hex.specs.Hex.{encode_lower}
 use Rattle.ciborium_ll.specs.declared.levels.Level.{Level}
 use Rattle.ciborium_value.specs.Tree.{Tree}
 use Rattle.ciborium_value.specs.declared.key_order.KeyOrder.{KeyOrder}
-use Rattle.cbor.specs.declared.answer.Refusal.{Refusal}
-use Rattle.cbor.specs.declared.answer.Refusal.TheVariants.{Memory}
+use Rattle.cbor.specs.declared.answer.LineRefusal.{LineRefusal}
+use Rattle.cbor.specs.declared.answer.LineRefusal.TheVariants.{Memory}
 use Rattle.cbor.specs.declared.reading.Layout.{Layout}
 use Rattle.cbor.specs.declared.reading.Spelling.{Spelling}
 use Rattle.cbor.specs.Answer.{IsRefused, IsMeant, refused_text}
@@ -36,14 +36,14 @@ ItemIsAnswered = (spelling : Spelling) (line : List ℕ) (limit : ℕ) (v : Tree
 -- a line that is refused, but not for memory, is answered by the text of the refusal
 abbrev pub RefusalIsAnswered : Type 0
 RefusalIsAnswered =
-    (spelling : Spelling) (line : List ℕ) (limit : ℕ) (e : Refusal) → e ≢ Memory →
+    (spelling : Spelling) (line : List ℕ) (limit : ℕ) (e : LineRefusal) → e ≢ Memory →
     IsRefused spelling line limit e →
     IsLineAnswer spelling line limit (refused_text e)
 
 -- and means no tree
 abbrev pub RefusedMeansNothing : Type 0
 RefusedMeansNothing =
-    (spelling : Spelling) (line : List ℕ) (limit : ℕ) (e : Refusal) (v : Tree) → e ≢ Memory →
+    (spelling : Spelling) (line : List ℕ) (limit : ℕ) (e : LineRefusal) (v : Tree) → e ≢ Memory →
     IsRefused spelling line limit e →
     ¬ IsMeant spelling line limit v
 

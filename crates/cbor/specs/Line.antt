@@ -1,16 +1,16 @@
 -- What the program answers to a line of hex. Texts are lists of bytes.
 use Rattle.std.specs.Prelude.{◌≡◌, ℕ, ◌<◌, List, ◌++◌, length, MatchResult, codes, decimal}
 use Rattle.hex.specs.Hex.{decode_of, encode_lower}
-use Rattle.ciborium_ll.specs.Refusal.{Kind, Float, Simple, Break, TooLarge, NotShortest, Open}
+use Rattle.ciborium_ll.specs.Refusal.{SemanticKind, Float, Simple, Break, TooLarge, NotShortest}
 use Rattle.ciborium_ll.specs.Refusal.{NotFolded, KeyOrder, Refusal, io, syntax, too_long, semantic}
-use Rattle.ciborium_ll.specs.Refusal.{recursion_limit_exceeded}
+use Rattle.ciborium_ll.specs.Refusal.{Open, recursion_limit_exceeded}
 use Rattle.ciborium_value.specs.Encoding.{encoding}
 use Rattle.ciborium_value.specs.Tree.{Tree}
 use Rattle.cbor.specs.declared.reading.Spelling.{Spelling}
 use Rattle.cbor.specs.Spellings.{HasItemBefore, IsItem, RefusesItem}
 
 -- why an item has no meaning, in a word
-abbrev pub kind_text : Kind → List ℕ
+abbrev pub kind_text : SemanticKind → List ℕ
 kind_text Float = codes "float"
 kind_text Simple = codes "simple"
 kind_text Break = codes "break"

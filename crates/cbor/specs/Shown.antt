@@ -4,7 +4,7 @@ use Rattle.hex.specs.Hex.{encode_lower}
 use Rattle.ciborium_value.specs.DeterministicForms.{deterministic_form}
 use Rattle.ciborium_value.specs.Encoding.{encoding}
 use Rattle.ciborium_value.specs.Notation.{indented_notation, notation}
-use Rattle.ciborium_value.specs.Taken.{Outcome, gives}
+use Rattle.ciborium_value.specs.Given.{Outcome, gives}
 use Rattle.ciborium_value.specs.Tree.{Tree}
 use Rattle.cbor.specs.declared.reading.Layout.{Layout}
 use Rattle.cbor.specs.declared.reading.Layout.TheVariants.{OneLine, Indented}

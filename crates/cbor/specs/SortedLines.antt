@@ -7,7 +7,7 @@ use Rattle.hex.specs.Hex.{encode_lower}
 use Rattle.ciborium_value.specs.Encoding.{encoding}
 use Rattle.ciborium_value.specs.Tree.{Tree}
 use Rattle.ciborium_value.specs.declared.key_order.KeyOrder.{KeyOrder}
-use Rattle.cbor.specs.declared.answer.Refusal.{Refusal}
+use Rattle.cbor.specs.declared.answer.LineRefusal.{LineRefusal}
 use Rattle.cbor.specs.declared.reading.Spelling.TheVariants.{Any}
 use Rattle.cbor.specs.declared.sorting.Unsorted.{Unsorted}
 use Rattle.cbor.specs.declared.sorting.Unsorted.TheVariants.{Line, Unread}
@@ -32,7 +32,7 @@ refused_line_text n reason = codes "line " ++ (decimal n ++ (codes ": " ++ reaso
 
 -- a line of b is no item, or memory was refused for it, and those before it are items; this is its
 -- number
-abbrev pub IsFirstRefused : List ℕ → ℕ → ℕ → Refusal → Type 0
+abbrev pub IsFirstRefused : List ℕ → ℕ → ℕ → LineRefusal → Type 0
 IsFirstRefused b limit n e = (came : List Tree) × (rest : List ℕ) × AreMeant Any b limit rest came ×
     (0 < length rest) × IsRefused Any (first_line rest) limit e × (n ≡ length came + 1)
 
@@ -43,7 +43,7 @@ IsUnsortedFor b limit (Unread fault) = Unit {0}
 
 -- a line is refused, and the line that says so is put behind w
 abbrev pub IsRefusalToldBehind : List ℕ → ℕ → List ℕ → Option (List ℕ) → Type 0
-IsRefusalToldBehind b limit w after = (n : ℕ) × (e : Refusal) × IsFirstRefused b limit n e ×
+IsRefusalToldBehind b limit w after = (n : ℕ) × (e : LineRefusal) × IsFirstRefused b limit n e ×
     (after ≡ Some (w ++ text_line (refused_line_text n (refused_text e))))
 
 -- each line is an item and they are sorted, or the first that is none is told

@@ -5,12 +5,12 @@ use Rattle.std.specs.Prelude.{take, drop, Option, Some, Result, MatchResult}
 use Rattle.ciborium_ll.specs.ItemLengths.{IsNoItem}
 use Rattle.ciborium_ll.specs.Levels.{AreItem}
 use Rattle.ciborium_ll.specs.declared.item_heads.NoItem.{NoItem}
-use Rattle.ciborium_value.specs.Taken.{gives, refuses}
+use Rattle.ciborium_value.specs.Given.{gives, refuses}
 use Rattle.ciborium_value.specs.Tree.{Tree}
 use Rattle.ciborium_value.specs.View.{tree_of}
 use Rattle.ciborium_value.specs.declared.kind.Kind.{Kind}
 use Rattle.ciborium_value.specs.declared.tree.Value.{Value}
-use Rattle.cbor.specs.declared.answer.Refusal.{Refusal as Reason}
+use Rattle.cbor.specs.declared.answer.LineRefusal.{LineRefusal as Reason}
 use Rattle.cbor.specs.declared.reading.Showing.{Showing}
 use Rattle.cbor.specs.declared.reading.Spelling.{Spelling}
 use Rattle.cbor.specs.declared.streams.Next.{Next}

@@ -7,7 +7,7 @@ ghost use Rattle.cbor.specs.Answer.{kind_of_reason, refusal_behind, refusal_offs
 ghost use Rattle.cbor.specs.Answer.{refused_text, wants_memory};
 ghost use Rattle.cbor.specs.Forms.{formless_text};
 ghost use Rattle.cbor.specs.Line.{kind_text};
-ghost use Rattle.cbor.specs.declared.answer.Refusal.TheVariants.{Memory};
+ghost use Rattle.cbor.specs.declared.answer.LineRefusal.TheVariants.{Memory};
 
 use ciborium_value::Kind;
 use std::alloc::AllocError;
@@ -15,7 +15,7 @@ use std::fmt;
 
 /// Why a line is no item.
 #[derive(Clone, Copy, Debug)]
-pub enum Refusal {
+pub enum LineRefusal {
     /// The line is not an even number of hex digits.
     Hex,
     /// This many bytes follow the item at the front.
@@ -55,24 +55,24 @@ pub enum Reason {
     KeyOrder,
 }
 
-impl Refusal {
+impl LineRefusal {
     /// Whether an allocation failed.
     pub fn is_memory(&self) -> bool
         ensures { result ≡ wants_memory self.now }
     {
-        matches!(self, Refusal::Memory)
+        matches!(self, LineRefusal::Memory)
     }
 
     /// This refusal of an item behind `skipped` bytes, with its offset counted from the first of
     /// them. There is none where that would pass `usize::MAX`.
-    pub fn behind(self, skipped: usize) -> Option<Refusal>
+    pub fn behind(self, skipped: usize) -> Option<LineRefusal>
         ensures moved { IfSome result (λ refusal. refusal ≡ refusal_behind skipped self) }
         ensures none { IfNone result (greatest_offset < skipped + refusal_offset self) }
     {
         match self {
-            Refusal::Syntax(at) => Some(Refusal::Syntax(skipped.checked_add(at)?)),
-            Refusal::Semantic(at, reason) => {
-                Some(Refusal::Semantic(skipped.checked_add(at)?, reason))
+            LineRefusal::Syntax(at) => Some(LineRefusal::Syntax(skipped.checked_add(at)?)),
+            LineRefusal::Semantic(at, reason) => {
+                Some(LineRefusal::Semantic(skipped.checked_add(at)?, reason))
             }
             other => Some(other),
         }
@@ -83,14 +83,14 @@ impl Refusal {
         ensures { result.now ≡ refusal_word self.now }
     {
         match self {
-            Refusal::Hex => "hex",
-            Refusal::Trailing(_) => "trailing",
-            Refusal::Io => "io",
-            Refusal::Syntax(_) => "syntax",
-            Refusal::Semantic(_, _) => "semantic",
-            Refusal::Nesting => "nesting",
-            Refusal::TooLong => "toolong",
-            Refusal::Memory => "memory",
+            LineRefusal::Hex => "hex",
+            LineRefusal::Trailing(_) => "trailing",
+            LineRefusal::Io => "io",
+            LineRefusal::Syntax(_) => "syntax",
+            LineRefusal::Semantic(_, _) => "semantic",
+            LineRefusal::Nesting => "nesting",
+            LineRefusal::TooLong => "toolong",
+            LineRefusal::Memory => "memory",
         }
     }
 }
@@ -113,22 +113,22 @@ impl Reason {
     }
 }
 
-impl From<AllocError> for Refusal {
+impl From<AllocError> for LineRefusal {
     ghost from_gives = { λ _ refusal. refusal ≡ Memory };
 
-    fn from(_: AllocError) -> Refusal {
-        Refusal::Memory
+    fn from(_: AllocError) -> LineRefusal {
+        LineRefusal::Memory
     }
 }
 
-impl fmt::Display for Refusal {
+impl fmt::Display for LineRefusal {
     ghost output = { λ refusal. Some (refused_text refusal) };
 
     fn fmt<W: fmt::Write>(&self, f: &mut fmt::Formatter<W>) -> fmt::Result {
         match self {
-            Refusal::Trailing(count) => write!(f, "trailing {count}"),
-            Refusal::Syntax(offset) => write!(f, "syntax {offset}"),
-            Refusal::Semantic(offset, reason) => write!(f, "semantic {offset} {reason}"),
+            LineRefusal::Trailing(count) => write!(f, "trailing {count}"),
+            LineRefusal::Syntax(offset) => write!(f, "syntax {offset}"),
+            LineRefusal::Semantic(offset, reason) => write!(f, "semantic {offset} {reason}"),
             _ => f.write_str(self.word()),
         }
     }

@@ -14,7 +14,8 @@ ghost use Rattle.cbor.specs.declared.reading.Reading.TheVariants.{Dump, Encode, 
 ghost use Rattle.cbor.specs.declared.reading.Reading.TheVariants.{Item, Notation, Sequence};
 ghost use Rattle.cbor.specs.declared.reading.Spelling.TheVariants.{Any, Deterministic};
 
-use crate::answer::{Refusal, name_want};
+use crate::answer::{LineRefusal, name_want};
+use crate::buffers::Buffers;
 use crate::digits::decode_line;
 use crate::dumping::write_dump;
 use crate::exact::write_exact;
@@ -23,7 +24,6 @@ use crate::items::{push_encoding, read_item};
 use crate::lines::{next_line, put_text, send_waiting};
 use crate::notation::read_notation;
 use crate::reading::{Layout, Reading, Spelling};
-use crate::rooms::Rooms;
 use crate::sequences::answer_items;
 use crate::showing::push_notation;
 use ciborium_value::{KeyOrder, Value};
@@ -77,9 +77,9 @@ pub fn answer_line_det(alloc: Global, line: &[u8], limit: usize) -> Result<Strin
 pub fn answer_seq(alloc: Global, line: &[u8]) -> Result<String, AllocError>
     ensures { IfOk result (λ text. IsSequenceAnswer line.now 256 (string_bytes text)) }
 {
-    let mut rooms = Rooms::new(alloc);
-    answer_sequence(alloc, line, &mut rooms)?;
-    rooms.into_answer()
+    let mut buffers = Buffers::new(alloc);
+    answer_sequence(alloc, line, &mut buffers)?;
+    buffers.into_answer()
 }
 
 // The answer to a line that is read as one item, by buffers of its own.
@@ -91,46 +91,51 @@ fn answer_alone(
 ) -> Result<String, AllocError>
     ensures { IfOk result (λ text. IsLineAnswer spelling line.now limit (string_bytes text)) }
 {
-    let mut rooms = Rooms::new(alloc);
-    answer_item(alloc, line, spelling, limit, &mut rooms)?;
-    rooms.into_answer()
+    let mut buffers = Buffers::new(alloc);
+    answer_item(alloc, line, spelling, limit, &mut buffers)?;
+    buffers.into_answer()
 }
 
-// Makes `rooms.text` the answer to a line that is read as a sequence, and says whether it is one.
-fn answer_sequence(alloc: Global, line: &[u8], rooms: &mut Rooms) -> Result<bool, AllocError>
-    ensures { IfOk result (λ is_ok. AnswersLine Sequence line.now is_ok rooms.new.text.items) }
+// Makes `buffers.text` the answer to a line that is read as a sequence, and says whether it is one.
+fn answer_sequence(alloc: Global, line: &[u8], buffers: &mut Buffers) -> Result<bool, AllocError>
+    ensures { IfOk result (λ is_ok. AnswersLine Sequence line.now is_ok buffers.new.text.items) }
 {
-    match decode_line(line, &mut rooms.bytes) {
-        Ok(()) => answer_items(alloc, &rooms.bytes, &mut rooms.encoding, &mut rooms.text),
+    match decode_line(line, &mut buffers.bytes) {
+        Ok(()) => answer_items(
+            alloc,
+            &buffers.bytes,
+            &mut buffers.encoding,
+            &mut buffers.text,
+        ),
         Err(refusal) => {
-            write_refusal(refusal, &mut rooms.text)?;
+            write_refusal(refusal, &mut buffers.text)?;
             Ok(false)
         }
     }
 }
 
-// Makes `rooms.text` the dump of a line that is read as one item, and says whether it is one.
-fn answer_dump(alloc: Global, line: &[u8], rooms: &mut Rooms) -> Result<bool, AllocError>
-    ensures { IfOk result (λ is_ok. AnswersLine Dump line.now is_ok rooms.new.text.items) }
+// Makes `buffers.text` the dump of a line that is read as one item, and says whether it is one.
+fn answer_dump(alloc: Global, line: &[u8], buffers: &mut Buffers) -> Result<bool, AllocError>
+    ensures { IfOk result (λ is_ok. AnswersLine Dump line.now is_ok buffers.new.text.items) }
 {
-    match decode_line(line, &mut rooms.bytes) {
-        Ok(()) => write_dump(alloc, &rooms.bytes, &mut rooms.text),
+    match decode_line(line, &mut buffers.bytes) {
+        Ok(()) => write_dump(alloc, &buffers.bytes, &mut buffers.text),
         Err(refusal) => {
-            write_refusal(refusal, &mut rooms.text)?;
+            write_refusal(refusal, &mut buffers.text)?;
             Ok(false)
         }
     }
 }
 
-// Makes `rooms.text` the notation that shows the very heads of a line that is read as one item, and
-// says whether it is one.
-fn answer_exact(alloc: Global, line: &[u8], rooms: &mut Rooms) -> Result<bool, AllocError>
-    ensures { IfOk result (λ is_ok. AnswersLine Exact line.now is_ok rooms.new.text.items) }
+// Makes `buffers.text` the notation that shows the very heads of a line that is read as one item,
+// and says whether it is one.
+fn answer_exact(alloc: Global, line: &[u8], buffers: &mut Buffers) -> Result<bool, AllocError>
+    ensures { IfOk result (λ is_ok. AnswersLine Exact line.now is_ok buffers.new.text.items) }
 {
-    match decode_line(line, &mut rooms.bytes) {
-        Ok(()) => write_exact(alloc, &rooms.bytes, &mut rooms.text),
+    match decode_line(line, &mut buffers.bytes) {
+        Ok(()) => write_exact(alloc, &buffers.bytes, &mut buffers.text),
         Err(refusal) => {
-            write_refusal(refusal, &mut rooms.text)?;
+            write_refusal(refusal, &mut buffers.text)?;
             Ok(false)
         }
     }
@@ -146,22 +151,22 @@ fn answer_canon(
     line: &[u8],
     order: KeyOrder,
     limit: usize,
-    rooms: &mut Rooms,
+    buffers: &mut Buffers,
 ) -> Result<bool, AllocError>
     ensures { IfOk result (λ is_ok.
-        AnswersLine (Form order limit) line.now is_ok rooms.new.text.items) }
+        AnswersLine (Form order limit) line.now is_ok buffers.new.text.items) }
 {
-    let Some(mut value) = read_or_refuse(alloc, line, Spelling::Any, limit, rooms)? else {
+    let Some(mut value) = read_or_refuse(alloc, line, Spelling::Any, limit, buffers)? else {
         return Ok(false);
     };
     match value.make_deterministic(order) {
         Ok(()) => {
-            write_encoding(&value, rooms)?;
+            write_encoding(&value, buffers)?;
             Ok(true)
         }
         Err(kind) => {
-            rooms.text.clear();
-            rooms.text.extend_from_slice(name_want(kind))?;
+            buffers.text.clear();
+            buffers.text.extend_from_slice(name_want(kind))?;
             Ok(false)
         }
     }
@@ -174,90 +179,90 @@ fn answer_diag(
     line: &[u8],
     layout: Layout,
     limit: usize,
-    rooms: &mut Rooms,
+    buffers: &mut Buffers,
 ) -> Result<bool, AllocError>
     ensures { IfOk result (λ is_ok.
-        AnswersLine (Notation layout limit) line.now is_ok rooms.new.text.items) }
+        AnswersLine (Notation layout limit) line.now is_ok buffers.new.text.items) }
 {
-    let Some(value) = read_or_refuse(alloc, line, Spelling::Any, limit, rooms)? else {
+    let Some(value) = read_or_refuse(alloc, line, Spelling::Any, limit, buffers)? else {
         return Ok(false);
     };
-    rooms.text.clear();
-    push_notation(&value, layout, &mut rooms.text)?;
+    buffers.text.clear();
+    push_notation(&value, layout, &mut buffers.text)?;
     Ok(true)
 }
 
-// Makes `rooms.text` the encoding in hex of the value that a line of diagnostic notation denotes
+// Makes `buffers.text` the encoding in hex of the value that a line of diagnostic notation denotes
 // (RFC 8949, section 8), or why it denotes none, and says whether it denotes one.
 fn answer_encoding(
     alloc: Global,
     line: &[u8],
     limit: usize,
-    rooms: &mut Rooms,
+    buffers: &mut Buffers,
 ) -> Result<bool, AllocError>
     ensures { IfOk result (λ is_ok.
-        AnswersLine (Encode limit) line.now is_ok rooms.new.text.items) }
+        AnswersLine (Encode limit) line.now is_ok buffers.new.text.items) }
 {
-    let Some(value) = read_notation(alloc, line, limit, &mut rooms.text)? else {
+    let Some(value) = read_notation(alloc, line, limit, &mut buffers.text)? else {
         return Ok(false);
     };
-    rooms.text.clear();
-    push_encoding(&value, &mut rooms.bytes, &mut rooms.text)?;
+    buffers.text.clear();
+    push_encoding(&value, &mut buffers.bytes, &mut buffers.text)?;
     Ok(true)
 }
 
-// Makes `rooms.text` the answer to a line that is read as one item, and says whether it is one.
+// Makes `buffers.text` the answer to a line that is read as one item, and says whether it is one.
 fn answer_item(
     alloc: Global,
     line: &[u8],
     spelling: Spelling,
     limit: usize,
-    rooms: &mut Rooms,
+    buffers: &mut Buffers,
 ) -> Result<bool, AllocError>
     ensures { IfOk result (λ is_ok.
-        AnswersLine (Item spelling limit) line.now is_ok rooms.new.text.items) }
+        AnswersLine (Item spelling limit) line.now is_ok buffers.new.text.items) }
 {
-    let Some(value) = read_or_refuse(alloc, line, spelling, limit, rooms)? else {
+    let Some(value) = read_or_refuse(alloc, line, spelling, limit, buffers)? else {
         return Ok(false);
     };
-    write_encoding(&value, rooms)?;
+    write_encoding(&value, buffers)?;
     Ok(true)
 }
 
-// The value of a line that is one item, spelled so; or none, and `rooms.text` is why the line is
+// The value of a line that is one item, spelled so; or none, and `buffers.text` is why the line is
 // refused.
 fn read_or_refuse(
     alloc: Global,
     line: &[u8],
     spelling: Spelling,
     limit: usize,
-    rooms: &mut Rooms,
+    buffers: &mut Buffers,
 ) -> Result<Option<Value>, AllocError>
     ensures item { IfOk result (λ found. IfSome found (λ value.
         IsMeant spelling line.now limit (tree_of value))) }
     ensures refused { IfOk result (λ found. IfNone found
-        (TellsRefusal spelling line.now limit rooms.new.text.items)) }
+        (TellsRefusal spelling line.now limit buffers.new.text.items)) }
 {
-    match read_item(alloc, line, spelling, limit, &mut rooms.bytes) {
+    match read_item(alloc, line, spelling, limit, &mut buffers.bytes) {
         Ok(value) => Ok(Some(value)),
         Err(refusal) => {
-            write_refusal(refusal, &mut rooms.text)?;
+            write_refusal(refusal, &mut buffers.text)?;
             Ok(None)
         }
     }
 }
 
-// Makes `rooms.text` the answer that holds the encoding of a value.
-fn write_encoding(value: &Value, rooms: &mut Rooms) -> Result<(), AllocError>
-    ensures { OnOk result (rooms.new.text.items ≡ tree_text (tree_of value.now)) }
+// Makes `buffers.text` the answer that holds the encoding of a value.
+fn write_encoding(value: &Value, buffers: &mut Buffers) -> Result<(), AllocError>
+    ensures { OnOk result (buffers.new.text.items ≡ tree_text (tree_of value.now)) }
 {
-    rooms.text.clear();
-    rooms.text.extend_from_slice(b"ok ")?;
-    push_encoding(value, &mut rooms.bytes, &mut rooms.text)
+    buffers.text.clear();
+    buffers.text.extend_from_slice(b"ok ")?;
+    push_encoding(value, &mut buffers.bytes, &mut buffers.text)
 }
 
 // Makes `text` that of a refusal; a failed allocation is none.
-fn write_refusal(refusal: Refusal, text: &mut Vec<u8>) -> Result<(), AllocError>
+fn write_refusal(refusal: LineRefusal, text: &mut Vec<u8>) -> Result<(), AllocError>
     ensures { OnOk result ((wants_memory refusal ≡ false)
         × (text.new.items ≡ refused_text refusal)) }
 {
@@ -276,18 +281,18 @@ fn answer_reading(
     alloc: Global,
     line: &[u8],
     reading: Reading,
-    rooms: &mut Rooms,
+    buffers: &mut Buffers,
 ) -> Result<bool, AllocError>
-    ensures { IfOk result (λ is_ok. AnswersLine reading line.now is_ok rooms.new.text.items) }
+    ensures { IfOk result (λ is_ok. AnswersLine reading line.now is_ok buffers.new.text.items) }
 {
     match reading {
-        Reading::Item(spelling, limit) => answer_item(alloc, line, spelling, limit, rooms),
-        Reading::Sequence => answer_sequence(alloc, line, rooms),
-        Reading::Form(order, limit) => answer_canon(alloc, line, order, limit, rooms),
-        Reading::Notation(layout, limit) => answer_diag(alloc, line, layout, limit, rooms),
-        Reading::Dump => answer_dump(alloc, line, rooms),
-        Reading::Exact => answer_exact(alloc, line, rooms),
-        Reading::Encode(limit) => answer_encoding(alloc, line, limit, rooms),
+        Reading::Item(spelling, limit) => answer_item(alloc, line, spelling, limit, buffers),
+        Reading::Sequence => answer_sequence(alloc, line, buffers),
+        Reading::Form(order, limit) => answer_canon(alloc, line, order, limit, buffers),
+        Reading::Notation(layout, limit) => answer_diag(alloc, line, layout, limit, buffers),
+        Reading::Dump => answer_dump(alloc, line, buffers),
+        Reading::Exact => answer_exact(alloc, line, buffers),
+        Reading::Encode(limit) => answer_encoding(alloc, line, limit, buffers),
     }
 }
 
@@ -329,13 +334,13 @@ fn put_answers<R: Read, W: Write>(
         AreAnswered reading b w all (append_known (W.contents output.new) waiting.new.items)) }
 {
     let mut line = Vec::new(alloc);
-    let mut rooms = Rooms::new(alloc);
+    let mut buffers = Buffers::new(alloc);
     let mut all_ok = true;
     'lines: for _ in 0..u64::MAX {
         if !next_line(reader, &mut line, waiting, output)? {
             return Ok(all_ok);
         }
-        let is_ok = write_answer(alloc, &line, reading, &mut rooms, waiting, output)?;
+        let is_ok = write_answer(alloc, &line, reading, &mut buffers, waiting, output)?;
         all_ok &= is_ok;
     }
     Err(Fault::Input)
@@ -347,7 +352,7 @@ fn write_answer<W: Write>(
     alloc: Global,
     line: &[u8],
     reading: Reading,
-    rooms: &mut Rooms,
+    buffers: &mut Buffers,
     waiting: &mut Vec<u8>,
     output: &mut W,
 ) -> Result<bool, Fault>
@@ -355,9 +360,9 @@ fn write_answer<W: Write>(
         IfOk result (λ is_ok. (text : List ℕ) × MayBeAnswer reading line.now is_ok text
         × (append_known (W.contents output.new) waiting.new.items ≡ Some (w ++ text_line text))) }
 {
-    match answer_reading(alloc, line, reading, rooms) {
+    match answer_reading(alloc, line, reading, buffers) {
         Ok(is_ok) => {
-            put_text(&rooms.text, waiting, output)?;
+            put_text(&buffers.text, waiting, output)?;
             put_text(b"\n", waiting, output)?;
             Ok(is_ok)
         }

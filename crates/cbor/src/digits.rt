@@ -6,7 +6,7 @@ ghost use Rattle.std.specs.Bool.{MatchBool};
 ghost use Rattle.hex.specs.Hex.{decode_of, decode_pairs, encode_lower, hex_digit_value};
 ghost use Rattle.cbor.specs.Answer.{IsHexRefused};
 
-use crate::answer::Refusal;
+use crate::answer::LineRefusal;
 use std::alloc::AllocError;
 
 // What stands for the value of a byte that is no hex digit.
@@ -17,16 +17,16 @@ const NO_DIGIT: u8 = 16;
 /// # Errors
 ///
 /// `Hex` where the line is not an even number of hex digits, `Memory` where an allocation failed.
-pub fn decode_line(line: &[u8], bytes: &mut Vec<u8>) -> Result<(), Refusal>
+pub fn decode_line(line: &[u8], bytes: &mut Vec<u8>) -> Result<(), LineRefusal>
     ensures bytes { OnOk result (decode_of line.now ≡ Ok bytes.new.items) }
     ensures refused { IfErr result (λ refusal. IsHexRefused line.now refusal) }
 {
     if line.len() % 2 != 0 {
-        return Err(Refusal::Hex);
+        return Err(LineRefusal::Hex);
     }
     bytes.resize(line.len() / 2, 0)?;
     if !decode_pairs(line, bytes.as_mut_slice()) {
-        return Err(Refusal::Hex);
+        return Err(LineRefusal::Hex);
     }
     Ok(())
 }
@@ -85,7 +85,7 @@ pub fn push_digits(bytes: &[u8], text: &mut Vec<u8>) -> Result<(), AllocError>
         return Err(AllocError);
     };
     text.resize(end, 0)?;
-    // The call fails only where the room has another size.
+    // The call fails only where the buffer has another size.
     if hex::encode_to_slice(bytes, &mut text.as_mut_slice()[start..]).is_err() {
         return Err(AllocError);
     }

@@ -62,26 +62,26 @@ fn put_encodings<R: Read, W: Write>(
         message.new.items) }
 {
     let mut line = Vec::new(alloc);
-    let mut room = Vec::new(alloc);
+    let mut buffer = Vec::new(alloc);
     'lines: for number in 1..u64::MAX {
         if !next_line(reader, &mut line, waiting, output)? {
             return Ok(true);
         }
-        let Some(value) = read_notation(alloc, &line, limit, &mut room)? else {
-            write_refused_line(number, &room, message)?;
+        let Some(value) = read_notation(alloc, &line, limit, &mut buffer)? else {
+            write_refused_line(number, &buffer, message)?;
             return Ok(false);
         };
-        put_encoding(&value, &mut room, waiting, output)?;
+        put_encoding(&value, &mut buffer, waiting, output)?;
     }
     // Unreachable in practice: no device gives so many lines.
     Err(Fault::Input)
 }
 
-// Puts the encoding of a value behind the bytes that wait. `room` is a buffer for it, to be used
+// Puts the encoding of a value behind the bytes that wait. `buffer` is for it, to be used
 // again.
 fn put_encoding<W: Write>(
     value: &Value,
-    room: &mut Vec<u8>,
+    buffer: &mut Vec<u8>,
     waiting: &mut Vec<u8>,
     output: &mut W,
 ) -> Result<(), Fault>
@@ -89,11 +89,11 @@ fn put_encoding<W: Write>(
         OnOk result (append_known (W.contents output.new) waiting.new.items
         ≡ Some (w ++ encoding (tree_of value.now))) }
 {
-    room.clear();
-    if into_writer(value, room).is_err() {
+    buffer.clear();
+    if into_writer(value, buffer).is_err() {
         return Err(Fault::Memory);
     }
-    put_text(room, waiting, output)
+    put_text(buffer, waiting, output)
 }
 
 // Makes `message` the line that says which line is refused, and why.

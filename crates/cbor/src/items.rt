@@ -16,7 +16,7 @@ ghost use Rattle.cbor.specs.Answer.{kind_of_reason};
 ghost use Rattle.cbor.specs.Spellings.{HasItemBefore, IsItem, spelling_of};
 ghost use Rattle.cbor.specs.declared.reading.Spelling.TheVariants.{Any};
 
-use crate::answer::{Reason, Refusal};
+use crate::answer::{LineRefusal, Reason};
 use crate::digits::{decode_line, push_digits};
 use crate::reading::Spelling;
 use ciborium::de::{
@@ -29,7 +29,7 @@ use std::alloc::{AllocError, Global};
 use std::io::{self, BufRead};
 
 /// The value of a line whose bytes are one item in a spelling that is asked for, within this many
-/// levels. `room` is a buffer for the bytes, to be used again.
+/// levels. `buffer` is for the bytes, to be used again.
 ///
 /// # Errors
 ///
@@ -39,13 +39,13 @@ pub fn read_item(
     line: &[u8],
     spelling: Spelling,
     limit: usize,
-    room: &mut Vec<u8>,
-) -> Result<Value, Refusal>
+    buffer: &mut Vec<u8>,
+) -> Result<Value, LineRefusal>
     ensures item { IfOk result (λ value. IsMeant spelling line.now limit (tree_of value)) }
     ensures refused { IfErr result (λ refusal. IsRefused spelling line.now limit refusal) }
 {
-    decode_line(line, room)?;
-    read_bytes(alloc, room, spelling, limit)
+    decode_line(line, buffer)?;
+    read_bytes(alloc, buffer, spelling, limit)
 }
 
 // The value of the bytes of a line, or why they are no item.
@@ -54,7 +54,7 @@ fn read_bytes(
     bytes: &[u8],
     spelling: Spelling,
     limit: usize,
-) -> Result<Value, Refusal>
+) -> Result<Value, LineRefusal>
     ensures item { IfOk result (λ value. IsItem spelling bytes.now limit (tree_of value)) }
     ensures refused { IfErr result (λ refusal. AreRefused spelling bytes.now limit refusal) }
 {
@@ -64,7 +64,7 @@ fn read_bytes(
             let mut rest = bytes;
             let value = read_front(alloc, &mut rest, spelling, limit)?;
             if !rest.is_empty() {
-                return Err(Refusal::Trailing(rest.len()));
+                return Err(LineRefusal::Trailing(rest.len()));
             }
             Ok(value)
         }
@@ -72,16 +72,16 @@ fn read_bytes(
 }
 
 // The value of the bytes in any spelling.
-fn read_slice(alloc: Global, bytes: &[u8], limit: usize) -> Result<Value, Refusal>
+fn read_slice(alloc: Global, bytes: &[u8], limit: usize) -> Result<Value, LineRefusal>
     ensures item { IfOk result (λ value. IsItem Any bytes.now limit (tree_of value)) }
     ensures refused { IfErr result (λ refusal. AreRefused Any bytes.now limit refusal) }
 {
     match from_slice_with_recursion_limit(alloc, bytes, limit) {
         Ok(value) => Ok(value),
         Err(error) => match find_end(&error) {
-            Some(end) => Err(Refusal::Trailing(bytes.len().saturating_sub(end))),
+            Some(end) => Err(LineRefusal::Trailing(bytes.len().saturating_sub(end))),
             // A slice has nothing left where `Io` is answered.
-            None => Err(name_refusal(error, true).unwrap_or(Refusal::Memory)),
+            None => Err(name_refusal(error, true).unwrap_or(LineRefusal::Memory)),
         },
     }
 }
@@ -108,7 +108,7 @@ pub fn read_front(
     rest: &mut &[u8],
     spelling: Spelling,
     limit: usize,
-) -> Result<Value, Refusal>
+) -> Result<Value, LineRefusal>
     ensures item { IfOk result (λ value.
         HasItemBefore spelling rest.old.now limit (tree_of value) rest.new.now) }
     ensures refused { IfErr result (λ refusal.
@@ -117,28 +117,28 @@ pub fn read_front(
     match read_spelled(alloc, rest, spelling, limit) {
         Ok(value) => Ok(value),
         // Unreachable in practice: a slice does not fail before its end.
-        Err(error) => Err(name_refusal(error, rest.is_empty()).unwrap_or(Refusal::Memory)),
+        Err(error) => Err(name_refusal(error, rest.is_empty()).unwrap_or(LineRefusal::Memory)),
     }
 }
 
 /// The refusal that an error of reading a value stands for, where the reader is now at its end or
 /// not. There is none for `Io` before the end, since the device failed.
-pub fn name_refusal(error: Error<io::Error>, is_at_end: bool) -> Option<Refusal>
+pub fn name_refusal(error: Error<io::Error>, is_at_end: bool) -> Option<LineRefusal>
     requires { IsRefusedBy None error (λ _. Unit {0}) }
     ensures refused { IfSome result (λ refusal. StandsFor error is_at_end refusal) }
     ensures failed { IfNone result (IsReadIo error × (is_at_end ≡ false)) }
 {
     match error {
-        Error::Io(_) if is_at_end => Some(Refusal::Io),
+        Error::Io(_) if is_at_end => Some(LineRefusal::Io),
         Error::Io(_) => None,
-        Error::Memory => Some(Refusal::Memory),
-        Error::Syntax(offset) => Some(Refusal::Syntax(offset)),
+        Error::Memory => Some(LineRefusal::Memory),
+        Error::Syntax(offset) => Some(LineRefusal::Syntax(offset)),
         Error::Semantic(Some(offset), kind) => {
-            Some(Refusal::Semantic(offset, classify_kind(kind)))
+            Some(LineRefusal::Semantic(offset, classify_kind(kind)))
         }
         Error::Semantic(None, _) => unreachable!(),
-        Error::RecursionLimitExceeded => Some(Refusal::Nesting),
-        Error::TooLong => Some(Refusal::TooLong),
+        Error::RecursionLimitExceeded => Some(LineRefusal::Nesting),
+        Error::TooLong => Some(LineRefusal::TooLong),
     }
 }
 
@@ -183,7 +183,7 @@ fn classify_kind(kind: Kind) -> Reason
     }
 }
 
-/// Appends the encoding of a value in lower-case hex to a text. `room` is a buffer for the
+/// Appends the encoding of a value in lower-case hex to a text. `buffer` is for the
 /// encoding, to be used again.
 ///
 /// # Errors
@@ -191,15 +191,15 @@ fn classify_kind(kind: Kind) -> Reason
 /// `AllocError` where an allocation fails.
 pub fn push_encoding(
     value: &Value,
-    room: &mut Vec<u8>,
+    buffer: &mut Vec<u8>,
     text: &mut Vec<u8>,
 ) -> Result<(), AllocError>
     ensures { OnOk result
         (text.new.items ≡ text.old.items ++ encode_lower (encoding (tree_of value.now))) }
 {
-    room.clear();
-    if into_writer(value, room).is_err() {
+    buffer.clear();
+    if into_writer(value, buffer).is_err() {
         return Err(AllocError);
     }
-    push_digits(room, text)
+    push_digits(buffer, text)
 }

@@ -5,6 +5,7 @@
 
 mod answer;
 mod answering;
+mod buffers;
 mod command;
 mod digits;
 mod dumping;
@@ -21,7 +22,6 @@ mod notation;
 mod progress;
 mod reading;
 mod retrying;
-mod rooms;
 mod run;
 mod sequences;
 mod showing;

@@ -8,7 +8,7 @@ ghost use Rattle.cbor.specs.Answer.{refused_text, wants_memory};
 ghost use Rattle.cbor.specs.Forms.{formless_text};
 ghost use Rattle.cbor.specs.Sequence.{AreNoSequence, AreSequence, item_text, refused_item_text};
 
-use crate::answer::{Refusal, name_want};
+use crate::answer::{LineRefusal, name_want};
 use crate::items::{push_encoding, read_front};
 use crate::reading::Spelling;
 use ciborium::de::RECURSION_LIMIT;
@@ -17,7 +17,7 @@ use std::alloc::{AllocError, Global};
 use std::io::Write;
 
 /// Makes `text` the answer to the bytes of a line that is read as a sequence of items in any
-/// spelling, each within 256 levels, and says whether it is one. `room` is a buffer for the
+/// spelling, each within 256 levels, and says whether it is one. `buffer` is for the
 /// encodings, to be used again.
 ///
 /// # Errors
@@ -26,7 +26,7 @@ use std::io::Write;
 pub fn answer_items(
     alloc: Global,
     bytes: &[u8],
-    room: &mut Vec<u8>,
+    buffer: &mut Vec<u8>,
     text: &mut Vec<u8>,
 ) -> Result<bool, AllocError>
     ensures { IfOk result (λ is_ok. MatchBool is_ok (AreSequence bytes.now 256 text.new.items)
@@ -40,7 +40,7 @@ pub fn answer_items(
             return Ok(true);
         }
         match read_front(alloc, &mut rest, Spelling::Any, RECURSION_LIMIT) {
-            Ok(value) => push_item(&value, room, text)?,
+            Ok(value) => push_item(&value, buffer, text)?,
             Err(refusal) => {
                 write_refused_item(number, refusal, text)?;
                 return Ok(false);
@@ -52,11 +52,11 @@ pub fn answer_items(
 }
 
 // Puts a space and the encoding of the value in hex behind the text.
-fn push_item(value: &Value, room: &mut Vec<u8>, text: &mut Vec<u8>) -> Result<(), AllocError>
+fn push_item(value: &Value, buffer: &mut Vec<u8>, text: &mut Vec<u8>) -> Result<(), AllocError>
     ensures { OnOk result (text.new.items ≡ text.old.items ++ item_text (tree_of value.now)) }
 {
     text.push(b' ')?;
-    push_encoding(value, room, text)
+    push_encoding(value, buffer, text)
 }
 
 /// Makes `text` the answer to a sequence whose item of this number, counted from 1, is refused.
@@ -66,7 +66,7 @@ fn push_item(value: &Value, room: &mut Vec<u8>, text: &mut Vec<u8>) -> Result<()
 /// `AllocError` where an allocation fails, or failed for the item.
 pub fn write_refused_item(
     number: u64,
-    refusal: Refusal,
+    refusal: LineRefusal,
     text: &mut Vec<u8>,
 ) -> Result<(), AllocError>
     ensures { OnOk result ((wants_memory refusal ≡ false)

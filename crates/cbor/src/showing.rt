@@ -1,7 +1,7 @@
 //! How values are shown.
 
 ghost use Rattle.std.specs.Prelude.{◌≡◌, ◌⊎◌, ◌++◌, IfErr, IfOk, OnOk};
-ghost use Rattle.ciborium_value.specs.Taken.{gives, refuses};
+ghost use Rattle.ciborium_value.specs.Given.{gives, refuses};
 ghost use Rattle.ciborium_value.specs.View.{tree_of};
 ghost use Rattle.ciborium_value.specs.declared.kind.Kind.TheVariants.{DuplicateKey, TooLarge};
 ghost use Rattle.cbor.specs.Shown.{notation_text, shown_spelling, shown_text};
@@ -42,7 +42,7 @@ pub fn make_shown(value: &mut Value, showing: Showing) -> Result<(), Kind>
     }
 }
 
-/// Appends a value to a text in the way in which it is shown. `room` is a buffer for its encoding,
+/// Appends a value to a text in the way in which it is shown. `buffer` is for its encoding,
 /// to be used again.
 ///
 /// # Errors
@@ -51,14 +51,14 @@ pub fn make_shown(value: &mut Value, showing: Showing) -> Result<(), Kind>
 pub fn push_shown(
     value: &Value,
     showing: Showing,
-    room: &mut Vec<u8>,
+    buffer: &mut Vec<u8>,
     text: &mut Vec<u8>,
 ) -> Result<(), AllocError>
     ensures { OnOk result
         (text.new.items ≡ text.old.items ++ shown_text showing (tree_of value.now)) }
 {
     match showing {
-        Showing::Encoding(_) | Showing::Form(_) => push_encoding(value, room, text),
+        Showing::Encoding(_) | Showing::Form(_) => push_encoding(value, buffer, text),
         Showing::Notation(layout) => push_notation(value, layout, text),
     }
 }

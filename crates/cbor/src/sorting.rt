@@ -14,7 +14,7 @@ ghost use Rattle.cbor.specs.SortedLines.{refused_line_text};
 ghost use Rattle.cbor.specs.declared.sorting.Unsorted.TheVariants.{Unread};
 ghost use Rattle.cbor.specs.declared.reading.Spelling.TheVariants.{Any};
 
-use crate::answer::Refusal;
+use crate::answer::LineRefusal;
 use crate::fault::Fault;
 use crate::items::{push_encoding, read_item};
 use crate::lines::{put_text, read_line, send_waiting};
@@ -31,7 +31,7 @@ const MOST_IN_PLACE: usize = 20;
 #[derive(Debug)]
 enum Unsorted {
     // The line of this number, counted from 1, is the first that is no item.
-    Line(u64, Refusal),
+    Line(u64, LineRefusal),
     // The lines could not be read.
     Unread(Fault),
 }
@@ -147,13 +147,13 @@ fn read_values<R: Read>(alloc: Global, input: &mut R, limit: usize) -> Result<Ve
         return Err(Unsorted::Unread(Fault::Memory));
     };
     let mut line = Vec::new(alloc);
-    let mut room = Vec::new(alloc);
+    let mut buffer = Vec::new(alloc);
     let mut values = Vec::new(alloc);
     'lines: for number in 1..u64::MAX {
         if !read_line(&mut reader, &mut line)? {
             return Ok(values);
         }
-        match read_item(alloc, &line, Spelling::Any, limit, &mut room) {
+        match read_item(alloc, &line, Spelling::Any, limit, &mut buffer) {
             Ok(value) => {
                 if values.push(value).is_err() {
                     return Err(Unsorted::Unread(Fault::Memory));
@@ -187,11 +187,11 @@ fn put_values<W: Write>(
         OnOk result (append_known (W.contents output.new) waiting.new.items
         ≡ Some (w ++ flat_map hex_line (map tree_of values.now))) }
 {
-    let mut room = Vec::new(alloc);
+    let mut buffer = Vec::new(alloc);
     let mut text = Vec::new(alloc);
     for value in values {
         text.clear();
-        push_encoding(value, &mut room, &mut text)?;
+        push_encoding(value, &mut buffer, &mut text)?;
         put_text(&text, waiting, output)?;
         put_text(b"\n", waiting, output)?;
     }
@@ -199,7 +199,7 @@ fn put_values<W: Write>(
 }
 
 // Writes which line is no item, and why. It takes no memory, since an allocation may have failed.
-fn write_refusal<W: Write>(number: u64, refusal: Refusal, output: &mut W) -> Result<(), Fault>
+fn write_refusal<W: Write>(number: u64, refusal: LineRefusal, output: &mut W) -> Result<(), Fault>
     ensures { (w : List ℕ) → W.contents output.old ≡ Some w →
         OnOk result (W.contents output.new
         ≡ Some (w ++ text_line (refused_line_text number (refused_text refusal)))) }

@@ -21,7 +21,7 @@ ghost use Rattle.cbor.specs.Streams.{IsStreamShown, IsTaken, refused_line, shown
 ghost use Rattle.cbor.specs.declared.reading.Spelling.{Spelling};
 ghost use Rattle.cbor.specs.declared.reading.Spelling.TheVariants.{Any, Deterministic};
 
-use crate::answer::Refusal;
+use crate::answer::LineRefusal;
 use crate::fault::Fault;
 use crate::items::{name_refusal, read_front};
 use crate::lines::{put_text, send_waiting};
@@ -39,9 +39,9 @@ use std::io::{self, BufRead, BufReader, Read, Write};
 // What comes next in a stream.
 enum Next {
     // An item of so many bytes: its value, or why it is refused.
-    Item(Result<Value, Refusal>, usize),
+    Item(Result<Value, LineRefusal>, usize),
     // No well-formed item of at most 256 levels, and why what stands there is refused.
-    NoItem(Refusal),
+    NoItem(LineRefusal),
 }
 
 /// Shows each item of the input, which is a sequence as bytes, by a line on the output, and says
@@ -94,7 +94,7 @@ fn show_stream<R: Read + Drop, W: Write>(
         IfOk result (λ all. IsStreamShown place.now showing b limit w all
         (append_known (W.contents output.new) waiting.new.items)) }
 {
-    let mut room = Vec::new(alloc);
+    let mut buffer = Vec::new(alloc);
     let mut line = Vec::new(alloc);
     let spelling = shown_spelling(showing);
     let mut offset: usize = 0;
@@ -106,7 +106,15 @@ fn show_stream<R: Read + Drop, W: Write>(
             None => return Ok(all),
             Some(Next::Item(item, size)) => {
                 let is_shown = show_judged(
-                    item, place, showing, number, offset, &mut room, &mut line, waiting, output,
+                    item,
+                    place,
+                    showing,
+                    number,
+                    offset,
+                    &mut buffer,
+                    &mut line,
+                    waiting,
+                    output,
                 )?;
                 all &= is_shown;
                 // It fits in practice, as it does for a refusal: no device gives so many bytes.
@@ -159,7 +167,7 @@ fn take_held<R: Read>(
     reader: &mut BufReader<R>,
     spelling: Spelling,
     limit: usize,
-) -> Option<(Result<Value, Refusal>, usize)>
+) -> Option<(Result<Value, LineRefusal>, usize)>
     ensures item { (b : List ℕ) → reader_remaining R.remaining reader.old ≡ Some b →
         MatchOption result (reader_remaining R.remaining reader.new ≡ Some b)
         (λ item. IsFront spelling b limit item.0 item.1
@@ -177,7 +185,7 @@ fn find_item(
     held: &[u8],
     spelling: Spelling,
     limit: usize,
-) -> Option<(Result<Value, Refusal>, usize)>
+) -> Option<(Result<Value, LineRefusal>, usize)>
     ensures { IfSome result (λ item. IsFront spelling held.now limit item.0 item.1) }
 {
     let mut rest = held;
@@ -197,7 +205,7 @@ fn judge_item(
     item: &[u8],
     spelling: Spelling,
     limit: usize,
-) -> Result<Value, Refusal>
+) -> Result<Value, LineRefusal>
     ensures { AreItem item.now → IsJudged spelling item.now limit result }
 {
     let mut rest = item;
@@ -293,7 +301,7 @@ fn read_next<R: Read>(
     reader: &mut R,
     spelling: Spelling,
     limit: usize,
-) -> Result<Result<(Value, usize), Refusal>, Fault>
+) -> Result<Result<(Value, usize), LineRefusal>, Fault>
     ensures { (b : List ℕ) → R.remaining reader.old ≡ Some b →
         IfOk result (λ next.
         IsReadNext spelling b limit (R.remaining reader.new) next) }
@@ -309,7 +317,7 @@ fn read_any<R: Read>(
     alloc: Global,
     reader: &mut R,
     limit: usize,
-) -> Result<Result<(Value, usize), Refusal>, Fault>
+) -> Result<Result<(Value, usize), LineRefusal>, Fault>
     ensures { (b : List ℕ) → R.remaining reader.old ≡ Some b →
         IfOk result (λ next.
         IsReadNext Any b limit (R.remaining reader.new) next) }
@@ -332,7 +340,7 @@ fn read_deterministic<R: Read>(
     reader: &mut R,
     limit: usize,
     order: KeyOrder,
-) -> Result<Result<(Value, usize), Refusal>, Fault>
+) -> Result<Result<(Value, usize), LineRefusal>, Fault>
     ensures { (b : List ℕ) → R.remaining reader.old ≡ Some b →
         IfOk result (λ next. IsReadNext (Deterministic order) b limit
         (R.remaining reader.new) next) }
@@ -350,7 +358,7 @@ fn read_deterministic<R: Read>(
 }
 
 // The refusal that an error of reading an item stands for, where the device did not fail.
-fn judge_error<R: Read>(error: Error<io::Error>, reader: &mut R) -> Result<Refusal, Fault>
+fn judge_error<R: Read>(error: Error<io::Error>, reader: &mut R) -> Result<LineRefusal, Fault>
     requires { IsRefusedBy None error (λ _. Unit {0}) }
     ensures { (spelling : Spelling) (b left : List ℕ) (limit : ℕ) →
         R.remaining reader.old ≡ Some left →
@@ -365,14 +373,14 @@ fn judge_error<R: Read>(error: Error<io::Error>, reader: &mut R) -> Result<Refus
 }
 
 // Puts the line of an item that was judged behind the texts that wait, and says whether the item is
-// shown. `room` and `line` are buffers for its encoding and for the line, to be used again.
+// shown. `buffer` and `line` are buffers for its encoding and for the line, to be used again.
 fn show_judged<W: Write>(
-    item: Result<Value, Refusal>,
+    item: Result<Value, LineRefusal>,
     place: &[u8],
     showing: Showing,
     number: u64,
     offset: usize,
-    room: &mut Vec<u8>,
+    buffer: &mut Vec<u8>,
     line: &mut Vec<u8>,
     waiting: &mut Vec<u8>,
     output: &mut W,
@@ -389,7 +397,7 @@ fn show_judged<W: Write>(
                 show_formless(place, number, kind, line, waiting, output)?;
                 return Ok(false);
             }
-            show_item(&value, showing, room, line, waiting, output)?;
+            show_item(&value, showing, buffer, line, waiting, output)?;
             Ok(true)
         }
         Err(refusal) => {
@@ -399,12 +407,12 @@ fn show_judged<W: Write>(
     }
 }
 
-// Puts the line of an item behind the texts that wait. `room` and `line` are buffers for its
+// Puts the line of an item behind the texts that wait. `buffer` and `line` are buffers for its
 // encoding and for the line, to be used again.
 fn show_item<W: Write>(
     value: &Value,
     showing: Showing,
-    room: &mut Vec<u8>,
+    buffer: &mut Vec<u8>,
     line: &mut Vec<u8>,
     waiting: &mut Vec<u8>,
     output: &mut W,
@@ -414,7 +422,7 @@ fn show_item<W: Write>(
         ≡ Some (w ++ shown_line showing (tree_of value.now))) }
 {
     line.clear();
-    push_shown(value, showing, room, line)?;
+    push_shown(value, showing, buffer, line)?;
     put_line(line, waiting, output)
 }
 
@@ -424,7 +432,7 @@ fn show_refused<W: Write>(
     place: &[u8],
     number: u64,
     offset: usize,
-    refusal: Refusal,
+    refusal: LineRefusal,
     line: &mut Vec<u8>,
     waiting: &mut Vec<u8>,
     output: &mut W,

@@ -2,7 +2,7 @@
 pub mod EnteredContainers
 pub mod NextParts
 pub mod NullAhead
-pub mod HeldLevels
+pub mod DueLevels
 pub mod NamedVariants
 pub mod Labels
 pub mod ByteItems

@@ -4,7 +4,7 @@ use Rattle.std.specs.Io.KnownBytes.{Appends}
 use Rattle.ciborium_value.specs.DeterministicForms.{deterministic_form}
 use Rattle.ciborium_value.specs.Encoding.{encoding, item_of, written_tree}
 use Rattle.ciborium_value.specs.Sinks.{Named, Cause, value, memory, device}
-use Rattle.ciborium_value.specs.Taken.{Outcome, gives, refuses}
+use Rattle.ciborium_value.specs.Given.{Outcome, gives, refuses}
 use Rattle.ciborium_value.specs.Tree.{Tree}
 use Rattle.ciborium_value.specs.WrittenItems.{IsWritten}
 use Rattle.ciborium_value.specs.declared.key_order.KeyOrder.{KeyOrder}

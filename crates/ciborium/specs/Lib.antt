@@ -61,10 +61,10 @@ pub use Rattle.ciborium_value.specs.WrittenItems
 pub use Rattle.ciborium_value.specs.Places
 pub use Rattle.ciborium_value.specs.Sinks
 pub use Rattle.ciborium_value.specs.Progress
-pub use Rattle.ciborium_value.specs.Taken
+pub use Rattle.ciborium_value.specs.Given
 pub use Rattle.ciborium_value.specs.Ahead
 pub use Rattle.ciborium_value.specs.Sources
-pub use Rattle.ciborium_value.specs.TakenParts
+pub use Rattle.ciborium_value.specs.GivenParts
 pub use Rattle.ciborium_value.specs.EnteredSequences
 pub use Rattle.ciborium_value.specs.Readings
 pub use Rattle.ciborium_value.specs.TagReadings
@@ -76,7 +76,7 @@ pub use Rattle.ciborium_value.specs.NeverWritten
 pub use Rattle.ciborium_value.specs.WrittenContents
 pub use Rattle.ciborium_value.specs.Visits
 pub use Rattle.ciborium_value.specs.Deterministic
-pub use Rattle.ciborium_value.specs.CanonicalTrees
+pub use Rattle.ciborium_value.specs.DeterministicTrees
 pub use Rattle.ciborium_value.specs.DeterministicForms
 pub use Rattle.ciborium_value.specs.SameContents
 pub use Rattle.ciborium_value.specs.FormsReadBack

@@ -8,7 +8,7 @@ use Rattle.ciborium_value.specs.Readings.{Reading}
 use Rattle.ciborium_value.specs.Refuses.{Refuses}
 use Rattle.ciborium_value.specs.Sinks.{Named}
 use Rattle.ciborium_value.specs.Spelling.{deterministic}
-use Rattle.ciborium_value.specs.Taken.{gives, refuses}
+use Rattle.ciborium_value.specs.Given.{gives, refuses}
 use Rattle.ciborium_value.specs.Tree.{Tree}
 use Rattle.ciborium_value.specs.declared.key_order.KeyOrder.{KeyOrder}
 use Rattle.ciborium_value.specs.declared.kind.Kind.{Kind}
@@ -32,7 +32,7 @@ DifferAt b c k = (take k b ≡ take k c) × (take (suc k) b ≢ take (suc k) c)
 pub data RefusesSpelling {E : Type 0} (o : KeyOrder) (l : ℕ) (b : List ℕ) (k : ℕ) :
     Error E → Type 0 where
   differs : RefusesSpelling o l b k (Semantic (Some k) NotDeterministic)
-  spelled : (p : ℕ) (kind : Kind) (name : refusal.Kind) → refusal_kind_of kind ≡ Some name →
+  spelled : (p : ℕ) (kind : Kind) (name : refusal.SemanticKind) → refusal_kind_of kind ≡ Some name →
       Refuses (deterministic o) b 0 (Some l) (refusal.semantic p name) →
       RefusesSpelling o l b k (Semantic (Some p) kind)
 

@@ -20,7 +20,7 @@ use Rattle.ciborium.specs.inner.ByteSources.{HasTakenSince, IsUnread, ReadsValue
 use Rattle.ciborium.specs.inner.ByteSources.{fault_at}
 use Rattle.ciborium.specs.Errors.{fault_of}
 use Rattle.ciborium_value.specs.Spelling.{any}
-use Rattle.ciborium.specs.TypedAnswers.{RefusesTaken, TakesBeginning, TakesGiven}
+use Rattle.ciborium.specs.TypedAnswers.{RefusesGiven, TakesBeginning, TakesGiven}
 use Rattle.ciborium.specs.ValueAnswers.{TakesBytes}
 use Rattle.ciborium.specs.ValueClauses.{ReadsWhole}
 
@@ -71,7 +71,7 @@ pub record ReadsNextFrom {T A E : Type 0} (can_fail : Bool) (p l : ℕ) (reading
   pub end : End
   pub ok : Otherwise r (λ q. TakesGiven (Some l) reading.taken before after
       (read_as reading.content q))
-  pub refused : Otherwise r (λ q. RefusesTaken p (Some l) reading.taken before
+  pub refused : Otherwise r (λ q. RefusesGiven p (Some l) reading.taken before
       (left_at_failure can_fail after) (read_as reading.content q))
   pub memory : IfErr r (λ e. IsGrantedFault (fault_of (left_at_failure can_fail after) e)
       reading.needs_memory)

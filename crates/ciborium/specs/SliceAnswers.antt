@@ -6,7 +6,7 @@ use Rattle.ciborium_ll.specs.Spells.{Spells}
 use Rattle.ciborium_value.specs.Readings.{Reading}
 use Rattle.ciborium_value.specs.Sources.{IsFaultOf, IsGrantedFault}
 use Rattle.ciborium_value.specs.View.{read_as}
-use Rattle.ciborium_value.specs.Taken.{Taken, gives, outcome}
+use Rattle.ciborium_value.specs.Given.{Given, gives, outcome}
 use Rattle.ciborium_value.specs.Tree.{Tree}
 use Rattle.ciborium_value.specs.declared.kind.Kind.TheVariants.{TrailingData}
 use Rattle.ciborium.specs.Errors.{fault_of}
@@ -19,18 +19,18 @@ use Rattle.ciborium.specs.declared.de.error.Error.TheVariants.{Memory, Semantic}
 -- ---- by what an item gives
 
 -- at Ok all of the bytes are one item, which gives the answer
-abbrev pub IsAllTaken : {A E : Type 0} → ℕ → Taken A → List ℕ → Result A (Error E) → Type 0
+abbrev pub IsAllTaken : {A E : Type 0} → ℕ → Given A → List ℕ → Result A (Error E) → Type 0
 IsAllTaken l taken b r = IfOk r (λ v. (i : Item) × Spells b i ×
     (outcome (Some l) (taken i) ≡ gives v))
 
 -- bytes that are one item, which gives a value, answer it, unless memory was refused
-abbrev pub GivesAll : {A E : Type 0} → ℕ → Taken A → List ℕ → Result A (Error E) → Type 0
+abbrev pub GivesAll : {A E : Type 0} → ℕ → Given A → List ℕ → Result A (Error E) → Type 0
 GivesAll {A} l taken b r = (i : Item) (v : A) → Spells b i → outcome (Some l) (taken i) ≡ gives v →
     (r ≡ Ok v) ⊎ (r ≡ Err Memory)
 
 -- an item at the front is refused as it is; or it gives a value, bytes follow it, and they are
 -- refused where they begin
-abbrev pub RefusesAll : {A E : Type 0} → ℕ → Taken A → List ℕ → Result A (Error E) → Type 0
+abbrev pub RefusesAll : {A E : Type 0} → ℕ → Given A → List ℕ → Result A (Error E) → Type 0
 RefusesAll {A} l taken b r = IfErr r (λ e. (i : Item) (s left : List ℕ) → Spells s i →
     b ≡ s ++ left → IsFaultOf (length s) (fault_of (Some []) e) (outcome (Some l) (taken i)) ⊎
     ((left ≢ []) × ((v : A) × (outcome (Some l) (taken i) ≡ gives v)) ×

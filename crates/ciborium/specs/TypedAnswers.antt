@@ -13,7 +13,7 @@ use Rattle.ciborium_value.specs.Readings.{Reading}
 use Rattle.ciborium_value.specs.Sources.{Fault, of_kind, of_nesting, of_syntax, of_memory}
 use Rattle.ciborium_value.specs.Sources.{of_device, of_end, of_length, IsFaultOf, IsGrantedFault}
 use Rattle.ciborium_value.specs.View.{read_as}
-use Rattle.ciborium_value.specs.Taken.{Taken, gives, outcome}
+use Rattle.ciborium_value.specs.Given.{Given, gives, outcome}
 use Rattle.ciborium_value.specs.Tree.{Tree}
 use Rattle.ciborium_value.specs.TreeAnswers.{IsErrorOf}
 use Rattle.ciborium_value.specs.declared.kind.Kind.{Kind}
@@ -25,27 +25,27 @@ use Rattle.ciborium.specs.declared.de.error.Error.{Error}
 -- ---- from bytes: what the reader held before, what it is left with, and the answer
 
 -- an item stood at the front that gives v within the limit, and just that item was taken
-abbrev pub TakesGiving : {A : Type 0} → Limit → Taken A → List ℕ → A → Option (List ℕ) → Type 0
+abbrev pub TakesGiving : {A : Type 0} → Limit → Given A → List ℕ → A → Option (List ℕ) → Type 0
 TakesGiving l taken b v after = (i : Item) × (s : List ℕ) × (left : List ℕ) × Spells s i ×
     (b ≡ s ++ left) × (outcome l (taken i) ≡ gives v) × (after ≡ Some left)
 
 -- where an item stands at the front, at offset p, it is refused so, or for what no item decides: as
 -- too long only where its own bytes pass the greatest offset
-abbrev pub IsFaultAhead : {A : Type 0} → ℕ → Limit → Taken A → List ℕ → Fault → Type 0
+abbrev pub IsFaultAhead : {A : Type 0} → ℕ → Limit → Given A → List ℕ → Fault → Type 0
 IsFaultAhead p l taken b fault = (i : Item) (s left : List ℕ) → Spells s i → b ≡ s ++ left →
     IsFaultOf (p + length s) fault (outcome l (taken i))
 
 -- at Ok just an item was taken, and the answer is what it gives
-abbrev pub TakesGiven : {A E : Type 0} → Limit → Taken A → Option (List ℕ) → Option (List ℕ) →
+abbrev pub TakesGiven : {A E : Type 0} → Limit → Given A → Option (List ℕ) → Option (List ℕ) →
     Result A (Error E) → Type 0
 TakesGiven l taken before after r = (b : List ℕ) → before ≡ Some b →
     IfOk r (λ v. TakesGiving l taken b v after)
 
 -- an item at the front, at offset p, is refused only as it is, and with `Io` only where the device
 -- failed, not at the reader's end
-abbrev pub RefusesTaken : {A E : Type 0} → ℕ → Limit → Taken A → Option (List ℕ) →
+abbrev pub RefusesGiven : {A E : Type 0} → ℕ → Limit → Given A → Option (List ℕ) →
     Option (List ℕ) → Result A (Error E) → Type 0
-RefusesTaken p l taken before after r = (b : List ℕ) → before ≡ Some b →
+RefusesGiven p l taken before after r = (b : List ℕ) → before ≡ Some b →
     IfErr r (λ e. IsFaultAhead p l taken b (fault_of after e))
 
 -- some bytes were taken, a beginning of those that are known, and nothing else
@@ -61,7 +61,7 @@ pub record ReadsAsTypeFrom {T A E : Type 0} (can_fail : Bool) (p : ℕ) (l : Lim
   -- where an item stands at the front: just it was taken, and the answer is what it gives; or it is
   -- refused as the item is
   pub ok : TakesGiven l reading.taken before after (read_as reading.content r)
-  pub refused : RefusesTaken p l reading.taken before (left_at_failure can_fail after)
+  pub refused : RefusesGiven p l reading.taken before (left_at_failure can_fail after)
       (read_as reading.content r)
   pub memory : IfErr r (λ e. IsGrantedFault (fault_of (left_at_failure can_fail after) e)
       reading.needs_memory)
@@ -77,15 +77,15 @@ ReadsAsType p l reading before after P r = ReadsAsTypeFrom true p l reading befo
 -- ---- from both
 
 -- the answer of a source over a tree whose item is i, where there is no limit
-abbrev pub AnswersTree : {A : Type 0} → Taken A → Item → Result A TreeError → Type 0
+abbrev pub AnswersTree : {A : Type 0} → Given A → Item → Result A TreeError → Type 0
 AnswersTree taken i (Ok v) = outcome None (taken i) ≡ gives v
 AnswersTree taken i (Err e) = IsErrorOf e (outcome None (taken i))
 
 -- the answer of a reader over these bytes within a limit
-abbrev pub AnswersBytes : {A E : Type 0} → Taken A → ℕ → List ℕ → Option (List ℕ) →
+abbrev pub AnswersBytes : {A E : Type 0} → Given A → ℕ → List ℕ → Option (List ℕ) →
     Result A (Error E) → Type 0
 AnswersBytes taken l b after r = TakesGiven (Some l) taken (Some b) after r ×
-    RefusesTaken 0 (Some l) taken (Some b) after r
+    RefusesGiven 0 (Some l) taken (Some b) after r
 
 -- refused for nesting, for want of memory, as too long or by the device
 abbrev pub IsExcused : Fault → Type 0
@@ -118,7 +118,7 @@ AreOneAnswer after (Err (of_tree.Custom k)) (Err e) = IsSameKind k (fault_of aft
 AreOneAnswer after (Err of_tree.Memory) r = Unit {0}
 
 -- what a tree gives, and what its encoding gives within a limit, are one answer
-abbrev pub SourcesAgree : {A : Type 0} → Taken A → Type 0
+abbrev pub SourcesAgree : {A : Type 0} → Given A → Type 0
 SourcesAgree {A} taken =
     (v : Tree) (l : ℕ) (after : Option (List ℕ)) (r : Result A TreeError)
     (q : Result A (Error IoError)) →

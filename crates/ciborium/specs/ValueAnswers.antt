@@ -18,7 +18,7 @@ use Rattle.ciborium.specs.declared.de.error.Error.TheVariants.{RecursionLimitExc
 -- ---- refusals
 
 -- the kinds that reading a value names
-abbrev pub refusal_kind_of : Kind → Option refusal.Kind
+abbrev pub refusal_kind_of : Kind → Option refusal.SemanticKind
 refusal_kind_of kinds.Float = Some refusal.Float
 refusal_kind_of kinds.Simple = Some refusal.Simple
 refusal_kind_of kinds.Break = Some refusal.Break
@@ -30,7 +30,7 @@ refusal_kind_of kinds.KeyOrder = Some refusal.KeyOrder
 refusal_kind_of _ = None
 
 -- P holds of a refusal of a kind at an offset, and both are named
-abbrev pub IsNamed : Option ℕ → Option refusal.Kind → (Refusal → Type 0) → Type 0
+abbrev pub IsNamed : Option ℕ → Option refusal.SemanticKind → (Refusal → Type 0) → Type 0
 IsNamed (Some p) (Some k) P = P (refusal.semantic p k)
 IsNamed (Some p) None P = ⊥
 IsNamed None k P = ⊥

@@ -9,8 +9,8 @@ use Rattle.ciborium_value.specs.WrittenItems.{IsWritten}
 use Rattle.ciborium.specs.declared.ser.error.Error.{Error}
 use Rattle.ciborium.specs.declared.ser.error.Error.TheVariants.{Io, Value, Memory}
 use Rattle.ciborium.specs.declared.ser.byte_sink.ByteSink.{ByteSink}
-use Rattle.ciborium.specs.declared.ser.byte_sink.Refusal.{Refusal}
-use Rattle.ciborium.specs.declared.ser.byte_sink.Refusal.TheVariants as refusal
+use Rattle.ciborium.specs.declared.ser.byte_sink.BareWriteError.{BareWriteError}
+use Rattle.ciborium.specs.declared.ser.byte_sink.BareWriteError.TheVariants as refusal
 
 -- the error is `Io`; of which error it holds nothing is said
 abbrev pub IsWriteIo : {T : Type 0} → Error T → Type 0
@@ -68,7 +68,7 @@ PutsOut contents old new result bytes = Writes (contents old.writer.now) (conten
 abbrev pub IsOutFor : {W : Type 0} → (W → Option (List ℕ)) → ByteSink W → Place → Type 0
 IsOutFor contents s p = IsOutAt (out_of contents s) p × IsWrittenPlace p
 
-abbrev pub refusal_cause : Refusal → Cause
+abbrev pub refusal_cause : BareWriteError → Cause
 refusal_cause refusal.Io = device
 refusal_cause (refusal.Value kind) = value kind
 refusal_cause refusal.Memory = memory

@@ -18,8 +18,8 @@ ghost use Rattle.ciborium.specs.laws.FormRoundTrips.{FormIsReadBack, IsFormConte
 ghost use Rattle.ciborium.specs.laws.FormRoundTrips.{IsFormContentReadBack, IsFormReadAlike};
 ghost use Rattle.ciborium.specs.laws.FormRoundTrips.{IsFormReadBack, IsOwnForm};
 ghost use Rattle.ciborium.specs.ItemSequences.{OneSequence};
-ghost use Rattle.ciborium.specs.laws.Loaded.{AreCanonicalParts, IsContentLoaded};
-ghost use Rattle.ciborium.specs.laws.Loaded.{IsDeterministicStore, IsStoreHeld};
+ghost use Rattle.ciborium.specs.laws.Loaded.{AreDeterministicParts, IsContentLoaded};
+ghost use Rattle.ciborium.specs.laws.Loaded.{IsDeterministicStore, IsStoreValid};
 ghost use Rattle.ciborium.specs.laws.Loaded.{IsSavedLoaded, LoadedAsSaved, LoadingGivesContent};
 ghost use Rattle.ciborium.specs.laws.Loaded.{OneEncoding, SavedIsLoaded};
 ghost use Rattle.ciborium.specs.laws.RoundTrips.{AreRefusedAlike, BytesReadBack, BytesWrittenAgain};
@@ -129,9 +129,10 @@ pub fn bytewise_keys_rise<V: Serialize>(map: &BTreeMap<BytewiseValue, V>) -> usi
 pub fn store_is_deterministic<O: EncodingOrder>(store: &BTreeMap<OrderedValue<O>, Value>) -> usize
     ensures accepted { IsNamedWritten (container_of dictionary
         (in_turn named_value named_value store.now.entries)) →
-        AreCanonicalParts O.order store.now.entries →
+        AreDeterministicParts O.order store.now.entries →
         IsDeterministicStore O.order store.now.entries }
-    ensures held { AreCanonicalParts O.order store.now.entries → IsStoreHeld O.order store.now }
+    ensures valid { AreDeterministicParts O.order store.now.entries →
+        IsStoreValid O.order store.now }
     ensures count { result ≡ length store.now.entries }
 {
     store.len()
@@ -142,9 +143,9 @@ pub fn store_is_deterministic<O: EncodingOrder>(store: &BTreeMap<OrderedValue<O>
 /// them, and `deserialized` makes the value's content from the result, unless the reader or an
 /// allocation failed (RFC 8949, section 4.2). It rests on the type's own law (`ReadsBack`).
 pub fn loaded_as_saved<T: ReadsBack>()
-    ensures loaded { LoadedAsSaved T.is_held T.written T.reading }
+    ensures loaded { LoadedAsSaved T.is_valid T.written T.reading }
     // The same of what was returned, as a caller has it after its calls.
-    ensures loading_gives { LoadingGivesContent T.is_held T.written T.reading }
+    ensures loading_gives { LoadingGivesContent T.is_valid T.written T.reading }
 {}
 
 /// The same for one value that was saved and loaded. Where `bytes` are what `into_writer` wrote of
@@ -161,10 +162,10 @@ pub fn is_loaded<T: ReadsBack>(
     bytes: &[u8],
     rest: &[u8],
 )
-    ensures loaded { IsContentLoaded LengthFirst T.is_held T.written T.reading limit value.now
+    ensures loaded { IsContentLoaded LengthFirst T.is_valid T.written T.reading limit value.now
         tree.now again.now bytes.now rest.now }
     // The same of `from_reader_deterministic_with_order`, whatever the order that it was given.
-    ensures either { (order : KeyOrder) → IsContentLoaded order T.is_held T.written T.reading limit
+    ensures either { (order : KeyOrder) → IsContentLoaded order T.is_valid T.written T.reading limit
         value.now tree.now again.now bytes.now rest.now }
 {}
 
@@ -179,7 +180,7 @@ pub fn one_encoding<T: WritesContent>()
 /// memory is refused, or reading of these bytes takes more levels than the limit (RFC 8949, section
 /// 4.2). It rests on the type's own laws (`FormReadsBack` and `WritesContent`).
 pub fn saved_is_loaded<T: FormReadsBack + WritesContent>()
-    ensures { SavedIsLoaded T.is_held T.written T.reading }
+    ensures { SavedIsLoaded T.is_valid T.written T.reading }
 {}
 
 /// The same for one value that was saved and loaded. Where `bytes` are what
@@ -193,7 +194,7 @@ pub fn is_saved_loaded<T: FormReadsBack>(
     limit: usize,
     bytes: &[u8],
 )
-    ensures { IsSavedLoaded T.is_held T.written T.reading order limit
+    ensures { IsSavedLoaded T.is_valid T.written T.reading order limit
         value.now again.now bytes.now }
 {}
 
@@ -242,9 +243,9 @@ pub fn written_deterministically_is_read_back<T: ReadsBack>(
     bytes: &[u8],
     rest: &[u8],
 )
-    ensures alike { IsFormContentReadBack (IsFormReadAlike T.reading.taken order) T.is_held
+    ensures alike { IsFormContentReadBack (IsFormReadAlike T.reading.taken order) T.is_valid
         T.written T.reading order limit value.now again.now bytes.now rest.now }
-    ensures own { IsFormContentReadBack (IsOwnForm order) T.is_held T.written T.reading order limit
+    ensures own { IsFormContentReadBack (IsOwnForm order) T.is_valid T.written T.reading order limit
         value.now again.now bytes.now rest.now }
 {}
 
@@ -262,7 +263,7 @@ pub fn form_gives_content<T: FormReadsBack>(
     bytes: &[u8],
     rest: &[u8],
 )
-    ensures { IsFormContentGiven T.is_held T.written T.reading order limit
+    ensures { IsFormContentGiven T.is_valid T.written T.reading order limit
         value.now again.now bytes.now rest.now }
 {}
 
@@ -299,10 +300,10 @@ pub fn sources_agree<T: Deserialize>()
 /// value gives its content by `deserialized`, which fails only where an allocation fails. It rests
 /// on the type's own law (`ReadsBack`).
 pub fn written_is_read_back<T: ReadsBack>()
-    ensures bytes { BytesReadBack T.is_held T.written T.reading T.levels }
-    ensures tree { TreeReadBack T.is_held T.written T.reading }
+    ensures bytes { BytesReadBack T.is_valid T.written T.reading T.levels }
+    ensures tree { TreeReadBack T.is_valid T.written T.reading }
     // The same of what was returned, as a caller has it after its calls.
-    ensures tree_gives { TreeGivesContent T.is_held T.written T.reading }
+    ensures tree_gives { TreeGivesContent T.is_valid T.written T.reading }
 {}
 
 /// The same for one value that was written and read. Where `bytes` are what `into_writer` wrote of
@@ -310,7 +311,7 @@ pub fn written_is_read_back<T: ReadsBack>()
 /// contents of `value` and `again` are equal. A caller that writes and reads calls this after its
 /// other calls, and needs no proof file.
 pub fn is_read_back<T: ReadsBack>(value: &T, again: &T, limit: usize, bytes: &[u8], rest: &[u8])
-    ensures { IsContentReadBack T.is_held T.written T.reading T.levels limit
+    ensures { IsContentReadBack T.is_valid T.written T.reading T.levels limit
         value.now again.now bytes.now rest.now }
 {}
 
@@ -320,7 +321,7 @@ pub fn is_read_back<T: ReadsBack>(value: &T, again: &T, limit: usize, bytes: &[u
 /// allocation fails, or the bytes of one item pass the greatest offset. It rests on the type's own
 /// law (`ReadsBack`).
 pub fn sequence_is_read_back<T: ReadsBack>()
-    ensures { SequenceReadsBack T.is_held T.written T.reading T.levels }
+    ensures { SequenceReadsBack T.is_valid T.written T.reading T.levels }
 {}
 
 /// The same for one list that was written and read. Where `bytes` are what `write_sequence` wrote
@@ -328,7 +329,7 @@ pub fn sequence_is_read_back<T: ReadsBack>()
 /// `values` and `again` are equal. A caller that writes and reads calls this after its other calls,
 /// and needs no proof file.
 pub fn are_read_back<T: ReadsBack>(values: &[T], again: &Vec<T>, bytes: &[u8], rest: &[u8])
-    ensures { AreContentsReadBack T.is_held T.written T.reading T.levels
+    ensures { AreContentsReadBack T.is_valid T.written T.reading T.levels
         values.now again.now.items bytes.now rest.now }
 {}
 
@@ -346,8 +347,8 @@ pub fn equal_contents_equal_bytes<T: WritesContent>()
 /// value with the content that reading the bytes or the tree of a value gives, where the limit
 /// leaves as many levels as reading takes (`ReadsBack`).
 pub fn read_back_is_written_again<T: ReadsBack + WritesContent>()
-    ensures bytes { BytesWrittenAgain T.is_held T.written T.reading T.levels }
-    ensures tree { TreeWrittenAgain T.is_held T.written T.reading }
+    ensures bytes { BytesWrittenAgain T.is_valid T.written T.reading T.levels }
+    ensures tree { TreeWrittenAgain T.is_valid T.written T.reading }
 {}
 
 /// No bytes are two sequences (RFC 8742, section 2): the items need nothing between them that says

@@ -5,7 +5,7 @@ ghost use Rattle.ciborium_value.specs.Sinks.{IsGranted, IsOwed};
 ghost use Rattle.ciborium.specs.Writes.{IsNamedWritten, IsWrittenAs, RefusesToWrite, WritesNamed};
 ghost use Rattle.ciborium.specs.Writes.{cause_of};
 
-use byte_sink::{ByteSink, Refusal};
+use byte_sink::{BareWriteError, ByteSink};
 pub use ciborium_value::{Array, Field, Item, Kind, MaybeField, NoField, NoItem, Serialize, Sink};
 pub use deterministic::{into_writer_deterministic, write_deterministic_value};
 pub use error::Error;
@@ -44,9 +44,9 @@ pub fn into_writer<T: Serialize, W: Write>(
     let mut sink = ByteSink::new(writer);
     match value.serialize(&mut sink) {
         Ok(()) => Ok(()),
-        Err(Refusal::Io) => Err(Error::Io(sink.take_failure())),
-        Err(Refusal::Value(kind)) => Err(Error::Value(kind)),
-        Err(Refusal::Memory) => Err(Error::Memory),
+        Err(BareWriteError::Io) => Err(Error::Io(sink.take_failure())),
+        Err(BareWriteError::Value(kind)) => Err(Error::Value(kind)),
+        Err(BareWriteError::Memory) => Err(Error::Memory),
     }
 }
 

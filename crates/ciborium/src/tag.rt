@@ -153,49 +153,49 @@ impl<V: Key, const TAG: u64> Key for Accepted<V, TAG> {
 /// A value without a tag around it is read back only where the item that is written for it has no
 /// tag of its own, as a bignum has. Always uses one level, with or without a tag.
 impl<V: ReadsBack> ReadsBack for Captured<V> {
-    ghost is_held = { λ c. IsToldApart c.0 (V.written c.1) × V.is_held c.1 };
+    ghost is_valid = { λ c. IsToldApart c.0 (V.written c.1) × V.is_valid c.1 };
 
     ghost levels = { λ c. suc (V.levels c.1) };
 
-    ghost reads_back = { λ c held. captured-back c.0 held.0 (V.reads_back c.1 held.1) };
+    ghost reads_back = { λ c valid. captured-back c.0 valid.0 (V.reads_back c.1 valid.1) };
 }
 
 /// The tag always uses one level.
 impl<V: ReadsBack, const TAG: u64> ReadsBack for Required<V, TAG> {
-    ghost is_held = { λ r. V.is_held r.0 };
+    ghost is_valid = { λ r. V.is_valid r.0 };
 
     ghost levels = { λ r. suc (V.levels r.0) };
 
-    ghost reads_back = { λ r held. required-back TAG (V.reads_back r.0 held) };
+    ghost reads_back = { λ r valid. required-back TAG (V.reads_back r.0 valid) };
 }
 
 /// The tag always uses one level.
 impl<V: ReadsBack, const TAG: u64> ReadsBack for Accepted<V, TAG> {
-    ghost is_held = { λ a. V.is_held a.0 };
+    ghost is_valid = { λ a. V.is_valid a.0 };
 
     ghost levels = { λ a. suc (V.levels a.0) };
 
-    ghost reads_back = { λ a held. accepted-back TAG (V.reads_back a.0 held) };
+    ghost reads_back = { λ a valid. accepted-back TAG (V.reads_back a.0 valid) };
 }
 
 /// For a content that no tag makes a bignum of.
 impl<V: FormReadsBack + NeverWrites<ByteString>> FormReadsBack for Captured<V> {
-    ghost form_reads_back = { λ o c held. captured-form o
-        c.0 held.0 (whatever_tag (V.never c.1) c.0) (V.form_reads_back o c.1 held.1) };
+    ghost form_reads_back = { λ o c valid. captured-form o
+        c.0 valid.0 (whatever_tag (V.never c.1) c.0) (V.form_reads_back o c.1 valid.1) };
 }
 
 /// For a content that no tag makes a bignum of.
 impl<V: FormReadsBack + NeverWrites<ByteString>, const TAG: u64> FormReadsBack
     for Required<V, TAG> {
-    ghost form_reads_back = { λ o r held. required-form o
-        TAG (not_bytes (V.never r.0) TAG) (V.form_reads_back o r.0 held) };
+    ghost form_reads_back = { λ o r valid. required-form o
+        TAG (not_bytes (V.never r.0) TAG) (V.form_reads_back o r.0 valid) };
 }
 
 /// For a content that no tag makes a bignum of.
 impl<V: FormReadsBack + NeverWrites<ByteString>, const TAG: u64> FormReadsBack
     for Accepted<V, TAG> {
-    ghost form_reads_back = { λ o a held. accepted-form o
-        TAG (not_bytes (V.never a.0) TAG) (V.form_reads_back o a.0 held) };
+    ghost form_reads_back = { λ o a valid. accepted-form o
+        TAG (not_bytes (V.never a.0) TAG) (V.form_reads_back o a.0 valid) };
 }
 
 impl<V: Described> Described for Captured<V> {

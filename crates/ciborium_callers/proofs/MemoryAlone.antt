@@ -5,7 +5,7 @@ use Rattle.ciborium.specs.Sinks.{Named}
 use Rattle.ciborium.specs.SliceAnswers.{GivesAll}
 use Rattle.ciborium.specs.View.{read_as}
 use Rattle.ciborium.specs.Spells.{Spells}
-use Rattle.ciborium.specs.Taken.{Taken}
+use Rattle.ciborium.specs.Given.{Given}
 use Rattle.ciborium.specs.Writes.{IsWrittenAs}
 use Rattle.ciborium.specs.WrittenItems.{WrittenSpells}
 use Rattle.ciborium.specs.declared.de.error.Error.{Error}
@@ -40,7 +40,7 @@ content f v (Err e) h = tt
 
 -- the bytes that a value is written as give its content
 pub of_written :
-    {E A : Type 0} (named : Named) (taken : Taken A) (c : A) (n : ℕ) (b : List ℕ) (r : Result A (Error E)) →
+    {E A : Type 0} (named : Named) (taken : Given A) (c : A) (n : ℕ) (b : List ℕ) (r : Result A (Error E)) →
     WrittenSpells → IsNameRead named taken c n → n ≤ 256 → IsWrittenAs b named → GivesAll 256 taken b r → Answers c r
 of_written (Ok i) taken c n b r spells back fits (is, written) answers =
     answers i c (subst (λ x. Spells x i) (sym is) (spells i written)) (back.back by_bytes i refl (Some 256) fits)

@@ -7,7 +7,7 @@ use Rattle.ciborium.specs.Encoding.{item_of, items_of, written_tree, written_tre
 use Rattle.ciborium.specs.Folded.{folded, trees_folded}
 use Rattle.ciborium.specs.Meaning.{trees_more}
 use Rattle.ciborium.specs.Number.{number_tree}
-use Rattle.ciborium.specs.Taken.{gives, outcome_map}
+use Rattle.ciborium.specs.Given.{gives, outcome_map}
 use Rattle.ciborium.specs.Tree as trees
 use Rattle.ciborium.specs.Tree.{Tree, Trees}
 use Rattle.ciborium.specs.View.{trees_from}

@@ -15,9 +15,9 @@ use std::io;
 /// Records come back from a tree, headers from the bytes as which they are saved, and a list of
 /// headers that may be missing has one encoding.
 pub fn described_come_back()
-    ensures records { TreeReadBack ⟦<Record as ReadsBack>⟧.is_held ⟦<Record as Serialize>⟧.written
+    ensures records { TreeReadBack ⟦<Record as ReadsBack>⟧.is_valid ⟦<Record as Serialize>⟧.written
         ⟦<Record as Deserialize>⟧.reading }
-    ensures headers { SavedIsLoaded ⟦<KeyHeader as ReadsBack>⟧.is_held
+    ensures headers { SavedIsLoaded ⟦<KeyHeader as ReadsBack>⟧.is_valid
         ⟦<KeyHeader as Serialize>⟧.written ⟦<KeyHeader as Deserialize>⟧.reading }
     ensures lists { OneEncoding ⟦<Vec<Option<KeyHeader>> as Serialize>⟧.written
         ⟦<Vec<Option<KeyHeader>> as Deserialize>⟧.reading }
@@ -29,7 +29,7 @@ pub fn described_come_back()
 
 /// A header through its bytes: it comes back with its content, or memory is refused.
 pub fn header_again(alloc: Global, header: &KeyHeader) -> Result<KeyHeader, de::Error<io::Error>>
-    requires held { ⟦<KeyHeader as ReadsBack>⟧.is_held header.now }
+    requires valid { ⟦<KeyHeader as ReadsBack>⟧.is_valid header.now }
     requires levels { ⟦<KeyHeader as ReadsBack>⟧.levels header.now ≤ 256 }
     ensures ok { IfOk result (λ again. ⟦<KeyHeader as Deserialize>⟧.reading.content again
         ≡ ⟦<KeyHeader as Deserialize>⟧.reading.content header.now) }

@@ -3,13 +3,13 @@
 ghost use Rattle.std.specs.Prelude.{◌<◌, ◌^◌, ◌≡◌, ◌≤◌, IfErr, IfOk, IfSome, List};
 ghost use Rattle.std.specs.Prelude.{string_bytes, ℕ};
 ghost use Rattle.std.specs.Io.KnownBytes.{Appends, Consumes};
-ghost use Rattle.ciborium.specs.Taken.{gives};
+ghost use Rattle.ciborium.specs.Given.{gives};
 ghost use Rattle.ciborium.specs.View.{tree_of};
 ghost use Rattle.ciborium.specs.DeterministicWrites.{named_form};
 ghost use Rattle.ciborium_value.specs.declared.key_order.KeyOrder.TheVariants.{LengthFirst};
 ghost use Rattle.ciborium.specs.declared.de.error.Error.TheVariants.{Memory};
 ghost use Rattle.ciborium.specs.laws.FormRoundTrips.{IsOwnForm};
-ghost use Rattle.ciborium.specs.laws.Loaded.{AreCanonicalParts, entry_trees};
+ghost use Rattle.ciborium.specs.laws.Loaded.{AreDeterministicParts, entry_trees};
 
 use crate::own_types::Message;
 use ciborium::de::{self, from_reader_deterministic, from_reader_deterministic_with_order};
@@ -27,7 +27,7 @@ use std::io::{self, Read, Write};
 
 /// Through bytes.
 pub fn through_bytes<T: ReadsBack>(alloc: Global, value: &T) -> Option<T>
-    requires held { T.is_held value.now }
+    requires valid { T.is_valid value.now }
     requires levels { T.levels value.now ≤ 256 }
     ensures { IfSome result (λ again.
         T.reading.content again ≡ T.reading.content value.now) }
@@ -48,7 +48,7 @@ pub fn through_bytes<T: ReadsBack>(alloc: Global, value: &T) -> Option<T>
 /// Through a list of bytes, all of which are read again. A value that has an item is refused for
 /// want of memory alone.
 pub fn through_vec<T: ReadsBack>(alloc: Global, value: &T) -> Result<T, de::Error<io::Error>>
-    requires held { T.is_held value.now }
+    requires valid { T.is_valid value.now }
     requires levels { T.levels value.now ≤ 256 }
     ensures ok { IfOk result (λ again. T.reading.content again ≡ T.reading.content value.now) }
     ensures refused { IfOk (T.written value.now) (λ i. IfErr result (λ e. e ≡ Memory)) }
@@ -63,7 +63,7 @@ pub fn through_vec<T: ReadsBack>(alloc: Global, value: &T) -> Result<T, de::Erro
 
 /// Through a `Value`.
 pub fn through_tree<T: ReadsBack>(alloc: Global, value: &T) -> Result<T, Error>
-    requires { T.is_held value.now }
+    requires { T.is_valid value.now }
     ensures { IfOk result (λ again. T.reading.content again ≡ T.reading.content value.now) }
 {
     written_is_read_back::<T>();
@@ -77,7 +77,7 @@ pub fn through_store(
     alloc: Global,
     store: &BTreeMap<CanonicalValue, Value>,
 ) -> Option<BTreeMap<CanonicalValue, Value>>
-    requires parts { AreCanonicalParts LengthFirst store.now.entries }
+    requires parts { AreDeterministicParts LengthFirst store.now.entries }
     ensures { IfSome result
         (λ again. entry_trees again.entries ≡ entry_trees store.now.entries) }
 {
@@ -119,7 +119,7 @@ pub fn through_form<T: Serialize>(alloc: Global, value: &T, order: KeyOrder) -> 
 
 /// The same as the type of the value, to which the order of pairs makes no difference.
 pub fn through_sorted_form<T: FormReadsBack>(alloc: Global, value: &T, order: KeyOrder) -> Option<T>
-    requires { T.is_held value.now }
+    requires { T.is_valid value.now }
     ensures { IfSome result (λ again.
         T.reading.content again ≡ T.reading.content value.now) }
 {
@@ -138,7 +138,7 @@ pub fn through_sorted_form<T: FormReadsBack>(alloc: Global, value: &T, order: Ke
 
 /// The same as the type of the value, where what it names is its own form.
 pub fn through_own_form<T: ReadsBack>(alloc: Global, value: &T, order: KeyOrder) -> Option<T>
-    requires held { T.is_held value.now }
+    requires valid { T.is_valid value.now }
     requires own { IsOwnForm order (T.written value.now) }
     ensures { IfSome result (λ again.
         T.reading.content again ≡ T.reading.content value.now) }

@@ -106,7 +106,7 @@ pub fn read_all_messages<T: Deserialize, R: Read>(
 /// back is what counts of each message, in order: by the law of the library, of each type that is
 /// read back as it is written.
 pub fn keep_all_messages<T: ReadsBack>(alloc: Global, messages: &[T]) -> Option<Vec<T>>
-    requires held { All T.is_held messages.now }
+    requires valid { All T.is_valid messages.now }
     requires levels { All (λ v. T.levels v ≤ 256) messages.now }
     ensures { IfSome result
         (λ vs. map T.reading.content vs.items ≡ map T.reading.content messages.now) }

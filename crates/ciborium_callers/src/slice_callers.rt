@@ -9,7 +9,7 @@ ghost use Rattle.ciborium.specs.SliceAnswers.{GivesAll, IsAllTaken};
 ghost use Rattle.ciborium.specs.View.{read_as, tree_of};
 ghost use Rattle.ciborium.specs.Spelling.{IsReadAs, any};
 ghost use Rattle.ciborium.specs.Spells.{Spells};
-ghost use Rattle.ciborium.specs.Taken.{gives, outcome};
+ghost use Rattle.ciborium.specs.Given.{gives, outcome};
 ghost use Rattle.ciborium.specs.Tree.{Tree};
 ghost use Rattle.ciborium.specs.declared.de.error.Error.TheVariants.{Memory};
 

@@ -180,11 +180,11 @@ impl Deserialize for Notice {
 }
 
 impl ReadsBack for Notice {
-    ghost is_held = { λ n. Unit {0} };
+    ghost is_valid = { λ n. Unit {0} };
 
     ghost levels = { λ n. 1 };
 
-    ghost reads_back = { λ n held. either_back
+    ghost reads_back = { λ n valid. either_back
         (λ urgent. (string_bytes n.title, (urgent, tt))) n.urgent
         (fields_read_back
         (field_back (label "title") ⟦<String as Deserialize>⟧.reading (string_back n.title tt)
@@ -197,7 +197,7 @@ impl ReadsBack for Notice {
 }
 
 impl FormReadsBack for Notice {
-    ghost form_reads_back = { λ order n held. either_form order
+    ghost form_reads_back = { λ order n valid. either_form order
         (λ urgent. (string_bytes n.title, (urgent, tt))) n.urgent
         (fields_form order
         (field_form order (label "title") ⟦<String as Deserialize>⟧.reading

@@ -58,20 +58,20 @@ impl Deserialize for NumberTree {
 
 // It takes as many levels as it nests.
 impl ReadsBack for NumberTree {
-    ghost is_held = { λ t. is_number_tree (shape_of t) ≡ true };
+    ghost is_valid = { λ t. is_number_tree (shape_of t) ≡ true };
 
     ghost levels = { λ t. nesting (item_of (shape_of t)) };
 
-    ghost reads_back = { λ t held. such_that_back is_number_tree Other
-        (value-back (shape_of t) (folded-number_tree (shape_of t) held)) held };
+    ghost reads_back = { λ t valid. such_that_back is_number_tree Other
+        (value-back (shape_of t) (folded-number_tree (shape_of t) valid)) valid };
 }
 
 // It has no map and no bignum, so it is its own form.
 impl FormReadsBack for NumberTree {
     ghost form_reads_back = { λ order. own-form_read order
-        (λ t held. such_that_back is_number_tree Other
-        (value-back (shape_of t) (folded-number_tree (shape_of t) held)) held)
-        (λ t held. own-number_tree order (shape_of t) held) };
+        (λ t valid. such_that_back is_number_tree Other
+        (value-back (shape_of t) (folded-number_tree (shape_of t) valid)) valid)
+        (λ t valid. own-number_tree order (shape_of t) valid) };
 }
 
 impl WritesContent for NumberTree {

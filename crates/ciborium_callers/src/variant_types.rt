@@ -74,24 +74,24 @@ impl Deserialize for Letter {
 }
 
 impl ReadsBack for Letter {
-    ghost is_held = { elim [ A ↦ Unit {0} | B n ↦ n < 2 ^ 8 ] };
+    ghost is_valid = { elim [ A ↦ Unit {0} | B n ↦ n < 2 ^ 8 ] };
 
     ghost levels = { λ l. 1 };
 
     ghost reads_back = { let variants = unit_variant (codes "A") A
         ∷ data_variant (codes "B") B (below 256) ∷ [] in elim [
-          | A ↦ λ held. unit_variant_back variants (codes "A") (λ l. refl)
-          | B n ↦ λ held. data_variant_back variants (codes "B") B (below 256)
-              (λ l i. refl) (u8_back n held)
+          | A ↦ λ valid. unit_variant_back variants (codes "A") (λ l. refl)
+          | B n ↦ λ valid. data_variant_back variants (codes "B") B (below 256)
+              (λ l i. refl) (u8_back n valid)
         ] };
 }
 
 impl FormReadsBack for Letter {
     ghost form_reads_back = { λ order. let variants = unit_variant (codes "A") A
         ∷ data_variant (codes "B") B (below 256) ∷ [] in elim [
-          | A ↦ λ held. unit_variant_form order variants (codes "A") refl
-          | B n ↦ λ held. data_variant_form order variants (codes "B") B (below 256)
-              (λ i. refl) (u8_form order n held)
+          | A ↦ λ valid. unit_variant_form order variants (codes "A") refl
+          | B n ↦ λ valid. data_variant_form order variants (codes "B") B (below 256)
+              (λ i. refl) (u8_form order n valid)
         ] };
 }
 

@@ -2,7 +2,7 @@
 use crate::expectations::{expect, expect_all, expect_same, is_ok_of};
 use ciborium::value::{Integer, Value};
 use ciborium_callers::value_callers::retag;
-use ciborium_value::stack::{Opening, Stack};
+use ciborium_value::stack::{NewFrame, Stack};
 use std::alloc::{AllocError, Global};
 use std::cmp::Ordering;
 use std::test::Fail;
@@ -411,7 +411,7 @@ fn is_refused_or_array(answer: Result<Value, AllocError>, values: &Vec<Value>) -
 #[test]
 fn a_key_waits_behind_the_key_before_it(rt: HostRuntime) -> Result<(), Fail> {
     let mut stack = Stack::new(rt.alloc());
-    stack.open(Opening::Map { behind: Some(1) })?;
+    stack.begin_frame(NewFrame::Map { behind: Some(1) })?;
     let is_first_waiting = stack.waiting_keys().is_some();
     stack.place(Value::from(1u8))?;
     let is_key_waiting = stack.waiting_keys().is_some();

@@ -8,16 +8,16 @@ use Rattle.ciborium_ll.specs.Bytes.{greatest_offset}
 use Rattle.ciborium_ll.specs.Head.{IsHead}
 
 -- why a well-formed item, or a break, has no meaning where it stands
-pub data Kind : Type 0 where
-  Float : Kind
-  Simple : Kind
-  Break : Kind
-  TooLarge : Kind
+pub data SemanticKind : Type 0 where
+  Float : SemanticKind
+  Simple : SemanticKind
+  Break : SemanticKind
+  TooLarge : SemanticKind
   -- a deterministic reader alone refuses these
-  NotShortest : Kind
-  Open : Kind
-  NotFolded : Kind
-  KeyOrder : Kind
+  NotShortest : SemanticKind
+  Open : SemanticKind
+  NotFolded : SemanticKind
+  KeyOrder : SemanticKind
 
 -- what reading answers in place of a value; numbers are offsets
 pub data Refusal : Type 0 where
@@ -28,7 +28,7 @@ pub data Refusal : Type 0 where
   -- the next bytes would take the offset past the greatest
   too_long : Refusal
   -- the item that begins here has no meaning, for this reason
-  semantic : ℕ → Kind → Refusal
+  semantic : ℕ → SemanticKind → Refusal
   -- a container or tag stands where no level is left
   recursion_limit_exceeded : Refusal
 

@@ -6,8 +6,8 @@ use Rattle.ciborium_ll.specs.declared.header.Header.{Header}
 use Rattle.ciborium_ll.specs.declared.header.Header.TheVariants as header
 use Rattle.ciborium_ll.specs.declared.header.Error.{Error}
 use Rattle.ciborium_ll.specs.declared.header.Error.TheVariants.{Io, Syntax, TooLong, Memory}
-use Rattle.ciborium_ll.specs.declared.strings.Kind.{Kind}
-use Rattle.ciborium_ll.specs.declared.strings.Kind.TheVariants as kind
+use Rattle.ciborium_ll.specs.declared.strings.StringType.{StringType}
+use Rattle.ciborium_ll.specs.declared.strings.StringType.TheVariants as kind
 use Rattle.ciborium_ll.specs.declared.strings.Chunk.{Chunk}
 use Rattle.ciborium_ll.specs.declared.strings.Chunk.TheVariants.{End, Definite, Other}
 use Rattle.ciborium_ll.specs.Bytes.{greatest_offset}
@@ -17,7 +17,7 @@ use Rattle.ciborium_ll.specs.Spells.{AreChunks, joined}
 use Rattle.ciborium_ll.specs.StringRefusal.{StringKind, of_bytes, of_text, string_major, IsAllowed}
 
 -- the kind that the code names
-abbrev pub string_kind_of : Kind → StringKind
+abbrev pub string_kind_of : StringType → StringKind
 string_kind_of kind.Bytes = of_bytes
 string_kind_of kind.Text = of_text
 

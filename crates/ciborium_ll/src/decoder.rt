@@ -5,7 +5,7 @@ use crate::counter::Counter;
 use crate::cursor::Cursor;
 use crate::header::{Error, Header};
 use crate::keep::{Answered, Keep};
-use crate::strings::Kind;
+use crate::strings::StringType;
 use crate::visitor::Visitor;
 use std::io::{self, Read};
 use std::marker::PhantomData;
@@ -347,7 +347,7 @@ impl<'a, R, A: Access<R>> Decoder<'a, R, A> {
             counter: &mut self.counter,
             keep,
         }
-        .append_string(Kind::Bytes, len, head, scratch, out)
+        .append_string(StringType::Bytes, len, head, scratch, out)
     }
 
     /// Appends the payload of the text whose head was pulled last, as `bytes_into` does for a byte
@@ -395,7 +395,7 @@ impl<'a, R, A: Access<R>> Decoder<'a, R, A> {
             counter: &mut self.counter,
             keep,
         };
-        let result = cursor.append_string(Kind::Text, len, head, scratch, &mut bytes);
+        let result = cursor.append_string(StringType::Text, len, head, scratch, &mut bytes);
         // SAFETY: `out` held UTF-8, and each chunk that was appended to it is UTF-8 by itself.
         *out = unsafe { String::from_utf8_unchecked(bytes) };
         result

@@ -11,7 +11,7 @@ use crate::keep::Keep;
 
 // What a string holds.
 #[derive(Clone, Copy)]
-pub(crate) enum Kind {
+pub(crate) enum StringType {
     Bytes,
     Text,
 }
@@ -21,12 +21,12 @@ const OWN_SCRATCH: usize = 64;
 
 // Whether a string of the kind may hold these bytes.
 #[inline(always)]
-fn is_allowed(kind: Kind, payload: &[u8]) -> bool
+fn is_allowed(kind: StringType, payload: &[u8]) -> bool
     ensures { IsTrue result ↔ IsAllowed (string_kind_of kind) payload.now }
 {
     match kind {
-        Kind::Bytes => true,
-        Kind::Text => str::from_utf8(payload).is_ok(),
+        StringType::Bytes => true,
+        StringType::Text => str::from_utf8(payload).is_ok(),
     }
 }
 
@@ -37,13 +37,13 @@ enum Chunk {
     Other,
 }
 
-fn chunk_of(kind: Kind, header: Header) -> Chunk
+fn chunk_of(kind: StringType, header: Header) -> Chunk
     ensures { IsChunk (string_kind_of kind) header result }
 {
     match (kind, header) {
         (_, Header::Break) => Chunk::End,
-        (Kind::Bytes, Header::Bytes(Some(n))) => Chunk::Definite(n),
-        (Kind::Text, Header::Text(Some(n))) => Chunk::Definite(n),
+        (StringType::Bytes, Header::Bytes(Some(n))) => Chunk::Definite(n),
+        (StringType::Text, Header::Text(Some(n))) => Chunk::Definite(n),
         _ => Chunk::Other,
     }
 }
@@ -134,7 +134,7 @@ impl<'c, R, A: Access<R>, K: Keep> Cursor<'c, R, A, K> {
     #[inline(always)]
     fn append_payload(
         &mut self,
-        kind: Kind,
+        kind: StringType,
         n: usize,
         head: usize,
         scratch: &mut [u8],
@@ -162,7 +162,7 @@ impl<'c, R, A: Access<R>, K: Keep> Cursor<'c, R, A, K> {
     #[inline(never)]
     fn append_chunks(
         &mut self,
-        kind: Kind,
+        kind: StringType,
         scratch: &mut [u8],
         out: &mut Vec<u8>,
     ) -> Result<(), Error<K::Kept>>
@@ -188,7 +188,7 @@ impl<'c, R, A: Access<R>, K: Keep> Cursor<'c, R, A, K> {
     #[inline(always)]
     pub(crate) fn append_string(
         &mut self,
-        kind: Kind,
+        kind: StringType,
         len: Option<usize>,
         head: usize,
         scratch: &mut [u8],

@@ -5,15 +5,15 @@ use Rattle.ciborium_value.specs.Ahead.{Ahead, Rest}
 use Rattle.ciborium_value.specs.Nesting.{Limit}
 use Rattle.ciborium_value.specs.Sources.{Fault, of_kind, TakesAhead, RefusesAhead, GoesOn, Leaves}
 use Rattle.ciborium_value.specs.lemmas.GivenOutcomes.{and_take}
-use Rattle.ciborium_value.specs.Taken.{Outcome, Steps, Taken, gives, mapped, nests, outcome, outcome_map}
-use Rattle.ciborium_value.specs.Taken.{refuses}
+use Rattle.ciborium_value.specs.Given.{Outcome, Steps, Given, gives, mapped, nests, outcome, outcome_map}
+use Rattle.ciborium_value.specs.Given.{refuses}
 use Rattle.ciborium_value.specs.declared.kind.Kind.TheVariants as kinds
 use Rattle.ciborium_value.proofs.Sources.Sequences.{so, Follows, IsPast, IsInside, IsBlamed, goes_on, reads}
 use Rattle.ciborium_value.proofs.Sources.Sequences.{blames_part, leaves, fault_map, fault_then}
 use Rattle.ciborium_tests.specs.Few.{few_items}
 
 -- what such a sequence becomes of which these items were read, and n more have room
-abbrev pub few_from : {A : Type 0} → Taken A → ℕ → List A → List Item → Steps (List A)
+abbrev pub few_from : {A : Type 0} → Given A → ℕ → List A → List Item → Steps (List A)
 few_from taken n vs is = mapped (λ ws. vs ++ ws) (few_items taken is n)
 
 one_more_read : {A : Type 0} (vs : List A) (v : A) (r : Outcome (List A)) →
@@ -23,7 +23,7 @@ one_more_read vs v (refuses k) = refl
 one_more_read vs v nests = refl
 
 module _ {S Q : Type 0} (StandsBefore : S → Limit → Ahead → Type 0) (SeqStands : Q → Limit → Rest → Type 0) {A : Type 0}
-    (taken : Taken A) where
+    (taken : Given A) where
   pub few_more : {old ahead new : S} {q q' : Q} {v : A} (n : ℕ) (vs : List A) →
       GoesOn StandsBefore SeqStands old ahead q q' → TakesAhead StandsBefore ahead new taken v →
       Follows (IsInside StandsBefore SeqStands old q (few_from taken (suc n) vs))

@@ -4,7 +4,7 @@ ghost use Rattle.std.specs.Prelude.{List, Ok, map, pos, ℕ};
 ghost use Rattle.ciborium_value.specs.Places.{sequence};
 ghost use Rattle.ciborium_value.specs.Readings.{spacious, unordered};
 ghost use Rattle.ciborium_value.specs.Sinks.{container_of, number_item};
-ghost use Rattle.ciborium_tests.specs.Few.{taken_few};
+ghost use Rattle.ciborium_tests.specs.Few.{given_few};
 
 use ciborium::de::{Deserialize, Source};
 use ciborium::ser::{Serialize, Sink};
@@ -33,7 +33,7 @@ impl Deserialize for Few {
     ghost Content = { List ℕ };
 
     ghost reading = { spacious (λ f. f.0.items) unordered
-        (taken_few 5 ⟦<u8 as Deserialize>⟧.reading.taken) };
+        (given_few 5 ⟦<u8 as Deserialize>⟧.reading.taken) };
 
     fn deserialize<S: Source>(alloc: Global, source: &mut S) -> Result<Few, S::Error> {
         let mut seq = source.begin_seq(alloc)?;

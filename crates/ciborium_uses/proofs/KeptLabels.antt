@@ -12,12 +12,12 @@ use Rattle.ciborium.specs.Encoding.{item_of, pairs_of}
 use Rattle.ciborium.specs.Folded.{folded}
 use Rattle.ciborium.specs.Nesting.{nesting, pairs_nesting}
 use Rattle.ciborium.specs.Order.{tree_cmp}
-use Rattle.ciborium.specs.Taken.{gives, outcome, taken_value, then_take, unpack_pairs}
-use Rattle.ciborium.specs.TakenParts.{put_each, taken_map}
+use Rattle.ciborium.specs.Given.{gives, outcome, given_value, then_take, unpack_pairs}
+use Rattle.ciborium.specs.GivenParts.{put_each, given_map}
 use Rattle.ciborium.specs.Tree as trees
 use Rattle.ciborium.specs.Tree.{Tree, TreePairs}
 use Rattle.ciborium.specs.View.{pair_trees, tree_pairs_from}
-use Rattle.ciborium_value.proofs.FoldedTrees.FoldedCopies.{taken-folded}
+use Rattle.ciborium_value.proofs.FoldedTrees.FoldedCopies.{given-folded}
 use Rattle.ciborium_value.proofs.FoldedTrees.Folding.{folds_once}
 use Rattle.ciborium_value.specs.declared.kind.Kind.TheVariants as kinds
 use Rattle.ciborium_value.specs.declared.tree.Value.{Value}
@@ -33,10 +33,10 @@ abbrev IsKeptEntry : ℕ → Tree × Tree → Type 0
 IsKeptEntry n e = (IsTrue (is_label e.0) × IsKeptTree n e.0) × IsKeptTree n e.1
 
 -- what a tree is folded to
-folds-to : (t w : Tree) → outcome None (taken_value (item_of t)) ≡ gives w → folded t ≡ Some w
-folds-to t w h = meaning_given kinds.TooLarge (folded t) w (sym (taken-folded t) ∙ h)
+folds-to : (t w : Tree) → outcome None (given_value (item_of t)) ≡ gives w → folded t ≡ Some w
+folds-to t w h = meaning_given kinds.TooLarge (folded t) w (sym (given-folded t) ∙ h)
 
-kept-tree : (n : ℕ) (t w : Tree) → nesting (item_of t) ≤ n → outcome None (taken_value (item_of t)) ≡ gives w →
+kept-tree : (n : ℕ) (t w : Tree) → nesting (item_of t) ≤ n → outcome None (given_value (item_of t)) ≡ gives w →
     IsKeptTree n w
 kept-tree n t w fits h =
     let fewer = value-fits (item_of t) None w h in
@@ -66,17 +66,17 @@ insert-kept n (d ∷ es) e one all = by (tree_cmp e.0 d.0) (insert-kept n es e o
 
 put-kept : (n : ℕ) (ps : TreePairs) (es rs : List (Tree × Tree)) → IsTrue (are_labels ps) →
     pairs_nesting (pairs_of ps) ≤ n → AllByRecursion (IsKeptEntry n) es →
-    outcome None (put_each false tree_cmp taken_value taken_value es (unpack_pairs (pairs_of ps))) ≡ gives rs →
+    outcome None (put_each false tree_cmp given_value given_value es (unpack_pairs (pairs_of ps))) ≡ gives rs →
     AllByRecursion (IsKeptEntry n) rs
 put-kept n trees.no_tree_pairs es rs labels fits all h =
     let same : es ≡ rs = cc in subst (AllByRecursion (IsKeptEntry n)) same all
 put-kept n (trees.tree_pair k v ps) es rs labels fits all h =
     let (is, others) = both (is_label k) (are_labels ps) labels in
-    let put = λ (x y : Tree). outcome None (put_each false tree_cmp taken_value taken_value
+    let put = λ (x y : Tree). outcome None (put_each false tree_cmp given_value given_value
     (insert_entry tree_cmp es x y) (unpack_pairs (pairs_of ps))) in
-    let (x, key, behind) = then_gives (outcome None (taken_value (item_of k)))
-    (λ x. then_take (outcome None (taken_value (item_of v))) (put x)) rs h in
-    let (y, value, rest) = then_gives (outcome None (taken_value (item_of v))) (put x) rs behind in
+    let (x, key, behind) = then_gives (outcome None (given_value (item_of k)))
+    (λ x. then_take (outcome None (given_value (item_of v))) (put x)) rs h in
+    let (y, value, rest) = then_gives (outcome None (given_value (item_of v))) (put x) rs behind in
     let one : IsKeptEntry n (x, y) = (
       (kept-label k x is (folds-to k x key), kept-tree n k x (omega (arith, fits)) key),
       kept-tree n v y (omega (arith, fits)) value,
@@ -103,13 +103,13 @@ each-nests n (e ∷ es) all = omega (arith, all.0.0.1.1, all.0.1.1, each-nests n
 module _ (t : Tree) (m : BTreeMap Value Value) (h : AreLabels t (entry_trees m)) where
   entries-kept : AllByRecursion (IsKeptEntry (pairs_nesting (pairs_of h.0.0))) (entry_trees m)
   entries-kept = put-kept (pairs_nesting (pairs_of h.0.0)) h.0.0 [] (entry_trees m) h.0.2 (omega arith) tt
-      (subst (λ t. outcome None (taken_map false tree_cmp taken_value taken_value (item_of t)) ≡ gives (entry_trees m))
+      (subst (λ t. outcome None (given_map false tree_cmp given_value given_value (item_of t)) ≡ gives (entry_trees m))
       h.0.1 h.1)
 
   -- they are written as they are read
   pub read-kept : IsOrdered value_cmp m → AreKept m
   read-kept ordered = record {
-    held = (
+    valid = (
       ordered,
       All-from_recursion (λ e. IsAsRead e.0 × IsAsRead e.1) m.entries (each-as-read _ m.entries entries-kept),
     );

@@ -8,8 +8,8 @@ use Rattle.ciborium_ll.proofs.Unread.{rest-of}
 use Rattle.ciborium_value.proofs.GoodItems.Spelled.{spells-pos}
 use Rattle.ciborium.specs.CutItems.{IsEndError}
 use Rattle.ciborium.specs.NextItems.{TakesTo}
-use Rattle.ciborium.specs.Taken.{Taken}
-use Rattle.ciborium.specs.TypedAnswers.{RefusesTaken, TakesBeginning, TakesGiven}
+use Rattle.ciborium.specs.Given.{Given}
+use Rattle.ciborium.specs.TypedAnswers.{RefusesGiven, TakesBeginning, TakesGiven}
 use Rattle.ciborium.specs.declared.de.error.Error.{Error}
 use Rattle.ciborium.specs.declared.de.error.Error.TheVariants.{Io, Syntax, Semantic, RecursionLimitExceeded, Memory}
 use Rattle.ciborium.specs.declared.de.error.Error.TheVariants.{TooLong}
@@ -30,7 +30,7 @@ none-begins b none i s left spelled split =
     let lengths = ap length (sym none ∙ split) ∙ length-append s left in
     absurd (omega (arith, some, lengths))
 
-module _ {A : Type 0} (taken : Taken A) (before : Option (List ℕ)) where
+module _ {A : Type 0} (taken : Given A) (before : Option (List ℕ)) where
   -- items that give values were taken, up to this offset
   abbrev pub HasReadTo : Option (List ℕ) → ℕ → Type 0
   HasReadTo after p = (cs : List A) × HasRead (Some 256) taken before after cs × TakesTo 0 p before after
@@ -62,7 +62,7 @@ module _ {A : Type 0} (taken : Taken A) (before : Option (List ℕ)) where
       none-begins u (split ∙ subst IsAtEnd left end))
 
   cut-there : (e : Error IoError) (u : List ℕ) (p : ℕ) → IsEndError e →
-      RefusesTaken {E = IoError} p (Some 256) taken (Some u) (Some []) (Err e) → BeginsNoItem u
+      RefusesGiven {E = IoError} p (Some 256) taken (Some u) (Some []) (Err e) → BeginsNoItem u
   cut-there (Io x) u p end refused = λ i s left spelled split. refused u refl i s left spelled split
   cut-there (Syntax q) u p end refused = absurd end
   cut-there (Semantic q k) u p end refused = absurd end
@@ -71,11 +71,11 @@ module _ {A : Type 0} (taken : Taken A) (before : Option (List ℕ)) where
   cut-there TooLong u p end refused = absurd end
 
   pub ends-cut : (mid after : Option (List ℕ)) (p q : ℕ) (e : Error IoError) → q ≡ p → HasReadTo mid p →
-      RefusesTaken {E = IoError} p (Some 256) taken mid after (Err e) → TakesBeginning mid after →
+      RefusesGiven {E = IoError} p (Some 256) taken mid after (Err e) → TakesBeginning mid after →
       ((r : List ℕ) → after ≡ Some r → IsEndError e × (r ≡ [])) →
       (b : List ℕ) → before ≡ Some b → IsEndOfLog taken b q
   ends-cut mid after p q e stays read refused (x, consumes) cut = ends-before mid p q stays read
       (λ u known. let (r, left, split) = rest-of mid after u x known consumes in
       let (end, none) = cut r left in
-      cut-there e u p end (subst (λ o. RefusesTaken {E = IoError} p (Some 256) taken o (Some []) (Err e)) known
-      (subst (λ o. RefusesTaken {E = IoError} p (Some 256) taken mid o (Err e)) (left ∙ ap Some none) refused)))
+      cut-there e u p end (subst (λ o. RefusesGiven {E = IoError} p (Some 256) taken o (Some []) (Err e)) known
+      (subst (λ o. RefusesGiven {E = IoError} p (Some 256) taken mid o (Err e)) (left ∙ ap Some none) refused)))

@@ -16,9 +16,9 @@ use Rattle.ciborium.specs.Item.{Item}
 use Rattle.ciborium.specs.Nesting.{nesting}
 use Rattle.ciborium.specs.Order.{tree_cmp}
 use Rattle.ciborium.specs.Spells.{Spells}
-use Rattle.ciborium.specs.TagReadings.{taken_with_tag}
+use Rattle.ciborium.specs.TagReadings.{given_with_tag}
 use Rattle.ciborium.specs.Tags.{captured_of}
-use Rattle.ciborium.specs.Taken.{Taken, outcome, outer_tag, taken_value}
+use Rattle.ciborium.specs.Given.{Given, outcome, outer_tag, given_value}
 use Rattle.ciborium.specs.Tree as trees
 use Rattle.ciborium.specs.Tree.{Tree}
 use Rattle.ciborium.specs.View.{pair_trees, tree_of, tree_pairs_of}
@@ -55,12 +55,12 @@ kept : (m : BTreeMap Value Value) → AreKept m → AreLabels (labels_tree m) (e
 kept m h = (
   (tree_pairs_of m.entries, refl, h.labels),
   (map-back (λ v. value-back (tree_of v)) (λ v. value-back (tree_of v)) false value_cmp tree_cmp value_cmp_total
-      value_cmp-is m h.held).back by_bytes _ (store-named m.entries) None tt,
+      value_cmp-is m h.valid).back by_bytes _ (store-named m.entries) None tt,
   length-map m.entries pair_trees ∙ sym (tree_pairs_count-tree_pairs_of m.entries),
 )
 
 map-folds : (m : BTreeMap Value Value) → AreKept m → folded (labels_tree m) ≡ Some (labels_tree m)
-map-folds m h = ap (option_map trees.map) (labels-fold m.entries h.held.1)
+map-folds m h = ap (option_map trees.map) (labels-fold m.entries h.valid.1)
 
 apart : (x : ℕ) → x ∷ [] ≡ [] → ⊥
 apart x e = cc
@@ -141,7 +141,7 @@ spelled-is-read = record { envelope = written-envelope; wrapped = written-wrappe
 
 -- ---- no bytes are two
 
-one-value : {A : Type 0} {bs : List ℕ} {v w : A} (taken : Taken A) → IsAllOf taken bs v → IsAllOf taken bs w → v ≡ w
+one-value : {A : Type 0} {bs : List ℕ} {v w : A} (taken : Given A) → IsAllOf taken bs v → IsAllOf taken bs w → v ≡ w
 one-value {v = v} {w = w} taken a b = one-content (outcome (Some 256) (taken b.0)) w v b.2
     (ap (λ i. outcome (Some 256) (taken i)) (one_item _ b.0 a.0 b.1 a.1) ∙ a.2)
 
@@ -150,7 +150,7 @@ same-labels t es fs a b = one-content _ fs es b.1 a.1
 
 one-labels : (bs : List ℕ) (es fs : List (Tree × Tree)) → AreLabelBytes bs es → AreLabelBytes bs fs → es ≡ fs
 one-labels bs es fs a b = same-labels b.tree es fs
-    (subst (λ t. AreLabels t es) (one-value taken_value a.item b.item) a.labels) b.labels
+    (subst (λ t. AreLabels t es) (one-value given_value a.item b.item) a.labels) b.labels
 
 one-header : (bs : List ℕ) (es fs : List (Tree × Tree)) → IsHeader bs es → IsHeader bs fs → es ≡ fs
 one-header [] es fs a b = a ∙ sym b
@@ -188,7 +188,7 @@ wrapping_at-tags Token = refl
 
 pub one-envelope : OneEnvelope
 one-envelope bs w v e f a b =
-    let same = one-value (taken_with_tag (taken_with_tag taken_value)) a.item b.item in (
+    let same = one-value (given_with_tag (given_with_tag given_value)) a.item b.item in (
       sym (wrapping_at-tags w) ∙ ap (λ p. wrapping_at p.0 p.1.0) same ∙ wrapping_at-tags v,
       one-message b.tree e f (subst (λ t. IsMessage t e) (ap (λ p. p.1.1) same) a.message) b.message,
     )

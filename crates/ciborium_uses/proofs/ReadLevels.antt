@@ -6,8 +6,8 @@ use Rattle.ciborium.specs.Encoding.{item_of, items_of, pairs_of}
 use Rattle.ciborium.specs.Item as items
 use Rattle.ciborium.specs.Item.{Item, Items, Pairs}
 use Rattle.ciborium.specs.Nesting.{IsWithin, Limit, items_nesting, nesting, pairs_nesting, tag_nesting}
-use Rattle.ciborium.specs.Taken.{Outcome, Steps, deeper, gives, outcome, outcome_map}
-use Rattle.ciborium.specs.Taken.{taken_items, taken_tag, taken_tree_pairs, taken_value, then_take, within_level}
+use Rattle.ciborium.specs.Given.{Outcome, Steps, deeper, gives, outcome, outcome_map}
+use Rattle.ciborium.specs.Given.{given_items, given_tag, given_tree_pairs, given_value, then_take, within_level}
 use Rattle.ciborium.specs.Tree as trees
 use Rattle.ciborium.specs.Tree.{Tree, Trees, TreePairs}
 use Rattle.ciborium_value.specs.lemmas.ReadsBackBignums.{stays}
@@ -121,7 +121,7 @@ one-level (Some b) n = omega arith
 one-level None n = omega arith
 
 tag-fits : (t : ℕ) (o : Option (List ℕ)) (l : Limit) (s : Steps Tree) (u : Tree) (m : ℕ) → IsShort o →
-    outcome l (taken_tag t o s) ≡ gives u →
+    outcome l (given_tag t o s) ≡ gives u →
     ((v : Tree) → outcome (deeper l) s ≡ gives v → Fits (deeper l) (nesting (item_of v)) m) →
     Fits l (nesting (item_of u)) (tag_nesting o m)
 tag-fits t (Some b) l s u m short h rec = flat-fits l (bignum_meaning t b) u (flat-bignum t b short)
@@ -130,43 +130,43 @@ tag-fits t None l s u m short h rec = inside-fits l (trees.tag t) (outcome (deep
     m h (λ v. one-level (folding_bytes t (item_of v)) (nesting (item_of v))) rec
 
 mutual
-  pub value-fits : (i : Item) (l : Limit) (t : Tree) → outcome l (taken_value i) ≡ gives t →
+  pub value-fits : (i : Item) (l : Limit) (t : Tree) → outcome l (given_value i) ≡ gives t →
       Fits l (nesting (item_of t)) (nesting i)
   value-fits (items.unsigned n) l t h = given-fits l (trees.integer (pos n)) t refl h
   value-fits (items.negative n) l t h = given-fits l (trees.integer (negsuc n)) t refl h
   value-fits (items.bytes open_ b) l t h = given-fits l (trees.bytes b) t refl h
   value-fits (items.text open_ b) l t h = given-fits l (trees.text b) t refl h
-  value-fits (items.array open_ is) l t h = inside-fits l trees.array (outcome (deeper l) (taken_items is)) t
+  value-fits (items.array open_ is) l t h = inside-fits l trees.array (outcome (deeper l) (given_items is)) t
       (λ vs. items_nesting (items_of vs)) (items_nesting is) h (λ vs. omega arith) (λ vs. values-fit is (deeper l) vs)
-  value-fits (items.map open_ ps) l t h = inside-fits l trees.map (outcome (deeper l) (taken_tree_pairs ps)) t
+  value-fits (items.map open_ ps) l t h = inside-fits l trees.map (outcome (deeper l) (given_tree_pairs ps)) t
       (λ qs. pairs_nesting (pairs_of qs)) (pairs_nesting ps) h (λ qs. omega arith) (λ qs. pairs-fit ps (deeper l) qs)
-  value-fits (items.tag t i) l u h = tag-fits t (folding_bytes t i) l (taken_value i) u (nesting i)
+  value-fits (items.tag t i) l u h = tag-fits t (folding_bytes t i) l (given_value i) u (nesting i)
       (short-either (is_bignum_tag t) (short_string i) (short-bytes i)) h (λ v. value-fits i (deeper l) v)
   value-fits (items.simple n) l t h = flat-fits l (simple_meaning n) t (flat-simple n)
       (meaning_given kinds.Simple (simple_meaning n) t h)
   value-fits (items.float raw) l t h = absurd cc
 
-  values-fit : (is : Items) (l : Limit) (vs : Trees) → outcome l (taken_items is) ≡ gives vs →
+  values-fit : (is : Items) (l : Limit) (vs : Trees) → outcome l (given_items is) ≡ gives vs →
       Fits l (items_nesting (items_of vs)) (items_nesting is)
   values-fit items.no_items l vs h =
       subst (λ us. Fits l (items_nesting (items_of us)) 0) (one_given trees.no_trees vs h) (omega arith, within-zero l)
   values-fit (items.item i is) l vs h =
-      let (v, first, rest) = then_gives (outcome l (taken_value i))
-      (λ v. outcome_map (trees.tree v) (outcome l (taken_items is))) vs h in
-      let (us, others, same) = mapped_gives (trees.tree v) (outcome l (taken_items is)) vs rest in
+      let (v, first, rest) = then_gives (outcome l (given_value i))
+      (λ v. outcome_map (trees.tree v) (outcome l (given_items is))) vs h in
+      let (us, others, same) = mapped_gives (trees.tree v) (outcome l (given_items is)) vs rest in
       subst (λ us. Fits l (items_nesting (items_of us)) (max (nesting i) (items_nesting is))) same
       (both-fit l _ _ _ _ (value-fits i l v first) (values-fit is l us others))
 
-  pairs-fit : (ps : Pairs) (l : Limit) (qs : TreePairs) → outcome l (taken_tree_pairs ps) ≡ gives qs →
+  pairs-fit : (ps : Pairs) (l : Limit) (qs : TreePairs) → outcome l (given_tree_pairs ps) ≡ gives qs →
       Fits l (pairs_nesting (pairs_of qs)) (pairs_nesting ps)
   pairs-fit items.no_pairs l qs h = subst (λ us. Fits l (pairs_nesting (pairs_of us)) 0)
       (one_given trees.no_tree_pairs qs h) (omega arith, within-zero l)
   pairs-fit (items.pair x y ps) l qs h =
-      let put = λ (k v : Tree). outcome_map (trees.tree_pair k v) (outcome l (taken_tree_pairs ps)) in
-      let (k, key, behind) = then_gives (outcome l (taken_value x)) (λ k. then_take (outcome l (taken_value y)) (put k))
+      let put = λ (k v : Tree). outcome_map (trees.tree_pair k v) (outcome l (given_tree_pairs ps)) in
+      let (k, key, behind) = then_gives (outcome l (given_value x)) (λ k. then_take (outcome l (given_value y)) (put k))
       qs h in
-      let (v, value, rest) = then_gives (outcome l (taken_value y)) (put k) qs behind in
-      let (us, others, same) = mapped_gives (trees.tree_pair k v) (outcome l (taken_tree_pairs ps)) qs rest in
+      let (v, value, rest) = then_gives (outcome l (given_value y)) (put k) qs behind in
+      let (us, others, same) = mapped_gives (trees.tree_pair k v) (outcome l (given_tree_pairs ps)) qs rest in
       subst (λ us. Fits l (pairs_nesting (pairs_of us)) (max (max (nesting x) (nesting y)) (pairs_nesting ps))) same
       (both-fit l _ _ _ _ (both-fit l _ _ _ _ (value-fits x l k key) (value-fits y l v value))
       (pairs-fit ps l us others))

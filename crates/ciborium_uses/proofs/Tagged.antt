@@ -2,9 +2,9 @@
 use Rattle.std.proofs.Common.{◌≡◌, refl, ℕ, List, Bool, true, false, Option, Some, None, ◌==◌}
 use Rattle.std.proofs.Common.{if◌then◌else◌}
 use Rattle.std.proofs.lemmas.Bool.{eqb-true}
-use Rattle.ciborium.specs.TagReadings.{if_tag, is_tag, taken_with_tag}
-use Rattle.ciborium.specs.Taken.{Outcome, gives, nests, outcome, refuses, taken_value, then_take}
-use Rattle.ciborium.specs.TakenParts.{taken_then}
+use Rattle.ciborium.specs.TagReadings.{if_tag, is_tag, given_with_tag}
+use Rattle.ciborium.specs.Given.{Outcome, gives, nests, outcome, refuses, given_value, then_take}
+use Rattle.ciborium.specs.GivenParts.{given_then}
 use Rattle.ciborium.specs.Tree.{Tree}
 use Rattle.ciborium_value.specs.declared.kind.Kind.{Kind}
 use Rattle.ciborium_uses.specs.Envelopes.{IsAllOf}
@@ -23,6 +23,6 @@ under_18 nests t h = absurd cc
 
 -- what the required tag gives is read with it
 pub with_tag : (bs : List ℕ) (t : Tree) →
-    IsAllOf (taken_then (taken_with_tag taken_value) (if_tag (is_tag 18))) bs t →
-    IsAllOf (taken_with_tag taken_value) bs (Some 18, t)
-with_tag bs t h = (h.0, h.1, under_18 (outcome (Some 256) (taken_with_tag taken_value h.0)) t h.2)
+    IsAllOf (given_then (given_with_tag given_value) (if_tag (is_tag 18))) bs t →
+    IsAllOf (given_with_tag given_value) bs (Some 18, t)
+with_tag bs t h = (h.0, h.1, under_18 (outcome (Some 256) (given_with_tag given_value h.0)) t h.2)

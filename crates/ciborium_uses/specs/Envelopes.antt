@@ -16,13 +16,13 @@ use Rattle.ciborium.specs.Encoding.{encoding, item_of, written_bytes}
 use Rattle.ciborium.specs.Folded.{folded}
 use Rattle.ciborium.specs.Nesting.{nesting}
 use Rattle.ciborium.specs.Order.{tree_cmp}
-use Rattle.ciborium.specs.TagReadings.{if_tag, is_tag, taken_with_tag}
-use Rattle.ciborium.specs.Taken.{Taken, gives, outcome, taken_value}
-use Rattle.ciborium.specs.TakenParts.{has_key, taken_map, taken_then}
+use Rattle.ciborium.specs.TagReadings.{if_tag, is_tag, given_with_tag}
+use Rattle.ciborium.specs.Given.{Given, gives, outcome, given_value}
+use Rattle.ciborium.specs.GivenParts.{has_key, given_map, given_then}
 use Rattle.ciborium.specs.Tree as trees
 use Rattle.ciborium.specs.Tree.{Tree, TreePairs, Trees, tree_pairs_count}
 use Rattle.ciborium.specs.View.{pair_trees, tree_of, tree_pairs_from}
-use Rattle.ciborium_value.specs.lemmas.ReadsBackMaps.{IsMapHeld}
+use Rattle.ciborium_value.specs.lemmas.ReadsBackMaps.{IsMapValid}
 use Rattle.ciborium_value.specs.declared.byte_buf.ByteBuf.{ByteBuf}
 use Rattle.ciborium_value.specs.declared.tree.Value.{Value}
 use Rattle.ciborium_uses.specs.declared.envelopes.Envelope.{Envelope}
@@ -40,7 +40,7 @@ use Rattle.ciborium_uses.specs.declared.envelopes.wrapping.Wrapping.TheVariants.
 -- ---- items
 
 -- all of the bytes are one item, which gives v within 256 levels
-abbrev pub IsAllOf : {A : Type 0} → Taken A → List ℕ → A → Type 0
+abbrev pub IsAllOf : {A : Type 0} → Given A → List ℕ → A → Type 0
 IsAllOf taken bs v = (i : Item) × Spells bs i × (outcome (Some 256) (taken i) ≡ gives v)
 
 -- no bytes are to blame: memory was refused
@@ -75,14 +75,14 @@ IsLabelMap t = (ps : TreePairs) × (t ≡ trees.map ps) × IsTrue (are_labels ps
 
 -- the same where no label stands twice: it has as many entries as pairs (RFC 9052, section 3)
 abbrev pub AreLabels : Tree → List (Tree × Tree) → Type 0
-AreLabels t es = IsLabelMap t × (outcome None (taken_map false tree_cmp taken_value taken_value
+AreLabels t es = IsLabelMap t × (outcome None (given_map false tree_cmp given_value given_value
     (item_of t)) ≡ gives es) ×
     (length es ≡ pair_count t)
 
 -- the bytes are one item, such a map
 pub record AreLabelBytes (bs : List ℕ) (es : List (Tree × Tree)) : Type 0 where
   pub tree : Tree
-  pub item : IsAllOf taken_value bs tree
+  pub item : IsAllOf given_value bs tree
   pub labels : AreLabels tree es
 
 -- a protected header: no bytes, or those of such a map (RFC 9052, section 3)
@@ -177,7 +177,7 @@ pub record IsMessage (t : Tree) (e : Envelope) : Type 0 where
 -- the bytes are such a message under tag 18 (RFC 9052, section 4.2)
 pub record IsEnvelope (bs : List ℕ) (e : Envelope) : Type 0 where
   pub tree : Tree
-  pub item : IsAllOf (taken_then (taken_with_tag taken_value) (if_tag (is_tag 18))) bs tree
+  pub item : IsAllOf (given_then (given_with_tag given_value) (if_tag (is_tag 18))) bs tree
   pub message : IsMessage tree e
 
 -- the tags around a message, the outer one first: none, that of a signed message, or that one under
@@ -212,7 +212,7 @@ other_tag others.Sign = 98
 -- the bytes are a message under these tags and no others
 pub record IsWrapped (bs : List ℕ) (w : Wrapping) (e : Envelope) : Type 0 where
   pub tree : Tree
-  pub item : IsAllOf (taken_with_tag (taken_with_tag taken_value)) bs
+  pub item : IsAllOf (given_with_tag (given_with_tag given_value)) bs
       ((tags_of w).0, ((tags_of w).1, tree))
   pub message : IsMessage tree e
 
@@ -230,7 +230,7 @@ IsAsRead v = folded (tree_of v) ≡ Some (tree_of v)
 
 -- labels in their order, each written as it is read
 pub record AreKept (m : BTreeMap Value Value) : Type 0 where
-  pub held : IsMapHeld value_cmp IsAsRead IsAsRead m
+  pub valid : IsMapValid value_cmp IsAsRead IsAsRead m
   pub labels : IsTrue (are_labels (tree_pairs_from (entry_trees m)))
 
 -- the message that is written of an envelope

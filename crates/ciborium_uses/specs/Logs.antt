@@ -3,7 +3,7 @@ use Rattle.std.specs.Prelude.{◌≡◌, ℕ, ◌+◌, List, ◌++◌, length, S
 use Rattle.ciborium.specs.Item.{Item}
 use Rattle.ciborium.specs.SequenceReads.{GivesThen}
 use Rattle.ciborium.specs.Spells.{Spells}
-use Rattle.ciborium.specs.Taken.{Taken}
+use Rattle.ciborium.specs.Given.{Given}
 
 -- no item begins with the first byte of b, and ends within b
 abbrev pub BeginsNoItem : List ℕ → Type 0
@@ -11,6 +11,6 @@ BeginsNoItem b = (i : Item) (s left : List ℕ) → Spells s i → ¬ (b ≡ s +
 
 -- the first `end` bytes of b are items that give values of the type, one after the other, and no
 -- item is whole in the rest
-abbrev pub IsEndOfLog : {A : Type 0} → Taken A → List ℕ → ℕ → Type 0
+abbrev pub IsEndOfLog : {A : Type 0} → Given A → List ℕ → ℕ → Type 0
 IsEndOfLog {A} taken b end = (cs : List A) × (rest : List ℕ) ×
     GivesThen (Some 256) taken b cs rest × (length b ≡ end + length rest) × BeginsNoItem rest

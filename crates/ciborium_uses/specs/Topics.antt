@@ -4,7 +4,7 @@ use Rattle.std.specs.Prelude.{List, [], ◌∷◌, Ok, codes, false, refl}
 use Rattle.ciborium.specs.FormsReadBack.{IsReadFromForm, own-form_read}
 use Rattle.ciborium.specs.Item.{Item, text}
 use Rattle.ciborium.specs.ReadsBack.{IsReadBack}
-use Rattle.ciborium.specs.VariantReadings.{Variant, taken_enum, unit_variant}
+use Rattle.ciborium.specs.VariantReadings.{Variant, given_enum, unit_variant}
 use Rattle.ciborium.specs.lemmas.ReadsBackVariants.{unit_variant_back}
 use Rattle.ciborium_value.specs.declared.key_order.KeyOrder.{KeyOrder}
 use Rattle.ciborium_uses.specs.declared.settings.topic.Topic.{Topic}
@@ -24,14 +24,14 @@ topics =
 
 -- a topic that was written is read back, from its item and from the form of it
 pub topic_back :
-    IsReadBack (λ topic. Unit {0}) (λ topic. Ok (topic_item topic)) (taken_enum topics)
+    IsReadBack (λ topic. Unit {0}) (λ topic. Ok (topic_item topic)) (given_enum topics)
     (λ topic. topic) (λ topic. 1)
-topic_back Network held = unit_variant_back topics (codes "network") (λ l. refl)
-topic_back Screen held = unit_variant_back topics (codes "screen") (λ l. refl)
-topic_back Sound held = unit_variant_back topics (codes "sound") (λ l. refl)
+topic_back Network valid = unit_variant_back topics (codes "network") (λ l. refl)
+topic_back Screen valid = unit_variant_back topics (codes "screen") (λ l. refl)
+topic_back Sound valid = unit_variant_back topics (codes "sound") (λ l. refl)
 
 pub topic_form : (order : KeyOrder) →
-    IsReadFromForm order (λ topic. Unit {0}) (λ topic. Ok (topic_item topic)) (taken_enum topics)
+    IsReadFromForm order (λ topic. Unit {0}) (λ topic. Ok (topic_item topic)) (given_enum topics)
     (λ topic. topic)
 topic_form order = own-form_read order topic_back
-    (elim [ Network ↦ λ held. refl | Screen ↦ λ held. refl | Sound ↦ λ held. refl ])
+    (elim [ Network ↦ λ valid. refl | Screen ↦ λ valid. refl | Sound ↦ λ valid. refl ])

@@ -99,7 +99,7 @@ pub fn read_log<R: BufRead>(
 /// Writes readings into memory, and reads them from there: they are the readings that were
 /// written, in order, and no others.
 pub fn through_memory(alloc: Global, readings: &[Reading]) -> Result<Vec<Reading>, LogError>
-    ensures { All ⟦<Reading as ReadsBack>⟧.is_held readings.now → IfOk result
+    ensures { All ⟦<Reading as ReadsBack>⟧.is_valid readings.now → IfOk result
         (λ again. map ⟦<Reading as Deserialize>⟧.reading.content again.items
         ≡ map ⟦<Reading as Deserialize>⟧.reading.content readings.now) }
 {
@@ -114,7 +114,7 @@ pub fn through_memory(alloc: Global, readings: &[Reading]) -> Result<Vec<Reading
 
 /// Writes readings into memory one by one, and reads them from there: they are those readings too.
 pub fn through_appends(alloc: Global, readings: &[Reading]) -> Result<Vec<Reading>, LogError>
-    ensures { All ⟦<Reading as ReadsBack>⟧.is_held readings.now → IfOk result
+    ensures { All ⟦<Reading as ReadsBack>⟧.is_valid readings.now → IfOk result
         (λ again. map ⟦<Reading as Deserialize>⟧.reading.content again.items
         ≡ map ⟦<Reading as Deserialize>⟧.reading.content readings.now) }
 {

@@ -58,7 +58,7 @@ pub fn load(alloc: Global, bytes: &[u8]) -> Result<Settings, SettingsError>
 
 /// Saves settings into memory, and loads them from there: they are the settings that were saved.
 pub fn through_memory(alloc: Global, settings: &Settings) -> Result<Settings, SettingsError>
-    ensures { ⟦<Settings as ReadsBack>⟧.is_held settings.now → IfOk result
+    ensures { ⟦<Settings as ReadsBack>⟧.is_valid settings.now → IfOk result
         (λ again. settings_content again ≡ settings_content settings.now) }
 {
     save_and_load::<Settings>(alloc, settings)
@@ -66,7 +66,7 @@ pub fn through_memory(alloc: Global, settings: &Settings) -> Result<Settings, Se
 
 // The same of every type whose deterministic form is read back.
 fn save_and_load<T: FormReadsBack>(alloc: Global, value: &T) -> Result<T, SettingsError>
-    ensures { T.is_held value.now → IfOk result
+    ensures { T.is_valid value.now → IfOk result
         (λ again. T.reading.content again ≡ T.reading.content value.now) }
 {
     let mut saved = Vec::new(alloc);

@@ -2,6 +2,6 @@
 pub mod Steps
 pub mod Reached
 pub mod Texts
-pub mod Opened
+pub mod BegunLevels
 pub mod OneTree
 pub mod Printed

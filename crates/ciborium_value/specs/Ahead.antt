@@ -4,34 +4,34 @@ use Rattle.std.specs.Prelude.{ℕ, Bool, true, false, List}
 use Rattle.std.specs.Borrow.{GName}
 use Rattle.ciborium_ll.specs.Item.{Item}
 use Rattle.ciborium_value.specs.Nesting.{Limit}
-use Rattle.ciborium_value.specs.Taken.{deeper_if}
+use Rattle.ciborium_value.specs.Given.{deeper_if}
 
 -- how the parts of a container come: so many, up to a break, or as the bytes of a byte string
-pub data Form : Type 0 where
-  counted : Form
-  until_break : Form
-  of_bytes : Form
+pub data Span : Type 0 where
+  counted : Span
+  until_break : Span
+  of_bytes : Span
 
 -- what follows an item
 pub data Rest : Type 0 where
   -- what the reader of this name has left, from this offset on
   bottom : GName × ℕ → List ℕ → Rest
   -- the items left of an array or byte string
-  parts : Form → List Item → Rest → Rest
+  parts : Span → List Item → Rest → Rest
   -- the pairs left of a map: a key or the end is due
-  pairs : Form → List (Item × Item) → Rest → Rest
+  pairs : Span → List (Item × Item) → Rest → Rest
   -- a value is due, and then these pairs
-  entry : Item → Form → List (Item × Item) → Rest → Rest
+  entry : Item → Span → List (Item × Item) → Rest → Rest
   -- a level is to be given back: that of a tag or a variant
-  held : Rest → Rest
+  level_due : Rest → Rest
 
 -- the offset at which the outermost item ends
 abbrev pub end_of : Rest → ℕ
 end_of (bottom reader b) = reader.1
-end_of (parts form is f) = end_of f
-end_of (pairs form ps f) = end_of f
-end_of (entry v form ps f) = end_of f
-end_of (held f) = end_of f
+end_of (parts span is f) = end_of f
+end_of (pairs span ps f) = end_of f
+end_of (entry v span ps f) = end_of f
+end_of (level_due f) = end_of f
 
 -- a source stands before an item, or after one
 pub data Ahead : Type 0 where
@@ -41,17 +41,17 @@ pub data Ahead : Type 0 where
 -- where it stands once an item was read: before the value that is due, if one is
 abbrev pub past : Rest → Ahead
 past (bottom reader b) = after (bottom reader b)
-past (parts form is f) = after (parts form is f)
-past (pairs form ps f) = after (pairs form ps f)
-past (entry v form ps f) = item v (pairs form ps f)
-past (held f) = after (held f)
+past (parts span is f) = after (parts span is f)
+past (pairs span ps f) = after (pairs span ps f)
+past (entry v span ps f) = item v (pairs span ps f)
+past (level_due f) = after (level_due f)
 
--- whether a container of this form takes a level: a byte string takes none
-abbrev pub takes_level : Form → Bool
+-- whether a container of this span takes a level: a byte string takes none
+abbrev pub takes_level : Span → Bool
 takes_level counted = true
 takes_level until_break = true
 takes_level of_bytes = false
 
 -- the levels left inside it
-abbrev pub inside : Form → Limit → Limit
-inside form l = deeper_if (takes_level form) l
+abbrev pub inside : Span → Limit → Limit
+inside span l = deeper_if (takes_level span) l

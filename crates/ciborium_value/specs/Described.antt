@@ -11,12 +11,12 @@ use Rattle.ciborium_value.specs.Nesting.{Limit}
 use Rattle.ciborium_value.specs.NeverWritten.{Avoided, IsNever, nulls, byte_strings}
 use Rattle.ciborium_value.specs.Places.{dictionary}
 use Rattle.ciborium_value.specs.Progress.{counted_of}
-use Rattle.ciborium_value.specs.Readings.{ItemsTaken, Reading}
+use Rattle.ciborium_value.specs.Readings.{ItemsGiven, Reading}
 use Rattle.ciborium_value.specs.ReadsBack.{IsNameRead, IsReadBack}
 use Rattle.ciborium_value.specs.Sinks.{Named, all_named, in_turn}
 use Rattle.ciborium_value.specs.StructReadings.{Fields}
-use Rattle.ciborium_value.specs.Taken.{outcome}
-use Rattle.ciborium_value.specs.VariantReadings.{Variant, taken_data, taken_enum}
+use Rattle.ciborium_value.specs.Given.{outcome}
+use Rattle.ciborium_value.specs.VariantReadings.{Variant, given_data, given_enum}
 use Rattle.ciborium_value.specs.WrittenContents.{AreFieldsAlike, IsWrittenByContent}
 use Rattle.ciborium_value.specs.declared.key_order.KeyOrder.{KeyOrder}
 use Rattle.ciborium_value.specs.lemmas.FormsReadBackParts.{AreFormPartsRead}
@@ -30,16 +30,16 @@ pub record Description (T : Type 0) : Type 1 where
   pub reading : Reading T Content
   pub written : T → Named
   -- what a value in a program is, and how many levels reading what it names takes
-  pub is_held : T → Type 0
+  pub is_valid : T → Type 0
   pub levels : T → ℕ
   -- what it is never written as
   pub avoids : Avoided → Bool
   -- no two of its labels or names are equal, and what may be null is never null otherwise
   pub is_sound : Bool
   pub reads_back : is_sound ≡ true →
-      IsReadBack is_held written reading.taken reading.content levels
+      IsReadBack is_valid written reading.taken reading.content levels
   pub form_reads_back : is_sound ≡ true → (o : KeyOrder) →
-      IsReadFromForm o is_held written reading.taken reading.content
+      IsReadFromForm o is_valid written reading.taken reading.content
   pub writes_content : IsWrittenByContent written reading.content
   pub never : (a : Avoided) → avoids a ≡ true → (v : T) → IsNever a (written v)
 
@@ -50,9 +50,9 @@ is_lawful d = d.is_sound && (d.avoids nulls && d.avoids byte_strings)
 -- what a type writes and reads has the laws of this description
 pub record IsDescribed {T C : Type 0} (d : Description T) (written : T → Named)
     (reading : Reading T C) : Type 0 where
-  pub reads_back : IsReadBack d.is_held written reading.taken reading.content d.levels
+  pub reads_back : IsReadBack d.is_valid written reading.taken reading.content d.levels
   pub form_reads_back : (o : KeyOrder) →
-      IsReadFromForm o d.is_held written reading.taken reading.content
+      IsReadFromForm o d.is_valid written reading.taken reading.content
   pub writes_content : IsWrittenByContent written reading.content
   pub never : (a : Avoided) (v : T) → IsNever a (written v)
 
@@ -85,7 +85,7 @@ pub record FieldsDescription (T : Type 0) : Type 1 where
   pub named : T → List (Label × Named)
   pub parts : T → List Named
   pub number : T → ℕ
-  pub is_held : T → Type 0
+  pub is_valid : T → Type 0
   pub levels : T → ℕ
   -- a field has this label
   pub has : Label → Bool
@@ -94,9 +94,9 @@ pub record FieldsDescription (T : Type 0) : Type 1 where
   pub same_number : (v : T) → length (named v) ≡ number v
   pub unnamed : (x : Label) → has x ≡ false → (v : T) → is_named x (named v) ≡ false
   pub apart : is_sound ≡ true → (v : T) → are_apart (named v) ≡ true
-  pub back : is_sound ≡ true → (v : T) → is_held v →
+  pub back : is_sound ≡ true → (v : T) → is_valid v →
       FieldsReadBack fields (named v) (content v) (levels v)
-  pub form : is_sound ≡ true → (o : KeyOrder) (v : T) → is_held v →
+  pub form : is_sound ≡ true → (o : KeyOrder) (v : T) → is_valid v →
       FieldsForm o fields (named v) (content v)
   pub alike : (v w : T) → AreFieldsAlike (content v) (content w) (named v) (named w)
 
@@ -117,17 +117,17 @@ maybe_levels levels (Some v) m = max (levels v) m
 pub record ItemsDescription (T : Type 0) : Type 1 where
   pub Content : Type 0
   -- how they are read, and what counts of them
-  pub items : ItemsTaken Content
+  pub items : ItemsGiven Content
   pub content : T → Content
   -- what is written of them, and how many, which is the same for all values
   pub parts : T → List Named
   pub number : ℕ
-  pub is_held : T → Type 0
+  pub is_valid : T → Type 0
   pub levels : T → ℕ
   pub is_sound : Bool
-  pub back : is_sound ≡ true → (v : T) → is_held v →
+  pub back : is_sound ≡ true → (v : T) → is_valid v →
       ArePartsRead (all_named (parts v)) items (content v) (levels v)
-  pub form : is_sound ≡ true → (o : KeyOrder) (v : T) → is_held v →
+  pub form : is_sound ≡ true → (o : KeyOrder) (v : T) → is_valid v →
       AreFormPartsRead o (all_named (parts v)) items (content v)
   pub alike : (v w : T) → content v ≡ content w → parts v ≡ parts w
 
@@ -140,7 +140,7 @@ is_name_among name (x ∷ xs) = if bytes_eq name x then true else is_name_among 
 -- what stands under one of these names these variants read, among all
 abbrev pub AreReadBy : {E : Type 0} → List (Variant E) → List (List ℕ) → List (Variant E) → Type 0
 AreReadBy all names these = (name : List ℕ) → is_name_among name names ≡ true → (l : Limit)
-    (i : Item) → outcome l (taken_data all name i) ≡ outcome l (taken_data these name i)
+    (i : Item) → outcome l (given_data all name i) ≡ outcome l (given_data these name i)
 
 -- variants in a row, where a value is that of one of them: of the first, or of one behind it
 pub record VariantsDescription (S : Type 0) : Type 1 where
@@ -150,14 +150,14 @@ pub record VariantsDescription (S : Type 0) : Type 1 where
   -- how they are read, of whose content so much is made
   pub variants : {E : Type 0} → (Content → E) → List (Variant E)
   pub written : S → Named
-  pub is_held : S → Type 0
+  pub is_valid : S → Type 0
   pub levels : S → ℕ
   pub is_sound : Bool
   pub back : is_sound ≡ true → {E : Type 0} (all : List (Variant E)) (make : Content → E) →
-      AreReadBy all names (variants make) → (s : S) → is_held s →
-      IsNameRead (written s) (taken_enum all) (make (content s)) (levels s)
+      AreReadBy all names (variants make) → (s : S) → is_valid s →
+      IsNameRead (written s) (given_enum all) (make (content s)) (levels s)
   pub form : is_sound ≡ true → (o : KeyOrder) {E : Type 0} (all : List (Variant E))
-      (make : Content → E) → AreReadBy all names (variants make) → (s : S) → is_held s →
-      IsFormRead o (written s) (taken_enum all) (make (content s))
+      (make : Content → E) → AreReadBy all names (variants make) → (s : S) → is_valid s →
+      IsFormRead o (written s) (given_enum all) (make (content s))
   pub alike : (s t : S) → content s ≡ content t → written s ≡ written t
   pub never : (a : Avoided) (s : S) → IsNever a (written s)

@@ -6,8 +6,8 @@ use Rattle.std.specs.declared.cmp.Ordering.TheVariants.{Less, Equal, Greater}
 use Rattle.ciborium_value.specs.Canonical.{key_order}
 use Rattle.ciborium_value.specs.Folded.{tree_folding_bytes}
 use Rattle.ciborium_value.specs.Meaning.{bignum_meaning}
-use Rattle.ciborium_value.specs.Taken.{Outcome, gives, nests, of_meaning, outcome_map, refuses}
-use Rattle.ciborium_value.specs.Taken.{then_take}
+use Rattle.ciborium_value.specs.Given.{Outcome, gives, nests, of_meaning, outcome_map, refuses}
+use Rattle.ciborium_value.specs.Given.{then_take}
 use Rattle.ciborium_value.specs.Tree.{Tree, integer, bytes, text, boolean, null, tag, array, map}
 use Rattle.ciborium_value.specs.Tree.{Trees, no_trees, tree, TreePairs, no_tree_pairs, tree_pair}
 use Rattle.ciborium_value.specs.declared.key_order.KeyOrder.{KeyOrder}

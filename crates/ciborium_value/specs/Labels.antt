@@ -8,7 +8,7 @@ use Rattle.ciborium_ll.specs.Item.{Item, unsigned, negative, bytes, text, tag}
 use Rattle.ciborium_value.specs.Meaning.{is_bignum_tag}
 use Rattle.ciborium_value.specs.Places.{dictionary}
 use Rattle.ciborium_value.specs.Sinks.{Named, container_of, in_turn, named_text, number_item}
-use Rattle.ciborium_value.specs.Taken.{Taken, mapped, taken_integer, taken_place, taken_skip}
+use Rattle.ciborium_value.specs.Given.{Given, mapped, given_integer, given_place, given_skip}
 use Rattle.ciborium_value.specs.declared.kind.Kind.TheVariants as kinds
 use Rattle.ciborium_value.specs.declared.labels.LabelKind.{LabelKind}
 use Rattle.ciborium_value.specs.declared.labels.LabelKind.TheVariants.{Name, Number, Other}
@@ -69,15 +69,15 @@ abbrev pub name_place : {P : Type 0} → (Label → P) → List ℕ → P
 name_place place name = place (named name)
 
 -- the place among labels of a key that is read so
-abbrev pub placed : {P : Type 0} → (Label → P) → LabelKind → Taken P
-placed place Name i = taken_place (name_place place) i
-placed place Number i = mapped (λ n. place (numbered (complement_if n.0 n.1))) (taken_integer i)
-placed place Other i = mapped (λ _. place other) (taken_skip i)
+abbrev pub placed : {P : Type 0} → (Label → P) → LabelKind → Given P
+placed place Name i = given_place (name_place place) i
+placed place Number i = mapped (λ n. place (numbered (complement_if n.0 n.1))) (given_integer i)
+placed place Other i = mapped (λ _. place other) (given_skip i)
 
 -- the place among labels of a key
-abbrev pub label_place : {P : Type 0} → (Label → P) → Taken P
+abbrev pub label_place : {P : Type 0} → (Label → P) → Given P
 label_place place i = placed place (label_kind i) i
 
 -- the label that a key is
-abbrev pub taken_label : Taken Label
-taken_label i = label_place (λ x. x) i
+abbrev pub given_label : Given Label
+given_label i = label_place (λ x. x) i

@@ -21,10 +21,10 @@ pub mod WrittenItems
 pub mod Places
 pub mod Sinks
 pub mod Progress
-pub mod Taken
+pub mod Given
 pub mod Ahead
 pub mod Sources
-pub mod TakenParts
+pub mod GivenParts
 pub mod EnteredSequences
 pub mod Readings
 pub mod TagReadings
@@ -36,7 +36,7 @@ pub mod NeverWritten
 pub mod WrittenContents
 pub mod Visits
 pub mod Deterministic
-pub mod CanonicalTrees
+pub mod DeterministicTrees
 pub mod DeterministicForms
 pub mod SameContents
 pub mod FormsReadBack

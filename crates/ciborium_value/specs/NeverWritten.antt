@@ -12,7 +12,7 @@ use Rattle.ciborium_value.specs.ReadsBack.{named, of_ok}
 use Rattle.ciborium_value.specs.lemmas.ReadsBackNumbers.{definite-number}
 use Rattle.ciborium_value.specs.Sinks.{Named, all_named, bignum_item, contained, container_of}
 use Rattle.ciborium_value.specs.Sinks.{number_item, or_null}
-use Rattle.ciborium_value.specs.Taken.{is_null}
+use Rattle.ciborium_value.specs.Given.{is_null}
 use Rattle.ciborium_value.specs.declared.kind.Kind.{Kind}
 
 -- what a value is never written as

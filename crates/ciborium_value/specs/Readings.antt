@@ -7,10 +7,10 @@ use Rattle.std.specs.Option.{option_cmp, option_map}
 use Rattle.std.specs.declared.cmp.Ordering.{Ordering}
 use Rattle.std.specs.declared.cmp.Ordering.TheVariants.{Equal}
 use Rattle.ciborium_ll.specs.Item.{Item}
-use Rattle.ciborium_value.specs.Taken.{Steps, Taken, chosen, give, number_below, number_within}
-use Rattle.ciborium_value.specs.Taken.{refuse, taken_integer, taken_value}
-use Rattle.ciborium_value.specs.TakenParts.{after_seq, no_part_taken, part_taken, taken_list}
-use Rattle.ciborium_value.specs.TakenParts.{taken_made, taken_map, taken_option, taken_then}
+use Rattle.ciborium_value.specs.Given.{Steps, Given, chosen, give, number_below, number_within}
+use Rattle.ciborium_value.specs.Given.{refuse, given_integer, given_value}
+use Rattle.ciborium_value.specs.GivenParts.{after_seq, no_part_given, part_given, given_list}
+use Rattle.ciborium_value.specs.GivenParts.{given_made, given_map, given_option, given_then}
 use Rattle.ciborium_value.specs.Order.{tree_cmp}
 use Rattle.ciborium_value.specs.Tree.{Tree}
 use Rattle.ciborium_value.specs.declared.kind.Kind.{Kind}
@@ -19,7 +19,7 @@ use Rattle.ciborium_value.specs.declared.kind.Kind.{Kind}
 pub record Reading (T C : Type 0) : Type 1 where
   pub content : T → C
   -- what is taken from an item
-  pub taken : Taken C
+  pub taken : Given C
   -- how contents compare, where the type is a key of maps
   pub order : C → C → Ordering
   -- whether reading takes memory
@@ -34,7 +34,7 @@ abbrev pub unordered : {C : Type 0} → C → C → Ordering
 unordered x y = Equal
 
 -- what is read by one call that takes no memory
-abbrev pub plain : {T C : Type 0} → (T → C) → (C → C → Ordering) → Taken C → Reading T C
+abbrev pub plain : {T C : Type 0} → (T → C) → (C → C → Ordering) → Given C → Reading T C
 plain content order taken = record {
   content = content;
   taken = taken;
@@ -44,7 +44,7 @@ plain content order taken = record {
 }
 
 -- what is read by one call that may take memory
-abbrev pub spacious : {T C : Type 0} → (T → C) → (C → C → Ordering) → Taken C → Reading T C
+abbrev pub spacious : {T C : Type 0} → (T → C) → (C → C → Ordering) → Given C → Reading T C
 spacious content order taken = record {
   content = content;
   taken = taken;
@@ -58,7 +58,7 @@ abbrev pub checked : {T U A C : Type 0} → (T → C) → (C → C → Ordering)
     (A → Steps C) → Reading T C
 checked content order r f = record {
   content = content;
-  taken = taken_then r.taken f;
+  taken = given_then r.taken f;
   order = order;
   needs_memory = r.needs_memory;
   whole = None;
@@ -93,7 +93,7 @@ ordered_by order r = record {
 
 -- a number of either sign, of any size
 abbrev pub any_number : Reading (Bool × ℕ) (Bool × ℕ)
-any_number = plain (λ n. n) unordered taken_integer
+any_number = plain (λ n. n) unordered given_integer
 
 -- a number from 0 on, below the bound
 abbrev pub below : ℕ → Reading ℕ ℕ
@@ -114,7 +114,7 @@ IsBounded bound (negsuc n) = n < bound
 abbrev pub option_of : {T C : Type 0} → Reading T C → Reading (Option T) (Option C)
 option_of r = record {
   content = option_map r.content;
-  taken = taken_option r.taken;
+  taken = given_option r.taken;
   order = option_cmp r.order;
   needs_memory = r.needs_memory;
   whole = None;
@@ -122,30 +122,30 @@ option_of r = record {
 
 -- a list by its items
 abbrev pub list_of : {L T C : Type 0} → (L → List T) → Reading T C → Reading L (List C)
-list_of items r = spacious (λ v. map r.content (items v)) (slice_cmp r.order) (taken_list r.taken)
+list_of items r = spacious (λ v. map r.content (items v)) (slice_cmp r.order) (given_list r.taken)
 
 -- ---- parts in a row
 
 -- parts that are read one after another, onto a C
-abbrev pub ItemsTaken : Type 0 → Type 1
-ItemsTaken C = List Item → Steps C
+abbrev pub ItemsGiven : Type 0 → Type 1
+ItemsGiven C = List Item → Steps C
 
 -- no part more
-abbrev pub no_part : ItemsTaken (Unit {0})
-no_part = no_part_taken
+abbrev pub no_part : ItemsGiven (Unit {0})
+no_part = no_part_given
 
 -- a part, and those after it; where it is missing the array is refused as Length
-abbrev pub part : {T A C : Type 0} → Reading T A → ItemsTaken C → ItemsTaken (A × C)
-part r behind = part_taken r.taken behind
+abbrev pub part : {T A C : Type 0} → Reading T A → ItemsGiven C → ItemsGiven (A × C)
+part r behind = part_given r.taken behind
 
 -- an array of these parts; what stands after them is read as values, and dropped
-abbrev pub array_of : {T C : Type 0} → (T → C) → ItemsTaken C → Reading T C
+abbrev pub array_of : {T C : Type 0} → (T → C) → ItemsGiven C → Reading T C
 array_of content parts = spacious content unordered (after_seq parts)
 
 -- the same, of which a tuple is made
-abbrev tuple_of : {T C D : Type 0} → (T → D) → (D → D → Ordering) → (C → D) → ItemsTaken C →
+abbrev tuple_of : {T C D : Type 0} → (T → D) → (D → D → Ordering) → (C → D) → ItemsGiven C →
     Reading T D
-tuple_of content order make parts = spacious content order (taken_made make parts)
+tuple_of content order make parts = spacious content order (given_made make parts)
 
 abbrev pub tuple1_of : {T A C : Type 0} → (T → A) → Reading A C → Reading T C
 tuple1_of alone a = tuple_of (λ t. a.content (alone t)) a.order (λ p. p.0) (part a no_part)
@@ -176,7 +176,7 @@ abbrev pub map_by : {M K V C D : Type 0} → Bool → (M → List (K × V)) → 
     Reading V D → Reading M (List (C × D))
 map_by once entries k v = spacious (λ m. map (λ e. (k.content e.0, v.content e.1)) (entries m))
     (slice_cmp (λ x y. ordering_then (k.order x.0 y.0) (v.order x.1 y.1)))
-    (taken_map once k.order k.taken v.taken)
+    (given_map once k.order k.taken v.taken)
 
 -- of equal keys the last one counts
 abbrev pub map_of : {M K V C D : Type 0} → (M → List (K × V)) → Reading K C → Reading V D →
@@ -194,7 +194,7 @@ unique_map_of entries k v = map_by true entries k v
 abbrev pub whole_by : {T : Type 0} → (Tree → Tree → Ordering) → (T → Tree) → Reading T Tree
 whole_by order tree = record {
   content = tree;
-  taken = taken_value;
+  taken = given_value;
   order = order;
   needs_memory = true;
   whole = Some (λ v. v);

@@ -10,9 +10,9 @@ use Rattle.ciborium_ll.specs.Item.{Item}
 use Rattle.ciborium_value.specs.Encoding.{boolean_item, item_of, written_tree}
 use Rattle.ciborium_value.specs.Nesting.{Limit, IsWithin}
 use Rattle.ciborium_value.specs.Sinks.{Named}
-use Rattle.ciborium_value.specs.Taken.{Taken, gives, lone_character, outcome, settled}
-use Rattle.ciborium_value.specs.Taken.{taken_boolean}
-use Rattle.ciborium_value.specs.Taken.{taken_bytes, taken_character, taken_text, taken_unit}
+use Rattle.ciborium_value.specs.Given.{Given, gives, lone_character, outcome, settled}
+use Rattle.ciborium_value.specs.Given.{given_boolean}
+use Rattle.ciborium_value.specs.Given.{given_bytes, given_character, given_text, given_unit}
 
 -- how what was written is read: from its bytes, or from the tree that `Value::serialized` makes of
 -- it
@@ -28,14 +28,14 @@ met by_tree i = item_of (written_tree i)
 
 -- the item that is named, if there is one, is read as this content where so many levels are left,
 -- both ways
-pub record IsNameRead {C : Type 0} (r : Named) (taken : Taken C) (c : C) (n : ℕ) : Type 0 where
+pub record IsNameRead {C : Type 0} (r : Named) (taken : Given C) (c : C) (n : ℕ) : Type 0 where
   pub back : (way : Way) (i : Item) → r ≡ Ok i → (l : Limit) → IsWithin l n →
       outcome l (taken (met way i)) ≡ gives c
 
 -- what a value names is read as what counts of it, where so many levels are left
-abbrev pub IsReadBack : {T C : Type 0} → (T → Type 0) → (T → Named) → Taken C → (T → C) → (T → ℕ) →
+abbrev pub IsReadBack : {T C : Type 0} → (T → Type 0) → (T → Named) → Given C → (T → C) → (T → ℕ) →
     Type 0
-IsReadBack {T = T} IsHeld written taken content levels = (v : T) → IsHeld v →
+IsReadBack {T = T} IsValid written taken content levels = (v : T) → IsValid v →
     IsNameRead (written v) taken (content v) (levels v)
 
 -- ---- what holds of all that is answered
@@ -69,33 +69,33 @@ met-tag by_tree t i = refl
 abbrev pub named : Item → Named
 named i = Ok i
 
-pub back-by_item : {T C : Type 0} (IsHeld : T → Type 0) (written : T → Item) (taken : Taken C)
+pub back-by_item : {T C : Type 0} (IsValid : T → Type 0) (written : T → Item) (taken : Given C)
     (content : T → C) → ((v : T) → IsDefinite (written v)) →
-    ((v : T) → IsHeld v → (l : Limit) → outcome l (taken (written v)) ≡ gives (content v)) →
-    IsReadBack IsHeld (λ v. named (written v)) taken content (λ v. 0)
-back-by_item IsHeld written taken content definite h v held = record {
+    ((v : T) → IsValid v → (l : Limit) → outcome l (taken (written v)) ≡ gives (content v)) →
+    IsReadBack IsValid (λ v. named (written v)) taken content (λ v. 0)
+back-by_item IsValid written taken content definite h v valid = record {
   back = λ way i e l fits. of_ok (named (written v))
       (λ j. outcome l (taken (met way j)) ≡ gives (content v))
-      (ap (λ j. outcome l (taken j)) (met-definite way (written v) (definite v)) ∙ h v held l) i e;
+      (ap (λ j. outcome l (taken j)) (met-definite way (written v) (definite v)) ∙ h v valid l) i e;
 }
 
 definite-boolean : (b : Bool) → IsDefinite (boolean_item b)
 definite-boolean false = refl
 definite-boolean true = refl
 
-boolean-taken : (b : Bool) → Unit {0} → (l : Limit) → outcome l (taken_boolean (boolean_item b)) ≡
+boolean-given : (b : Bool) → Unit {0} → (l : Limit) → outcome l (given_boolean (boolean_item b)) ≡
     gives b
-boolean-taken false h l = refl
-boolean-taken true h l = refl
+boolean-given false h l = refl
+boolean-given true h l = refl
 
-pub boolean-back : IsReadBack (λ b. Unit {0}) (λ b. named (boolean_item b)) taken_boolean (λ b. b)
+pub boolean-back : IsReadBack (λ b. Unit {0}) (λ b. named (boolean_item b)) given_boolean (λ b. b)
     (λ b. 0)
-boolean-back = back-by_item (λ b. Unit {0}) boolean_item taken_boolean (λ b. b) definite-boolean
-    boolean-taken
+boolean-back = back-by_item (λ b. Unit {0}) boolean_item given_boolean (λ b. b) definite-boolean
+    boolean-given
 
-pub unit-back : IsReadBack (λ u. Unit {0}) (λ u. named (items.simple 22)) taken_unit (λ u. u)
+pub unit-back : IsReadBack (λ u. Unit {0}) (λ u. named (items.simple 22)) given_unit (λ u. u)
     (λ u. 0)
-unit-back = back-by_item (λ u. Unit {0}) (λ u. items.simple 22) taken_unit (λ u. u) (λ u. refl)
+unit-back = back-by_item (λ u. Unit {0}) (λ u. items.simple 22) given_unit (λ u. u) (λ u. refl)
     (λ u h l. refl)
 
 lone-encoded : (c : ℕ) → IsScalar c → lone_character (chars (encode_utf8 c)) ≡ Ok c
@@ -103,22 +103,22 @@ lone-encoded c h = ap lone_character (chars_past_char (encode_utf8 c) [] c (IsUt
     (sym (append-nil (encode_utf8 c))) ∙ ap (λ cs. c ∷ cs) chars-nil)
 
 pub character-back : IsReadBack IsScalar (λ c. named (items.text false (encode_utf8 c)))
-    taken_character (λ c. c) (λ c. 0)
-character-back = back-by_item IsScalar (λ c. items.text false (encode_utf8 c)) taken_character
+    given_character (λ c. c) (λ c. 0)
+character-back = back-by_item IsScalar (λ c. items.text false (encode_utf8 c)) given_character
     (λ c. c) (λ c. refl) (λ c h l. ap settled (lone-encoded c h))
 
 text-back : {T : Type 0} (content : T → List ℕ) →
-    IsReadBack (λ s. Unit {0}) (λ s. named (items.text false (content s))) taken_text content
+    IsReadBack (λ s. Unit {0}) (λ s. named (items.text false (content s))) given_text content
     (λ s. 0)
-text-back content = back-by_item (λ s. Unit {0}) (λ s. items.text false (content s)) taken_text
+text-back content = back-by_item (λ s. Unit {0}) (λ s. items.text false (content s)) given_text
     content (λ s. refl) (λ s h l. refl)
 
 pub bytes-back : {T : Type 0} (content : T → List ℕ) →
-    IsReadBack (λ b. Unit {0}) (λ b. named (items.bytes false (content b))) taken_bytes content
+    IsReadBack (λ b. Unit {0}) (λ b. named (items.bytes false (content b))) given_bytes content
     (λ b. 0)
-bytes-back content = back-by_item (λ b. Unit {0}) (λ b. items.bytes false (content b)) taken_bytes
+bytes-back content = back-by_item (λ b. Unit {0}) (λ b. items.bytes false (content b)) given_bytes
     content (λ b. refl) (λ b h l. refl)
 
 pub string_back : IsReadBack {T = String Global} (λ s. Unit {0})
-    (λ s. named (items.text false (string_bytes s))) taken_text string_bytes (λ s. 0)
+    (λ s. named (items.text false (string_bytes s))) given_text string_bytes (λ s. 0)
 string_back = text-back string_bytes

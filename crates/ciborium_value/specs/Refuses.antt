@@ -6,9 +6,9 @@ use Rattle.std.specs.Prelude.{◌≡◌, ℕ, zero, suc, ◌+◌, ◌^◌, ◌<�
 use Rattle.std.specs.Prelude.{true, Option, Some, None, option_and_then}
 use Rattle.ciborium_ll.specs.Bytes.{greatest_offset}
 use Rattle.ciborium_ll.specs.Head.{open_byte, break_byte, IsSimple}
-use Rattle.ciborium_ll.specs.Refusal.{Kind, Float, Simple, Break, TooLarge, NotFolded, KeyOrder}
+use Rattle.ciborium_ll.specs.Refusal.{SemanticKind, Float, Simple, Break, TooLarge, NotFolded}
 use Rattle.ciborium_ll.specs.Refusal.{Refusal, semantic, recursion_limit_exceeded, HeadRefuses}
-use Rattle.ciborium_ll.specs.Refusal.{IsUsable, HasHead, IsAtFront}
+use Rattle.ciborium_ll.specs.Refusal.{KeyOrder, IsUsable, HasHead, IsAtFront}
 use Rattle.ciborium_ll.specs.StringRefusal.{StringKind, StringRefuses, OpenStringRefuses}
 use Rattle.ciborium_value.specs.Meaning.{simple_meaning, big_endian, is_bignum_tag}
 use Rattle.ciborium_value.specs.Nesting.{Limit, IsOneLess}
@@ -122,7 +122,7 @@ pub data Refuses (spelling : Spelling) : List ℕ → ℕ → Limit → Refusal 
   -- no usable head stands here (section 3), or it is none that the spelling accepts (section 4.2.1)
   no_head : {b : List ℕ} {p : ℕ} {l : Limit} {e : Refusal} → HeadRefuses b p e →
       Refuses spelling b p l e
-  bad_head : {b : List ℕ} {p : ℕ} {l : Limit} (kind : Kind) → IsUsable b p →
+  bad_head : {b : List ℕ} {p : ℕ} {l : Limit} (kind : SemanticKind) → IsUsable b p →
       spelling_fault spelling b ≡ Some kind → Refuses spelling b p l (semantic p kind)
   -- a string, definite or open (sections 3.1 and 3.2.3)
   string : {b : List ℕ} {p : ℕ} {l : Limit} {e : Refusal} (kind : StringKind) →

@@ -4,12 +4,12 @@ use Rattle.std.specs.Prelude.{IfErr, IfOk, OnErr, OnOk}
 use Rattle.ciborium_ll.specs.Bytes.{greatest_offset}
 use Rattle.ciborium_ll.specs.Item.{Item}
 use Rattle.ciborium_ll.specs.Spells.{Spells}
-use Rattle.ciborium_value.specs.Ahead.{Ahead, Rest, Form, item, after, parts, pairs, entry, held}
-use Rattle.ciborium_value.specs.Ahead.{past, inside, takes_level, end_of}
+use Rattle.ciborium_value.specs.Ahead.{Ahead, Rest, Span, item, after, parts, pairs, entry}
+use Rattle.ciborium_value.specs.Ahead.{level_due, past, inside, takes_level, end_of}
 use Rattle.ciborium_value.specs.Nesting.{Limit}
 use Rattle.ciborium_value.specs.Places.{Shape, sequence, dictionary}
-use Rattle.ciborium_value.specs.Taken.{Outcome, gives, refuses, nests, Taken, taken_seq}
-use Rattle.ciborium_value.specs.Taken.{taken_pairs, deeper, outcome}
+use Rattle.ciborium_value.specs.Given.{Outcome, gives, refuses, nests, Given, given_seq}
+use Rattle.ciborium_value.specs.Given.{given_pairs, deeper, outcome}
 use Rattle.ciborium_value.specs.declared.kind.Kind.{Kind}
 
 -- ---- why a source refused
@@ -60,12 +60,12 @@ IsGrantedFault of_length takes_memory = Unit {0}
 
 module _ {S : Type 0} (StandsBefore : S → Limit → Ahead → Type 0) where
   -- the answer is what the item gives, and the source stands past it
-  abbrev pub TakesAhead : {A : Type 0} → S → S → Taken A → A → Type 0
+  abbrev pub TakesAhead : {A : Type 0} → S → S → Given A → A → Type 0
   TakesAhead old new taken v = (l : Limit) (i : Item) (f : Rest) → StandsBefore old l (item i f) →
       (outcome l (taken i) ≡ gives v) × StandsBefore new l (past f)
 
   -- it is refused only where the item is, and for that
-  abbrev pub RefusesAhead : {A : Type 0} → S → Taken A → Fault → Type 0
+  abbrev pub RefusesAhead : {A : Type 0} → S → Given A → Fault → Type 0
   RefusesAhead old taken fault = (l : Limit) (i : Item) (f : Rest) → StandsBefore old l (item i f) →
       IsFaultOf (end_of f) fault (outcome l (taken i))
 
@@ -86,67 +86,68 @@ module _ {S Q : Type 0} (StandsBefore : S → Limit → Ahead → Type 0)
   -- a sequence was entered
   abbrev pub Enters : S → S → Q → Type 0
   Enters old new q = (l : Limit) (i : Item) (f : Rest) → StandsBefore old l (item i f) →
-      (form : Form) × (is : List Item) ×
-      (outcome l (taken_seq i) ≡ gives (takes_level form, is)) ×
-      StandsBefore new (inside form l) (after (parts form is f)) ×
-      SeqStands q l (parts form is f)
+      (span : Span) × (is : List Item) ×
+      (outcome l (given_seq i) ≡ gives (takes_level span, is)) ×
+      StandsBefore new (inside span l) (after (parts span is f)) ×
+      SeqStands q l (parts span is f)
 
   -- a map was entered
   abbrev pub EntersMap : S → S → Q → Type 0
   EntersMap old new q = (l : Limit) (i : Item) (f : Rest) → StandsBefore old l (item i f) →
-      (form : Form) × (ps : List (Item × Item)) ×
-      (outcome l (taken_pairs i) ≡ gives (takes_level form, ps)) ×
-      StandsBefore new (inside form l) (after (pairs form ps f)) ×
-      SeqStands q l (pairs form ps f)
+      (span : Span) × (ps : List (Item × Item)) ×
+      (outcome l (given_pairs i) ≡ gives (takes_level span, ps)) ×
+      StandsBefore new (inside span l) (after (pairs span ps f)) ×
+      SeqStands q l (pairs span ps f)
 
   -- a further item, or a further key, is ahead
   abbrev pub GoesOn : S → S → Q → Q → Type 0
-  GoesOn old new q q' = ((l : Limit) (form : Form) (is : List Item) (f : Rest) →
-      StandsBefore old (inside form l) (after (parts form is f)) → SeqStands q l (parts form is f) →
+  GoesOn old new q q' = ((l : Limit) (span : Span) (is : List Item) (f : Rest) →
+      StandsBefore old (inside span l) (after (parts span is f)) → SeqStands q l (parts span is f) →
       (i : Item) × (js : List Item) × (is ≡ i ∷ js) ×
-      StandsBefore new (inside form l) (item i (parts form js f)) ×
-      SeqStands q' l (parts form js f))
-      × ((l : Limit) (form : Form) (ps : List (Item × Item)) (f : Rest) →
-      StandsBefore old (inside form l) (after (pairs form ps f)) →
-      SeqStands q l (pairs form ps f) →
+      StandsBefore new (inside span l) (item i (parts span js f)) ×
+      SeqStands q' l (parts span js f))
+      × ((l : Limit) (span : Span) (ps : List (Item × Item)) (f : Rest) →
+      StandsBefore old (inside span l) (after (pairs span ps f)) →
+      SeqStands q l (pairs span ps f) →
       (k : Item) × (v : Item) × (qs : List (Item × Item)) × (ps ≡ (k, v) ∷ qs) ×
-      StandsBefore new (inside form l) (item k (entry v form qs f)) ×
-      SeqStands q' l (pairs form qs f))
+      StandsBefore new (inside span l) (item k (entry v span qs f)) ×
+      SeqStands q' l (pairs span qs f))
 
   -- nothing is left of the container, and the source stands past it
   abbrev pub Leaves : S → S → Q → Type 0
-  Leaves old new q = ((l : Limit) (form : Form) (is : List Item) (f : Rest) →
-      StandsBefore old (inside form l) (after (parts form is f)) → SeqStands q l (parts form is f) →
+  Leaves old new q = ((l : Limit) (span : Span) (is : List Item) (f : Rest) →
+      StandsBefore old (inside span l) (after (parts span is f)) → SeqStands q l (parts span is f) →
       (is ≡ []) × StandsBefore new l (past f))
-      × ((l : Limit) (form : Form) (ps : List (Item × Item)) (f : Rest) →
-      StandsBefore old (inside form l) (after (pairs form ps f)) →
-      SeqStands q l (pairs form ps f) →
+      × ((l : Limit) (span : Span) (ps : List (Item × Item)) (f : Rest) →
+      StandsBefore old (inside span l) (after (pairs span ps f)) →
+      SeqStands q l (pairs span ps f) →
       (ps ≡ []) × StandsBefore new l (past f))
 
   -- no part and no end is to blame
   abbrev pub RefusesNext : S → Q → Fault → Type 0
-  RefusesNext old q fault = ((l : Limit) (form : Form) (is : List Item) (f : Rest) →
-      StandsBefore old (inside form l) (after (parts form is f)) → SeqStands q l (parts form is f) →
+  RefusesNext old q fault = ((l : Limit) (span : Span) (is : List Item) (f : Rest) →
+      StandsBefore old (inside span l) (after (parts span is f)) → SeqStands q l (parts span is f) →
       IsOutsideFault (end_of f) fault)
-      × ((l : Limit) (form : Form) (ps : List (Item × Item)) (f : Rest) →
-      StandsBefore old (inside form l) (after (pairs form ps f)) →
-      SeqStands q l (pairs form ps f) → IsOutsideFault (end_of f) fault)
+      × ((l : Limit) (span : Span) (ps : List (Item × Item)) (f : Rest) →
+      StandsBefore old (inside span l) (after (pairs span ps f)) →
+      SeqStands q l (pairs span ps f) → IsOutsideFault (end_of f) fault)
 
--- ---- levels that are held
+-- ---- levels that are due
 
 module _ {S V : Type 0} (StandsBefore : S → Limit → Ahead → Type 0)
     (LevelStands : V → Limit → Rest → Type 0) where
   -- the answer and the item that is ahead now are what was taken, with a level that this one gives
   -- back
-  abbrev pub Holds : {A : Type 0} → S → S → Taken (A × Item) → A → V → Type 0
+  abbrev pub Holds : {A : Type 0} → S → S → Given (A × Item) → A → V → Type 0
   Holds old new taken v level = (l : Limit) (i : Item) (f : Rest) → StandsBefore old l (item i f) →
       (j : Item) × (outcome l (taken i) ≡ gives (v, j)) ×
-      StandsBefore new (deeper l) (item j (held f)) ×
+      StandsBefore new (deeper l) (item j (level_due f)) ×
       LevelStands level l f
 
   -- the level was given back behind that item
   abbrev pub GivesBack : S → S → V → Type 0
-  GivesBack old new level = (l : Limit) (f : Rest) → StandsBefore old (deeper l) (after (held f)) →
+  GivesBack old new level = (l : Limit) (f : Rest) →
+      StandsBefore old (deeper l) (after (level_due f)) →
       LevelStands level l f → StandsBefore new l (past f)
 
 -- ---- what was taken where the unread bytes are known, whatever they are
@@ -182,7 +183,7 @@ TakesOnly {S = S} HasTaken old new = (first : S) → HasTaken first old → HasT
 -- taken; or it is refused only where the item is, and for that; and no more is left than before
 pub record TakesOneItem {S A V E : Type 0} (StandsBefore : S → Limit → Ahead → Type 0)
     (IsUnread : S → List ℕ → Type 0) (HasTaken : S → S → Type 0) (left : S → ℕ)
-    (cause : S → E → Fault) (old new : S) (taken : Taken A) (content : V → A)
+    (cause : S → E → Fault) (old new : S) (taken : Given A) (content : V → A)
     (result : Result V E) : Type 0 where
   pub ok : IfOk result (λ v. TakesAhead StandsBefore old new taken (content v))
   pub refused : IfErr result (λ e. RefusesAhead StandsBefore old taken (cause new e))

@@ -5,7 +5,7 @@ use Rattle.std.specs.Prelude.{if◌then◌else◌, ◌==◌, ◌&&◌, nat_lt, n
 use Rattle.ciborium_ll.specs.Bytes.{greatest_offset}
 use Rattle.ciborium_ll.specs.Head.{shortest_head}
 use Rattle.ciborium_ll.specs.Item.{Item}
-use Rattle.ciborium_ll.specs.Refusal.{Kind, NotShortest, Open, argument_length, argument}
+use Rattle.ciborium_ll.specs.Refusal.{SemanticKind, NotShortest, Open, argument_length, argument}
 use Rattle.ciborium_ll.specs.Spells.{Spells}
 use Rattle.ciborium_value.specs.Deterministic.{AreRising, HasRisingKeys}
 use Rattle.ciborium_value.specs.Encoding.{encoding}
@@ -39,7 +39,7 @@ is_long major info b = nat_lt info 28 &&
 
 -- why a usable head is not accepted: it is of indefinite length (sections 3.2 and 4.2.1), or not
 -- the shortest (section 4.1); undefined is read as null, so f7 is another spelling of f6
-abbrev pub deterministic_fault : ℕ → ℕ → List ℕ → Option Kind
+abbrev pub deterministic_fault : ℕ → ℕ → List ℕ → Option SemanticKind
 deterministic_fault major info b =
     if nat_le 2 major && nat_le major 5 && (info == 31) then Some Open
     else if nat_lt major 7 && is_long major info b then Some NotShortest
@@ -47,7 +47,7 @@ deterministic_fault major info b =
     else None
 
 -- the same of the head at the front in a spelling, or None where it accepts the head
-abbrev pub spelling_fault : Spelling → List ℕ → Option Kind
+abbrev pub spelling_fault : Spelling → List ℕ → Option SemanticKind
 spelling_fault any b = None
 spelling_fault (deterministic order) [] = None
 spelling_fault (deterministic order) (x ∷ b) = deterministic_fault (x / 32) (x % 32) b

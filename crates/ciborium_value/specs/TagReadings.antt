@@ -3,13 +3,13 @@ use Rattle.std.specs.Prelude.{ℕ, Bool, true, false, Option, Some, None, ◌==�
 use Rattle.std.specs.Ordering.{nat_cmp, ordering_then}
 use Rattle.std.specs.Option.{option_cmp}
 use Rattle.ciborium_value.specs.Readings.{Reading, checked}
-use Rattle.ciborium_value.specs.Taken.{Steps, Taken, chosen, give, mapped, refuse, taken_outer_tag}
-use Rattle.ciborium_value.specs.Taken.{then_inside}
+use Rattle.ciborium_value.specs.Given.{Steps, Given, chosen, give, mapped, refuse, given_outer_tag}
+use Rattle.ciborium_value.specs.Given.{then_inside}
 use Rattle.ciborium_value.specs.declared.kind.Kind.TheVariants as kinds
 
 -- the outermost tag, if there is one, and what is taken from the item under it
-abbrev pub taken_with_tag : {A : Type 0} → Taken A → Taken (Option ℕ × A)
-taken_with_tag taken i = then_inside (λ p. true) (taken_outer_tag i)
+abbrev pub given_with_tag : {A : Type 0} → Given A → Given (Option ℕ × A)
+given_with_tag taken i = then_inside (λ p. true) (given_outer_tag i)
     (λ p. mapped (λ v. (p.0, v)) (taken p.1))
 
 -- a value with the tag around it, if there is one
@@ -17,7 +17,7 @@ abbrev pub with_tag : {T V C : Type 0} → (T → Option ℕ) → (T → V) → 
     Reading T (Option ℕ × C)
 with_tag tag value r = record {
   content = λ t. (tag t, r.content (value t));
-  taken = taken_with_tag r.taken;
+  taken = given_with_tag r.taken;
   order = λ x y. ordering_then (option_cmp nat_cmp x.0 y.0) (r.order x.1 y.1);
   needs_memory = r.needs_memory;
   whole = None;

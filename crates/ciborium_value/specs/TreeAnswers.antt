@@ -4,7 +4,7 @@ use Rattle.ciborium_ll.specs.Item.{Item}
 use Rattle.ciborium_value.specs.Encoding.{item_of, written_tree}
 use Rattle.ciborium_value.specs.Sinks.{Cause, Named, memory, value}
 use Rattle.ciborium_value.specs.Sources.{Fault, of_kind, of_memory}
-use Rattle.ciborium_value.specs.Taken.{Outcome, refuses}
+use Rattle.ciborium_value.specs.Given.{Outcome, refuses}
 use Rattle.ciborium_value.specs.View.{tree_of}
 use Rattle.ciborium_value.specs.declared.error.Error.{Error}
 use Rattle.ciborium_value.specs.declared.error.Error.TheVariants.{Custom, Memory}

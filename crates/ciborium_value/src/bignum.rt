@@ -6,7 +6,7 @@ ghost use Rattle.std.specs.Prelude.{Err, Ok, length, true};
 ghost use Rattle.ciborium_value.specs.Folded.{tree_folding_bytes};
 ghost use Rattle.ciborium_value.specs.Meaning.{big_endian, bignum_meaning, is_bignum_tag};
 ghost use Rattle.ciborium_value.specs.Meaning.{without_zeros};
-ghost use Rattle.ciborium_value.specs.Taken.{magnitude};
+ghost use Rattle.ciborium_value.specs.Given.{magnitude};
 ghost use Rattle.ciborium_value.specs.Tree as trees;
 ghost use Rattle.ciborium_value.specs.View.{tree_of};
 ghost use Rattle.ciborium_value.specs.declared.kind.Kind.TheVariants as kinds;

@@ -2,7 +2,7 @@
 
 ghost use Rattle.std.specs.Prelude.{◌≡◌, IfErr, IfOk, None};
 ghost use Rattle.ciborium_value.specs.Sources.{IsGrantedFault};
-ghost use Rattle.ciborium_value.specs.Taken.{gives, outcome};
+ghost use Rattle.ciborium_value.specs.Given.{gives, outcome};
 ghost use Rattle.ciborium_value.specs.inner.TreeSources.{IsTreeAt, IsTreeLevelAt, IsTreeSeqAt};
 ghost use Rattle.ciborium_value.specs.inner.TreeSources.{level_weight, pending_due, seq_weight};
 ghost use Rattle.ciborium_value.specs.inner.TreeSources.{source_weight};

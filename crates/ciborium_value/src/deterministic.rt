@@ -9,7 +9,7 @@ ghost use Rattle.ciborium_value.specs.DeterministicForms.{deterministic_form, de
 ghost use Rattle.ciborium_value.specs.DeterministicForms.{pair_forms, sorted_pairs};
 ghost use Rattle.ciborium_value.specs.Meaning.{bignum_meaning, is_bignum_tag, without_zeros};
 ghost use Rattle.ciborium_value.specs.SameContents.{AreAlike, IsAlike, PairsAreAlike};
-ghost use Rattle.ciborium_value.specs.Taken.{gives, refuses};
+ghost use Rattle.ciborium_value.specs.Given.{gives, refuses};
 ghost use Rattle.ciborium_value.specs.Tree as trees;
 ghost use Rattle.ciborium_value.specs.View.{tree_of, tree_pairs_of, trees_of};
 ghost use Rattle.ciborium_value.specs.declared.kind.Kind.TheVariants.{DuplicateKey, TooLarge};

@@ -4,7 +4,7 @@ ghost use Rattle.std.specs.Prelude.{ℕ, ◌+◌, ◌≤◌, ◌∷◌, ◌⊎�
 ghost use Rattle.ciborium_value.specs.EnteredSequences.{RefusesInTurn, TakesRest, TakesInTurn};
 ghost use Rattle.ciborium_value.specs.Places.{sequence};
 ghost use Rattle.ciborium_value.specs.Progress.{counted_of};
-ghost use Rattle.ciborium_value.specs.Readings.{ItemsTaken, array_of, no_part};
+ghost use Rattle.ciborium_value.specs.Readings.{ItemsGiven, array_of, no_part};
 ghost use Rattle.ciborium_value.specs.Readings.{part};
 ghost use Rattle.ciborium_value.specs.Sources.{TakesOnly};
 
@@ -87,7 +87,7 @@ pub trait WantedItems: Sized + Drop {
     ghost content: { Self → Content };
 
     // What the items of a sequence give.
-    ghost items: { ItemsTaken Content };
+    ghost items: { ItemsGiven Content };
 
     /// Reads the items that are left of a sequence: each as its type, and those after them as
     /// values, which are dropped. Where one is missing it is refused as `Length`. A refused call

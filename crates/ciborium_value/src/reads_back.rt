@@ -27,7 +27,7 @@ mod values;
 /// limit that leaves as many levels as `levels` says, and from the tree that `Value::serialized`
 /// makes of it. Capacities do not count. Nothing is promised of a value that is refused in writing.
 ///
-/// `is_held` says for which values this holds: for the library's types, those that a program can
+/// `is_valid` says for which values this holds: for the library's types, those that a program can
 /// have. Their numbers are in range, their characters have a code, and the keys of their maps rise.
 /// A type may ask for more, as `Value` does, and `Captured` in `ciborium`.
 ///
@@ -35,14 +35,14 @@ mod values;
 /// a number, a character or a string. A limit counts in the same way.
 pub trait ReadsBack: Serialize + Deserialize {
     // What a value in a program is, where a proof knows too little of it.
-    ghost is_held: { Self → Type 0 };
+    ghost is_valid: { Self → Type 0 };
 
     // How many levels reading what this value names takes.
     ghost levels: { Self → ℕ };
 
     // What it names is read as what counts of it, from bytes and from a tree, where so many levels
     // are left.
-    ghost reads_back: { (v : Self) → is_held v →
+    ghost reads_back: { (v : Self) → is_valid v →
         IsNameRead (Self.written v) Self.reading.taken (Self.reading.content v) (levels v) };
 }
 
@@ -54,7 +54,7 @@ pub trait ReadsBack: Serialize + Deserialize {
 /// such types, since the order of pairs counts for them.
 pub trait FormReadsBack: ReadsBack {
     // The form of what a value names is read as what counts of the value.
-    ghost form_reads_back: { (o : KeyOrder) → (v : Self) → Self.is_held v →
+    ghost form_reads_back: { (o : KeyOrder) → (v : Self) → Self.is_valid v →
         IsFormRead o (Self.written v) Self.reading.taken (Self.reading.content v) };
 }
 

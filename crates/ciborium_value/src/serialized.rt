@@ -12,7 +12,7 @@ use crate::error::Error;
 use crate::kind::Kind;
 use crate::serialize::Serialize;
 use crate::sink::Sink;
-use crate::stack::{Opening, Stack};
+use crate::stack::{NewFrame, Stack};
 use crate::tree::Value;
 use std::alloc::Global;
 
@@ -41,7 +41,7 @@ impl Value {
     }
 }
 
-// What is open, or the tree once it is whole.
+// What is unfinished, or the tree once it is whole.
 #[derive(Drop)]
 struct TreeSink {
     stack: Stack,
@@ -60,14 +60,14 @@ impl TreeSink {
         Ok(())
     }
 
-    // Opens a container or tag.
-    fn open(&mut self, opening: Opening) -> Result<(), Error>
-        ensures open { OnOk result
-            (frames_of self.new.stack ≡ begun_frame opening ∷ frames_of self.old.stack) }
+    // Begins a container or tag.
+    fn begin_frame(&mut self, frame: NewFrame) -> Result<(), Error>
+        ensures begun { OnOk result
+            (frames_of self.new.stack ≡ begun_frame frame ∷ frames_of self.old.stack) }
         ensures whole { OnOk result (self.new.whole ≡ self.old.whole) }
         ensures memory { IfErr result (λ e. tree_cause e ≡ memory) }
     {
-        self.stack.open(opening)?;
+        self.stack.begin_frame(frame)?;
         Ok(())
     }
 }
@@ -114,26 +114,26 @@ impl Sink for TreeSink {
     }
 
     fn tag(&mut self, tag: u64) -> Result<(), Error> {
-        self.open(Opening::Tag(tag))
+        self.begin_frame(NewFrame::Tag(tag))
     }
 
     fn begin_array(&mut self, items: Option<usize>) -> Result<(), Error> {
         match items {
             Some(0) => self.put(Value::Array(Vec::new(self.alloc))),
-            Some(n) => self.open(Opening::Array {
+            Some(n) => self.begin_frame(NewFrame::Array {
                 behind: Some(n - 1),
             }),
-            None => self.open(Opening::Array { behind: None }),
+            None => self.begin_frame(NewFrame::Array { behind: None }),
         }
     }
 
     fn begin_map(&mut self, pairs: Option<usize>) -> Result<(), Error> {
         match pairs {
             Some(0) => self.put(Value::Map(Vec::new(self.alloc))),
-            Some(n) => self.open(Opening::Map {
+            Some(n) => self.begin_frame(NewFrame::Map {
                 behind: Some(n - 1),
             }),
-            None => self.open(Opening::Map { behind: None }),
+            None => self.begin_frame(NewFrame::Map { behind: None }),
         }
     }
 

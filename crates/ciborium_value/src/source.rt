@@ -11,11 +11,11 @@ ghost use Rattle.ciborium_value.specs.Sources.{OwesNothing, RefusesAhead, Refuse
 ghost use Rattle.ciborium_value.specs.Sources.{RefusesToTell, TakesNothing, TakesOneItem};
 ghost use Rattle.ciborium_value.specs.Sources.{TakesOnly, TakesTo, Tells, of_kind, of_memory};
 ghost use Rattle.ciborium_value.specs.View.{read_as, tree_of};
-ghost use Rattle.ciborium_value.specs.Taken.{taken_boolean, taken_bytes, taken_character};
-ghost use Rattle.ciborium_value.specs.Taken.{taken_integer, taken_name, taken_outer_tag};
+ghost use Rattle.ciborium_value.specs.Given.{given_boolean, given_bytes, given_character};
+ghost use Rattle.ciborium_value.specs.Given.{given_integer, given_name, given_outer_tag};
 ghost use Rattle.ciborium_value.specs.Labels.{label_place};
-ghost use Rattle.ciborium_value.specs.Taken.{is_null, taken_pairs, taken_seq, taken_skip};
-ghost use Rattle.ciborium_value.specs.Taken.{taken_text, taken_unit, taken_value, taken_variant};
+ghost use Rattle.ciborium_value.specs.Given.{is_null, given_pairs, given_seq, given_skip};
+ghost use Rattle.ciborium_value.specs.Given.{given_text, given_unit, given_value, given_variant};
 ghost use Rattle.ciborium_value.specs.Tree.{Tree};
 
 use crate::kind::Kind;
@@ -80,45 +80,45 @@ pub trait Source {
     /// one is refused as `TooLarge`, another item under the tag as `Bytes`, any other as `Integer`.
     fn integer(&mut self) -> Result<(bool, u128), Self::Error>
         ensures takes { TakesOneItem stands_before is_unread has_taken left cause self.old self.new
-            taken_integer (λ v. v) result }
+            given_integer (λ v. v) result }
         ensures memory { IfErr result (λ e. IsGrantedFault (cause self.new e) false) };
 
     /// False or true (section 3.3). Skips tags; another item is refused as `Bool`.
     fn boolean(&mut self) -> Result<bool, Self::Error>
         ensures takes { TakesOneItem stands_before is_unread has_taken left cause self.old self.new
-            taken_boolean (λ v. v) result }
+            given_boolean (λ v. v) result }
         ensures memory { IfErr result (λ e. IsGrantedFault (cause self.new e) false) };
 
     /// Null or undefined (section 3.3). Skips tags; another item is refused as `Unit`.
     fn unit(&mut self) -> Result<(), Self::Error>
         ensures takes { TakesOneItem stands_before is_unread has_taken left cause self.old self.new
-            taken_unit (λ v. v) result }
+            given_unit (λ v. v) result }
         ensures memory { IfErr result (λ e. IsGrantedFault (cause self.new e) false) };
 
     /// The one character of a definite text. Skips tags; another item is refused as `Char`.
     fn character(&mut self) -> Result<char, Self::Error>
         ensures takes { TakesOneItem stands_before is_unread has_taken left cause self.old self.new
-            taken_character (λ v. v) result }
+            given_character (λ v. v) result }
         ensures memory { IfErr result (λ e. IsGrantedFault (cause self.new e) false) };
 
     /// A text, of definite or indefinite length (section 3.1). Skips tags; another item is refused
     /// as `Text`.
     fn text(&mut self, alloc: Global) -> Result<String, Self::Error>
         ensures takes { TakesOneItem stands_before is_unread has_taken left cause self.old self.new
-            taken_text string_bytes result };
+            given_text string_bytes result };
 
     /// The bytes of a byte string, of definite or indefinite length (section 3.1); or those of an
     /// array, which takes a level, of numbers from 0 to 255, each as `integer` reads it: a number
     /// out of this range is refused as `Range`. Skips tags; another item is refused as `Bytes`.
     fn bytes(&mut self, alloc: Global) -> Result<Vec<u8>, Self::Error>
         ensures takes { TakesOneItem stands_before is_unread has_taken left cause self.old self.new
-            taken_bytes (λ v. v.items) result };
+            given_bytes (λ v. v.items) result };
 
     /// A name: a text, or a byte string that is UTF-8 once its chunks are joined, either of
     /// definite or indefinite length (section 3.1). Skips tags; another item is refused as `Name`.
     fn name(&mut self, alloc: Global) -> Result<String, Self::Error>
         ensures takes { TakesOneItem stands_before is_unread has_taken left cause self.old self.new
-            taken_name string_bytes result };
+            given_name string_bytes result };
 
     /// The place among these labels of a key: of an integer, or tag 2 or 3, as a number that
     /// `integer` reads; of a string, or any other tag, as a name that `name` reads; of another item
@@ -144,9 +144,9 @@ pub trait Source {
     /// level, which `end_tag` gives back.
     fn begin_tag(&mut self) -> Result<(Option<u64>, Self::Level), Self::Error>
         ensures ok { IfOk result (λ p. Holds stands_before level_stands self.old self.new
-            taken_outer_tag p.0 p.1) }
+            given_outer_tag p.0 p.1) }
         ensures refused { IfErr result
-            (λ e. RefusesAhead stands_before self.old taken_outer_tag (cause self.new e)) }
+            (λ e. RefusesAhead stands_before self.old given_outer_tag (cause self.new e)) }
         ensures memory { IfErr result (λ e. IsGrantedFault (cause self.new e) false) }
         ensures took { OnOk result (TakesTo is_unread self.old self.new Completes) }
         ensures only { TakesOnly has_taken self.old self.new }
@@ -166,9 +166,9 @@ pub trait Source {
     /// another item is refused as `Variant`.
     fn begin_variant(&mut self, alloc: Global) -> Result<(String, Self::Level), Self::Error>
         ensures ok { IfOk result (λ p. Holds stands_before level_stands self.old self.new
-            taken_variant (string_bytes p.0) p.1) }
+            given_variant (string_bytes p.0) p.1) }
         ensures refused { IfErr result
-            (λ e. RefusesAhead stands_before self.old taken_variant (cause self.new e)) }
+            (λ e. RefusesAhead stands_before self.old given_variant (cause self.new e)) }
         ensures took { OnOk result (TakesTo is_unread self.old self.new Completes) }
         ensures only { TakesOnly has_taken self.old self.new }
         ensures less { IfOk result (λ p. left self.new + level_left p.1 ≤ left self.old) }
@@ -186,7 +186,7 @@ pub trait Source {
     fn begin_seq(&mut self, alloc: Global) -> Result<Self::Seq, Self::Error>
         ensures ok { IfOk result (λ q. Enters stands_before seq_stands self.old self.new q) }
         ensures refused { IfErr result
-            (λ e. RefusesAhead stands_before self.old taken_seq (cause self.new e)) }
+            (λ e. RefusesAhead stands_before self.old given_seq (cause self.new e)) }
         ensures took { IfOk result (λ q. TakesTo is_unread self.old self.new (owes q sequence)) }
         ensures only { TakesOnly has_taken self.old self.new }
         ensures less { IfOk result (λ q. left self.new + seq_left q < left self.old) }
@@ -196,7 +196,7 @@ pub trait Source {
     fn begin_map(&mut self) -> Result<Self::Seq, Self::Error>
         ensures ok { IfOk result (λ q. EntersMap stands_before seq_stands self.old self.new q) }
         ensures refused { IfErr result
-            (λ e. RefusesAhead stands_before self.old taken_pairs (cause self.new e)) }
+            (λ e. RefusesAhead stands_before self.old given_pairs (cause self.new e)) }
         ensures memory { IfErr result (λ e. IsGrantedFault (cause self.new e) false) }
         ensures took { IfOk result (λ q. TakesTo is_unread self.old self.new (owes q dictionary)) }
         ensures only { TakesOnly has_taken self.old self.new }
@@ -224,7 +224,7 @@ pub trait Source {
     /// The item ahead, of any type, as a `Value`: its meaning, with bignums folded (section 3.4.3).
     fn value(&mut self, alloc: Global) -> Result<Value, Self::Error>
         ensures takes { TakesOneItem stands_before is_unread has_taken left cause self.old self.new
-            taken_value tree_of result }
+            given_value tree_of result }
         ensures reads { reads self.old self.new (read_as tree_of result) };
 
     /// Passes over the item ahead, of any kind, also one that no `Value` holds, as a float. Nothing
@@ -232,7 +232,7 @@ pub trait Source {
     /// takes the levels that `value` takes.
     fn skip(&mut self, alloc: Global) -> Result<(), Self::Error>
         ensures takes { TakesOneItem stands_before is_unread has_taken left cause self.old self.new
-            taken_skip (λ v. v) result };
+            given_skip (λ v. v) result };
 
     /// The error with which an implementation of `Deserialize` refuses an item.
     fn refuse(&self, kind: Kind) -> Self::Error

@@ -1,4 +1,4 @@
-//! The containers and tags that are open while a value is put together.
+//! The containers and tags that are unfinished while a value is put together.
 
 ghost use Rattle.std.specs.Prelude.{◌≡◌, ◌∷◌, ◌++◌, [], IfOk, List, MatchOption, None, OnErr, OnOk};
 ghost use Rattle.std.specs.Prelude.{Some, drop, length, map, option_map, true};
@@ -16,7 +16,7 @@ use std::mem;
 /// A container or tag that begins. `behind` says how many items or pairs follow the first; with
 /// `None` they are as many as come before a break.
 #[derive(Clone, Copy)]
-pub enum Opening {
+pub enum NewFrame {
     /// An array.
     Array { behind: Option<usize> },
     /// A map.
@@ -25,8 +25,8 @@ pub enum Opening {
     Tag(u64),
 }
 
-// A container or tag that is open: what is in it so far, and how many items or pairs follow the one
-// that is read now.
+// A container or tag that is unfinished: what is in it so far, and how many items or pairs follow
+// the one that is read now.
 #[derive(Drop)]
 enum Frame {
     Array {
@@ -42,20 +42,20 @@ enum Frame {
     Tag(u64),
 }
 
-fn begin(alloc: Global, opening: Opening) -> Frame
-    ensures { frame_of result ≡ begun_frame opening }
+fn begin(alloc: Global, frame: NewFrame) -> Frame
+    ensures { frame_of result ≡ begun_frame frame }
 {
-    match opening {
-        Opening::Array { behind } => Frame::Array {
+    match frame {
+        NewFrame::Array { behind } => Frame::Array {
             items: Vec::new(alloc),
             behind,
         },
-        Opening::Map { behind } => Frame::Map {
+        NewFrame::Map { behind } => Frame::Map {
             pairs: Vec::new(alloc),
             behind,
             waits: false,
         },
-        Opening::Tag(tag) => Frame::Tag(tag),
+        NewFrame::Tag(tag) => Frame::Tag(tag),
     }
 }
 
@@ -202,7 +202,7 @@ fn last_keys(pairs: &[(Value, Value)]) -> Option<(&Value, &Value)>
     }
 }
 
-/// The containers and tags that are open, the innermost at the top.
+/// The containers and tags that are unfinished, the innermost at the top.
 #[derive(Drop)]
 pub struct Stack {
     frames: Vec<Frame>,
@@ -211,7 +211,7 @@ pub struct Stack {
 
 #[tactic(auto, using(crate::proofs::Trees::Stacked::frames_last))]
 impl Stack {
-    /// Nothing is open. This takes no memory.
+    /// Nothing is unfinished. This takes no memory.
     pub fn new(alloc: Global) -> Stack
         ensures { frames_of result ≡ [] }
     {
@@ -221,25 +221,25 @@ impl Stack {
         }
     }
 
-    /// How many containers and tags are open.
+    /// How many containers and tags are unfinished.
     pub fn depth(&self) -> usize
         ensures { result ≡ length (frames_of self.now) }
     {
         self.frames.len()
     }
 
-    /// Opens a container or tag inside those that are open. Where an allocation fails, they are as
-    /// they were.
-    pub fn open(&mut self, opening: Opening) -> Result<(), AllocError>
-        ensures ok { OnOk result (frames_of self.new ≡ begun_frame opening ∷ frames_of self.old) }
+    /// Begins a container or tag inside those that are unfinished. Where an allocation fails, they
+    /// are as they were.
+    pub fn begin_frame(&mut self, frame: NewFrame) -> Result<(), AllocError>
+        ensures ok { OnOk result (frames_of self.new ≡ begun_frame frame ∷ frames_of self.old) }
         ensures err { OnErr result (frames_of self.new ≡ frames_of self.old) }
     {
-        self.frames.push(begin(self.alloc, opening))?;
+        self.frames.push(begin(self.alloc, frame))?;
         Ok(())
     }
 
     /// Puts a value where one is due. Returns the value that it completes last, where nothing is
-    /// open any more. Where an allocation fails, what was open is given up.
+    /// unfinished any more. Where an allocation fails, what was unfinished is given up.
     #[inline(always)]
     pub fn place(&mut self, value: Value) -> Result<Option<Value>, AllocError>
         ensures { IfOk result (λ r. placed_of r (frames_of self.new) ≡

@@ -6,7 +6,7 @@ ghost use Rattle.ciborium_value.specs.Readings.{unique_map_of};
 ghost use Rattle.ciborium_value.specs.Sinks.{container_of, in_turn};
 ghost use Rattle.ciborium_value.specs.WrittenContents.{map-alike};
 ghost use Rattle.ciborium_value.specs.lemmas.FormsReadBackMaps.{map-form};
-ghost use Rattle.ciborium_value.specs.lemmas.ReadsBackMaps.{IsMapHeld, entry_levels, map-back};
+ghost use Rattle.ciborium_value.specs.lemmas.ReadsBackMaps.{IsMapValid, entry_levels, map-back};
 ghost use Rattle.ciborium_value.specs.lemmas.ReadsBackParts.{greatest};
 
 use crate::deserialize::maps::read_map;
@@ -45,17 +45,17 @@ impl<K: Serialize + Ord, V: Serialize> Serialize for UniqueKeys<K, V> {
 }
 
 impl<K: Key + ReadsBack, V: ReadsBack> ReadsBack for UniqueKeys<K, V> {
-    ghost is_held = { λ m. IsMapHeld K.cmp K.is_held V.is_held m.0 };
+    ghost is_valid = { λ m. IsMapValid K.cmp K.is_valid V.is_valid m.0 };
 
     ghost levels = { λ m. suc (greatest (entry_levels K.levels V.levels) m.0.entries) };
 
-    ghost reads_back = { λ m held. map-back K.reads_back V.reads_back true K.cmp K.reading.order
-        K.total K.orders m.0 held };
+    ghost reads_back = { λ m valid. map-back K.reads_back V.reads_back true K.cmp K.reading.order
+        K.total K.orders m.0 valid };
 }
 
 impl<K: Key + FormReadsBack, V: FormReadsBack> FormReadsBack for UniqueKeys<K, V> {
-    ghost form_reads_back = { λ o m held. map-form o (K.form_reads_back o) (V.form_reads_back o)
-        true K.cmp K.reading.order K.total K.orders m.0 held };
+    ghost form_reads_back = { λ o m valid. map-form o (K.form_reads_back o) (V.form_reads_back o)
+        true K.cmp K.reading.order K.total K.orders m.0 valid };
 }
 
 impl<K: Key + WritesContent, V: WritesContent> WritesContent for UniqueKeys<K, V> {

@@ -8,9 +8,9 @@ ghost use Rattle.ciborium_value.specs.Labels as labels;
 ghost use Rattle.ciborium_value.specs.Nesting.{Limit};
 ghost use Rattle.ciborium_value.specs.Sources.{RefusesAhead, TakesAhead, TakesItem, TakesOneItem};
 ghost use Rattle.ciborium_value.specs.Sources.{TakesOnly, of_kind};
-ghost use Rattle.ciborium_value.specs.StructReadings.{FieldsTaken, field_place, field_taken};
-ghost use Rattle.ciborium_value.specs.StructReadings.{no_field_taken, no_other_taken, taken_fields};
-ghost use Rattle.ciborium_value.specs.Taken.{outcome};
+ghost use Rattle.ciborium_value.specs.StructReadings.{FieldsGiven, field_place, field_given};
+ghost use Rattle.ciborium_value.specs.StructReadings.{no_field_given, no_other_given, given_fields};
+ghost use Rattle.ciborium_value.specs.Given.{outcome};
 ghost use Rattle.ciborium_value.specs.declared.kind.Kind.TheVariants.{Other};
 
 use crate::deserialize::Deserialize;
@@ -62,7 +62,7 @@ pub trait WantedFields: Labels + Drop {
     ghost content: { Self → Content };
 
     // What an item gives them under a label, onto what was read.
-    ghost fields: { Self → FieldsTaken Content };
+    ghost fields: { Self → FieldsGiven Content };
 
     /// Whether a field that occurs twice is refused.
     fn is_once(&self) -> bool
@@ -101,7 +101,7 @@ pub trait FieldsEnd: Drop {
     ghost once: { Bool };
 
     // What stands under a key that is no field's.
-    ghost others: { FieldsTaken (Unit {0}) };
+    ghost others: { FieldsGiven (Unit {0}) };
 
     /// Whether a field that occurs twice is refused.
     fn is_once() -> bool
@@ -128,7 +128,7 @@ pub trait FieldsEnd: Drop {
 impl FieldsEnd for NoField {
     ghost once = { false };
 
-    ghost others = { no_field_taken };
+    ghost others = { no_field_given };
 
     fn is_once() -> bool {
         false
@@ -146,7 +146,7 @@ impl FieldsEnd for NoField {
 impl FieldsEnd for NoFieldTwice {
     ghost once = { true };
 
-    ghost others = { no_field_taken };
+    ghost others = { no_field_given };
 
     fn is_once() -> bool {
         true
@@ -164,7 +164,7 @@ impl FieldsEnd for NoFieldTwice {
 impl FieldsEnd for NoOtherField {
     ghost once = { true };
 
-    ghost others = { no_other_taken };
+    ghost others = { no_other_given };
 
     fn is_once() -> bool {
         true
@@ -246,7 +246,7 @@ impl<L: SoughtLabel, V: Deserialize, R: WantedFields> WantedFields for Wanted<L,
 
     ghost content = { λ w. (option_map V.reading.content w.1, R.content w.2) };
 
-    ghost fields = { λ w. field_taken R.once (L.label w.0) V.reading.taken (R.fields w.2) };
+    ghost fields = { λ w. field_given R.once (L.label w.0) V.reading.taken (R.fields w.2) };
 
     fn is_once(&self) -> bool {
         self.2.is_once()
@@ -290,7 +290,7 @@ pub fn read_fields<F: WantedFields, S: Source>(
     fields: &mut F,
 ) -> Result<(), S::Error>
     ensures { TakesOneItem S.stands_before S.is_unread S.has_taken S.left S.cause source.old
-        source.new (taken_fields (F.fields fields.old) (F.content fields.old))
+        source.new (given_fields (F.fields fields.old) (F.content fields.old))
         (λ _. F.content fields.new) result }
 {
     let mut seq = source.begin_map()?;

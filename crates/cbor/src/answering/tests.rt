@@ -1,14 +1,20 @@
 // The answers to a line, where memory is ample.
 use super::{answer_canon, answer_encoding, answer_line, answer_line_det, answer_seq};
-use crate::rooms::Rooms;
+use crate::buffers::Buffers;
 use ciborium_value::KeyOrder;
 use std::process::Abort;
 use std::test::Fail;
 
 // Holds an answer to whether the line is as it is asked for, and to its text.
-fn expect_answer(rt: &impl Abort, is_ok: bool, rooms: &Rooms, expected: (bool, &str), line: &str) {
+fn expect_answer(
+    rt: &impl Abort,
+    is_ok: bool,
+    buffers: &Buffers,
+    expected: (bool, &str),
+    line: &str,
+) {
     assert_eq!(rt; is_ok, expected.0, "{line}");
-    assert_eq!(rt; rooms.text.as_slice(), expected.1.as_bytes(), "{line}");
+    assert_eq!(rt; buffers.text.as_slice(), expected.1.as_bytes(), "{line}");
 }
 
 // A line, a limit, and the answer.
@@ -96,10 +102,10 @@ const FORMS: &[(&str, KeyOrder, usize, (bool, &str))] = &[
 
 #[test]
 fn answers_with_deterministic_encodings(rt: HostRuntime) -> Result<(), Fail> {
-    let mut rooms = Rooms::new(rt.alloc());
+    let mut buffers = Buffers::new(rt.alloc());
     for &(line, order, limit, expected) in FORMS {
-        let is_ok = answer_canon(rt.alloc(), line.as_bytes(), order, limit, &mut rooms)?;
-        expect_answer(&rt, is_ok, &rooms, expected, line);
+        let is_ok = answer_canon(rt.alloc(), line.as_bytes(), order, limit, &mut buffers)?;
+        expect_answer(&rt, is_ok, &buffers, expected, line);
     }
     Ok(())
 }
@@ -170,10 +176,10 @@ const NOTATION: &[(&str, usize, (bool, &str))] = &[
 
 #[test]
 fn answers_notation_with_encodings(rt: HostRuntime) -> Result<(), Fail> {
-    let mut rooms = Rooms::new(rt.alloc());
+    let mut buffers = Buffers::new(rt.alloc());
     for &(line, limit, expected) in NOTATION {
-        let is_ok = answer_encoding(rt.alloc(), line.as_bytes(), limit, &mut rooms)?;
-        expect_answer(&rt, is_ok, &rooms, expected, line);
+        let is_ok = answer_encoding(rt.alloc(), line.as_bytes(), limit, &mut buffers)?;
+        expect_answer(&rt, is_ok, &buffers, expected, line);
     }
     Ok(())
 }

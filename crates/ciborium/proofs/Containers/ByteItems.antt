@@ -9,15 +9,15 @@ use Rattle.ciborium_ll.proofs.UniqueSpelling.{one_at_front}
 use Rattle.ciborium_ll.specs.declared.decoder.Decoder.{Decoder}
 use Rattle.ciborium_ll.specs.Decoding.{HasSameReader}
 use Rattle.ciborium.proofs.Items.Weights.{entered-fewer}
-use Rattle.ciborium_value.specs.Ahead.{Rest, Form, after, parts, past, inside, end_of}
+use Rattle.ciborium_value.specs.Ahead.{Rest, Span, after, parts, past, inside, end_of}
 use Rattle.ciborium_value.specs.Nesting.{Limit}
 use Rattle.ciborium_value.specs.Places.{sequence}
 use Rattle.ciborium_value.specs.Sources.{Fault, IsFaultOf, TakesAhead, RefusesAhead, TakesItem, TakesTo, GoesOn, Leaves}
 use Rattle.ciborium_value.specs.Sources.{RefusesNext, OwesLess, OwesNothing, HasItem, TakesOneItem, TakesOnly}
 use Rattle.ciborium_value.specs.lemmas.GivenOutcomes.{and_take}
-use Rattle.ciborium_value.specs.Taken.{Outcome, Steps, Taken, deeper, gives, outcome, refuses, take_each}
-use Rattle.ciborium_value.specs.Taken.{then_take}
-use Rattle.ciborium_value.specs.Taken.{number_below, taken_integer, taken_byte, taken_bytes, bare_bytes, untagged}
+use Rattle.ciborium_value.specs.Given.{Outcome, Steps, Given, deeper, gives, outcome, refuses, take_each}
+use Rattle.ciborium_value.specs.Given.{then_take}
+use Rattle.ciborium_value.specs.Given.{number_below, given_integer, given_byte, given_bytes, bare_bytes, untagged}
 use Rattle.ciborium_value.specs.declared.kind.Kind.TheVariants as kinds
 use Rattle.ciborium_value.proofs.Sources.Sequences.{fault_map, fault_outside, fault_then}
 use Rattle.ciborium.specs.declared.de.byte_source.ByteSource.{ByteSource}
@@ -40,7 +40,7 @@ use Rattle.ciborium.proofs.Items.TakenOnly.{IsKept, kept-reader, rest-end}
 -- ---- from the front of unread bytes to where a source stands
 
 module _ {S W : Type 0} (remaining : S → Option (List ℕ)) where
-  pub takes-read : {A : Type 0} (old new : ByteSource S W) (taken : Taken A) (v : A) → IsKept remaining old new →
+  pub takes-read : {A : Type 0} (old new : ByteSource S W) (taken : Given A) (v : A) → IsKept remaining old new →
       new.levels ≡ old.levels → new.pending ≡ None →
       Reads (IsUnread remaining) old new (Some old.levels) taken v → TakesAhead (StandsBefore remaining) old new taken v
   takes-read old new taken v kept levels none h l i f (b, u, (s, r, sp, rest, e), is, ahead) =
@@ -58,21 +58,21 @@ module _ {S W : Type 0} (remaining : S → Option (List ℕ)) where
         ),
       )
 
-  pub refuses-denied : {A : Type 0} (old : ByteSource S W) (taken : Taken A) (fault : Fault) →
+  pub refuses-denied : {A : Type 0} (old : ByteSource S W) (taken : Given A) (fault : Fault) →
       Denies (IsUnread remaining) (end_at remaining) old (Some old.levels) taken fault →
       RefusesAhead (StandsBefore remaining) old taken fault
   refuses-denied old taken fault h l i f (b, u, (s, r, sp, rest, e), is, ahead) =
       subst (λ k. IsFaultOf (end_of f) fault (outcome k (taken i))) (sym is)
       (h b s r i (end_of f) u sp e (rest-end (reader_of remaining old.decoder) r f rest))
 
-  pub took-read : {A : Type 0} (old new : ByteSource S W) (l : Limit) (taken : Taken A) (v : A) →
+  pub took-read : {A : Type 0} (old new : ByteSource S W) (l : Limit) (taken : Given A) (v : A) →
       Reads (IsUnread remaining) old new l taken v → TakesItem (IsUnread remaining) old new
   took-read old new l taken v h b u = let (j, t, z, sq, e, give, un) = h b u in (z, un, (j, t, sq, e))
 
 -- ---- a byte
 
-byte-given : (l : Limit) (i : Item) (n : Bool × ℕ) (v : ℕ) → outcome l (taken_integer i) ≡ gives n →
-    outcome l (number_below 256 n) ≡ gives v → outcome l (taken_byte i) ≡ gives v
+byte-given : (l : Limit) (i : Item) (n : Bool × ℕ) (v : ℕ) → outcome l (given_integer i) ≡ gives n →
+    outcome l (number_below 256 n) ≡ gives v → outcome l (given_byte i) ≡ gives v
 byte-given l i n v e f = ap (λ o. then_take o (λ m. outcome l (number_below 256 m))) e ∙ f
 
 -- ---- items in turn
@@ -103,21 +103,21 @@ each-fault end fault l f (j ∷ done) i rest vs h b =
     (fault_map end fault (λ ws. w.0 ∷ ws) behind (each-fault end fault l f done i rest w.1 w.3 b))
 
 -- some items of what was left were read
-pub record IsPartlyRead {S W A : Type 0} (remaining : S → Option (List ℕ)) (taken : Taken A) (new : ByteSource S W)
-    (q : ByteSeq) (vs : List A) (l : Limit) (form : Form) (is : List Item) (r : Rest) : Type 0 where
+pub record IsPartlyRead {S W A : Type 0} (remaining : S → Option (List ℕ)) (taken : Given A) (new : ByteSource S W)
+    (q : ByteSeq) (vs : List A) (l : Limit) (span : Span) (is : List Item) (r : Rest) : Type 0 where
   pub done : List Item
   pub rest : List Item
   pub split : is ≡ done ++ rest
-  pub stands : StandsBefore remaining new (inside form l) (after (parts form rest r))
-  pub holds : SeqStands q l (parts form rest r)
-  pub read : outcome (inside form l) (take_each taken done) ≡ gives vs
+  pub stands : StandsBefore remaining new (inside span l) (after (parts span rest r))
+  pub holds : SeqStands q l (parts span rest r)
+  pub read : outcome (inside span l) (take_each taken done) ≡ gives vs
 
-abbrev pub ReadsPartly : {S W A : Type 0} → (S → Option (List ℕ)) → Taken A → ByteSource S W → ByteSeq →
+abbrev pub ReadsPartly : {S W A : Type 0} → (S → Option (List ℕ)) → Given A → ByteSource S W → ByteSeq →
     ByteSource S W →
     ByteSeq → List A → Type 0
-ReadsPartly remaining taken old q new q' vs = (l : Limit) (form : Form) (is : List Item) (r : Rest) →
-    StandsBefore remaining old (inside form l) (after (parts form is r)) → SeqStands q l (parts form is r) →
-    IsPartlyRead remaining taken new q' vs l form is r
+ReadsPartly remaining taken old q new q' vs = (l : Limit) (span : Span) (is : List Item) (r : Rest) →
+    StandsBefore remaining old (inside span l) (after (parts span is r)) → SeqStands q l (parts span is r) →
+    IsPartlyRead remaining taken new q' vs l span is r
 
 -- of known bytes those of some items were taken
 abbrev pub OwesPartly : {S W : Type 0} → (S → Option (List ℕ)) → ByteSource S W → ByteSeq → ByteSource S W → ByteSeq →
@@ -125,10 +125,10 @@ abbrev pub OwesPartly : {S W : Type 0} → (S → Option (List ℕ)) → ByteSou
 OwesPartly remaining old q new q' = TakesTo (IsUnread remaining) old new
     (λ c u. (b : List ℕ) → SeqOwes q sequence b c → SeqOwes q' sequence b u)
 
-module _ {S W A : Type 0} (remaining : S → Option (List ℕ)) (taken : Taken A) (old : ByteSource S W)
+module _ {S W A : Type 0} (remaining : S → Option (List ℕ)) (taken : Given A) (old : ByteSource S W)
     (start : ByteSeq) where
   pub partly-none : ReadsPartly remaining taken old start old start []
-  partly-none l form is r st hold = record {
+  partly-none l span is r st hold = record {
     done = [];
     rest = is;
     split = refl;
@@ -141,26 +141,26 @@ module _ {S W A : Type 0} (remaining : S → Option (List ℕ)) (taken : Taken A
       ReadsPartly remaining taken old start mid q vs → GoesOn (StandsBefore remaining) SeqStands mid ahead q q' →
       TakesAhead (StandsBefore remaining) ahead new taken v →
       ReadsPartly remaining taken old start new q' (vs ++ v ∷ [])
-  partly-more mid ahead new q q' vs v w g t l form is r st hold =
-      let n = w l form is r st hold in
-      let e = g.0 l form n.rest r n.stands n.holds in
-      let k = t (inside form l) e.0 (parts form e.1 r) e.3 in
+  partly-more mid ahead new q q' vs v w g t l span is r st hold =
+      let n = w l span is r st hold in
+      let e = g.0 l span n.rest r n.stands n.holds in
+      let k = t (inside span l) e.0 (parts span e.1 r) e.3 in
       record {
         done = n.done ++ e.0 ∷ [];
         rest = e.1;
         split = n.split ∙ ap (λ x. n.done ++ x) e.2 ∙ sym (append_assoc n.done (e.0 ∷ []) e.1);
         stands = k.1;
         holds = e.4;
-        read = each-more (inside form l) taken n.done e.0 vs v n.read k.0;
+        read = each-more (inside span l) taken n.done e.0 vs v n.read k.0;
       }
 
   pub partly-end : (mid new : ByteSource S W) (q : ByteSeq) (vs : List A) →
       ReadsPartly remaining taken old start mid q vs → Leaves (StandsBefore remaining) SeqStands mid new q →
       ReadsRest remaining old new start (take_each taken) vs
-  partly-end mid new q vs w g l form is r st hold =
-      let n = w l form is r st hold in
-      let e = g.0 l form n.rest r n.stands n.holds in (
-        ap (λ js. outcome (inside form l) (take_each taken js))
+  partly-end mid new q vs w g l span is r st hold =
+      let n = w l span is r st hold in
+      let e = g.0 l span n.rest r n.stands n.holds in (
+        ap (λ js. outcome (inside span l) (take_each taken js))
             (n.split ∙ ap (λ x. n.done ++ x) e.0 ∙ append-nil n.done) ∙ n.read,
         e.1,
       )
@@ -168,20 +168,20 @@ module _ {S W A : Type 0} (remaining : S → Option (List ℕ)) (taken : Taken A
   pub partly-next-fault : (mid : ByteSource S W) (q : ByteSeq) (vs : List A) (fault : Fault) →
       ReadsPartly remaining taken old start mid q vs → RefusesNext (StandsBefore remaining) SeqStands mid q fault →
       RefusesRest remaining old start (take_each taken) fault
-  partly-next-fault mid q vs fault w h l form is r st hold =
-      let n = w l form is r st hold in
-      fault_outside _ fault (outcome (inside form l) (take_each taken is)) (h.0 l form n.rest r n.stands n.holds)
+  partly-next-fault mid q vs fault w h l span is r st hold =
+      let n = w l span is r st hold in
+      fault_outside _ fault (outcome (inside span l) (take_each taken is)) (h.0 l span n.rest r n.stands n.holds)
 
   pub partly-fault : (mid ahead : ByteSource S W) (q q' : ByteSeq) (vs : List A) (fault : Fault) →
       ReadsPartly remaining taken old start mid q vs → GoesOn (StandsBefore remaining) SeqStands mid ahead q q' →
       RefusesAhead (StandsBefore remaining) ahead taken fault →
       RefusesRest remaining old start (take_each taken) fault
-  partly-fault mid ahead q q' vs fault w g h l form is r st hold =
-      let n = w l form is r st hold in
-      let e = g.0 l form n.rest r n.stands n.holds in
-      let b = h (inside form l) e.0 (parts form e.1 r) e.3 in
-      subst (λ o. IsFaultOf (end_of r) fault (outcome (inside form l) (take_each taken o)))
-      (sym (n.split ∙ ap (λ x. n.done ++ x) e.2)) (each-fault (end_of r) fault (inside form l) taken n.done
+  partly-fault mid ahead q q' vs fault w g h l span is r st hold =
+      let n = w l span is r st hold in
+      let e = g.0 l span n.rest r n.stands n.holds in
+      let b = h (inside span l) e.0 (parts span e.1 r) e.3 in
+      subst (λ o. IsFaultOf (end_of r) fault (outcome (inside span l) (take_each taken o)))
+      (sym (n.split ∙ ap (λ x. n.done ++ x) e.2)) (each-fault (end_of r) fault (inside span l) taken n.done
       e.0 e.1 vs n.read b)
 
   pub owes-none : OwesPartly remaining old start old start
@@ -208,20 +208,20 @@ module _ {S W A : Type 0} (remaining : S → Option (List ℕ)) (taken : Taken A
 module _ {S W : Type 0} (remaining : S → Option (List ℕ)) (ahead : ByteSource S W) where
   pub byte-takes : (new : ByteSource S W) (n : Bool × ℕ) (v : ℕ) →
       ((l : Limit) → outcome l (number_below 256 n) ≡ gives v) →
-      TakesAhead (StandsBefore remaining) ahead new taken_integer n →
-      TakesAhead (StandsBefore remaining) ahead new taken_byte v
+      TakesAhead (StandsBefore remaining) ahead new given_integer n →
+      TakesAhead (StandsBefore remaining) ahead new given_byte v
   byte-takes new n v e t l i f st = let k = t l i f st in (byte-given l i n v k.0 (e l), k.1)
 
-  pub byte-refuses : (fault : Fault) → RefusesAhead (StandsBefore remaining) ahead taken_integer fault →
-      RefusesAhead (StandsBefore remaining) ahead taken_byte fault
-  byte-refuses fault h l i f st = fault_then (end_of f) fault (outcome l (taken_integer i))
+  pub byte-refuses : (fault : Fault) → RefusesAhead (StandsBefore remaining) ahead given_integer fault →
+      RefusesAhead (StandsBefore remaining) ahead given_byte fault
+  byte-refuses fault h l i f st = fault_then (end_of f) fault (outcome l (given_integer i))
       (λ n. outcome l (number_below 256 n)) (h l i f st)
 
   -- a number that is no byte
   pub range-refuses : (new : ByteSource S W) (n : Bool × ℕ) (fault : Fault) →
       ((end : ℕ) (l : Limit) → IsFaultOf end fault (outcome l (number_below 256 n))) →
-      TakesAhead (StandsBefore remaining) ahead new taken_integer n →
-      RefusesAhead (StandsBefore remaining) ahead taken_byte fault
+      TakesAhead (StandsBefore remaining) ahead new given_integer n →
+      RefusesAhead (StandsBefore remaining) ahead given_byte fault
   range-refuses new n fault b t l i f st = let k = t l i f st in
       subst (λ o. IsFaultOf (end_of f) fault (then_take o (λ m. outcome l (number_below 256 m)))) (sym k.0)
       (b (end_of f) l)
@@ -229,30 +229,30 @@ module _ {S W : Type 0} (remaining : S → Option (List ℕ)) (ahead : ByteSourc
 -- ---- the array
 
 pub bytes-given : (m : ℕ) → m ≢ 0 → (ts : List ℕ) (i : Item) (xs : List Item) → HasItems i xs →
-    outcome (Some m) (taken_bytes (under ts i)) ≡ outcome (deeper (Some m)) (take_each taken_byte xs)
+    outcome (Some m) (given_bytes (under ts i)) ≡ outcome (deeper (Some m)) (take_each given_byte xs)
 bytes-given m some ts i xs (o, js, is, all) =
     ap (λ j. outcome (Some m) (bare_bytes j)) (untagged-under ts i ∙ ap untagged is) ∙ within-is m _ some ∙
-    ap (λ ys. outcome (deeper (Some m)) (take_each taken_byte ys)) all
+    ap (λ ys. outcome (deeper (Some m)) (take_each given_byte ys)) all
 
 -- an array was entered whose items are read as bytes
-pub record HasOpenedArray {S W : Type 0} (remaining : S → Option (List ℕ)) (old mid : ByteSource S W)
+pub record HasBegunArray {S W : Type 0} (remaining : S → Option (List ℕ)) (old mid : ByteSource S W)
     (q : ByteSeq) : Type 0
   where
     pub kept : IsKept remaining old mid
     pub levels : q.levels ≡ old.levels
     pub none : mid.pending ≡ None
     pub fewer : weight_left mid < weight_left old
-    pub opens : EntersItemsUnread remaining old mid taken_bytes (λ form is. take_each taken_byte is) q
+    pub opens : EntersItemsUnread remaining old mid given_bytes (λ span is. take_each given_byte is) q
 
-pub array-opened : {S W : Type 0} (can_fail : Bool) (remaining : S → Option (List ℕ)) (old mid new : ByteSource S W)
+pub array-begun : {S W : Type 0} (can_fail : Bool) (remaining : S → Option (List ℕ)) (old mid new : ByteSource S W)
     (count : Option ℕ)
     (q : ByteSeq) (h : Header) (offset : ℕ) → h ≡ header.Array count →
     TakesBare (IsUnread remaining) old mid false h →
     ReadsBareHead can_fail remaining old mid false (Ok (h, offset)) →
     ((new.decoder ≡ mid.decoder) × (new.pending ≡ mid.pending) × (mid.levels ≢ 0) ×
     (new.levels ≡ mid.levels - 1) × (q.left ≡ parts_left count)) → q.levels ≡ mid.levels →
-    HasOpenedArray remaining old new q
-array-opened {S = S} {W = W} can_fail remaining old mid new count q h offset is head reads entered back = record {
+    HasBegunArray remaining old new q
+array-begun {S = S} {W = W} can_fail remaining old mid new count q h offset is head reads entered back = record {
   kept = (
     ap (λ (d : Decoder S W). d.reader.ghost_name) entered.0 ∙ reads.same_reader,
     λ first t. subst (HasTaken remaining first) (sym entered.0) (reads.only first t),
@@ -260,39 +260,39 @@ array-opened {S = S} {W = W} can_fail remaining old mid new count q h offset is 
   levels = back ∙ reads.levels;
   none = entered.1 ∙ reads.pending;
   fewer = entered-fewer old mid new h entered.0 (entered.1 ∙ reads.pending) reads.fewer;
-  opens = array-entered remaining old mid new count q reads.levels entered taken_bytes
-      (λ form is. take_each taken_byte is) (subst (TakesBare (IsUnread remaining) old mid false) is head)
+  opens = array-entered remaining old mid new count q reads.levels entered given_bytes
+      (λ span is. take_each given_byte is) (subst (TakesBare (IsUnread remaining) old mid false) is head)
       (bytes-given old.levels (λ z. entered.2 (reads.levels ∙ z)));
 }
 
 module _ {S W : Type 0} (remaining : S → Option (List ℕ)) (old mid : ByteSource S W) (q : ByteSeq)
-    (opened : HasOpenedArray remaining old mid q) where
+    (begun : HasBegunArray remaining old mid q) where
   pub array-takes : (new : ByteSource S W) (v : List ℕ) →
-      ReadsRest remaining mid new q (take_each taken_byte) v →
-      TakesAhead (StandsBefore remaining) old new taken_bytes v
+      ReadsRest remaining mid new q (take_each given_byte) v →
+      TakesAhead (StandsBefore remaining) old new given_bytes v
   array-takes new v reads l i f st =
-      let (form, is, give, stands, holds) = items-stand remaining old mid q opened.kept opened.levels opened.none
-      opened.fewer taken_bytes (λ form its. take_each taken_byte its) opened.opens l i f st in
-      let (e, past) = reads l form is f stands holds in
+      let (span, is, give, stands, holds) = items-stand remaining old mid q begun.kept begun.levels begun.none
+      begun.fewer given_bytes (λ span its. take_each given_byte its) begun.opens l i f st in
+      let (e, past) = reads l span is f stands holds in
       (give ∙ e, past)
 
-  pub array-refuses : (fault : Fault) → RefusesRest remaining mid q (take_each taken_byte) fault →
-      RefusesAhead (StandsBefore remaining) old taken_bytes fault
+  pub array-refuses : (fault : Fault) → RefusesRest remaining mid q (take_each given_byte) fault →
+      RefusesAhead (StandsBefore remaining) old given_bytes fault
   array-refuses fault denied l i f st =
-      let (form, is, give, stands, holds) = items-stand remaining old mid q opened.kept opened.levels opened.none
-      opened.fewer taken_bytes (λ form its. take_each taken_byte its) opened.opens l i f st in
-      subst (λ o. IsFaultOf (end_of f) fault o) (sym give) (denied l form is f stands holds)
+      let (span, is, give, stands, holds) = items-stand remaining old mid q begun.kept begun.levels begun.none
+      begun.fewer given_bytes (λ span its. take_each given_byte its) begun.opens l i f st in
+      subst (λ o. IsFaultOf (end_of f) fault o) (sym give) (denied l span is f stands holds)
 
   pub array-took : (new : ByteSource S W) → TakesTo (IsUnread remaining) mid new
       (λ c z. (b : List ℕ) → SeqOwes q sequence b c → HasItem b z) → TakesItem (IsUnread remaining) old new
   array-took new took b u =
-      let (w, un, owes, rest) = opened.opens b u in
+      let (w, un, owes, rest) = begun.opens b u in
       let (z, un', done) = took w un in
       (z, un', done b owes)
 
 pub bytes-other : (l : Limit) (h : Header) → IsBare false h → ((n : Option ℕ) → h ≡ header.Array n → ⊥) →
     ((n : Option ℕ) → h ≡ header.Bytes n → ⊥) → (ts : List ℕ) (i : Item) → AreSkipped false ts → header_of i ≡ h →
-    outcome l (taken_bytes (under ts i)) ≡ refuses kinds.Bytes
+    outcome l (given_bytes (under ts i)) ≡ refuses kinds.Bytes
 bytes-other l h bare p q ts i all e = ap (λ j. outcome l (bare_bytes j)) (untagged-under ts i) ∙
     by-shape (λ j. outcome l (bare_bytes (untagged j)) ≡ refuses kinds.Bytes) h (λ n k. refl) (λ n k. refl)
     (λ o b k. absurd (q _ k)) (λ o b k. refl) (λ o is k. absurd (p _ k)) (λ o ps k. refl) (λ n k. refl)
@@ -303,17 +303,17 @@ bytes-other l h bare p q ts i all e = ap (λ j. outcome l (bare_bytes j)) (untag
 pub bytes-read : {S W : Type 0} (remaining : S → Option (List ℕ)) (old mid new : ByteSource S W) (len : Option ℕ)
     (payload : List ℕ) → TakesBare (IsUnread remaining) old mid false (header.Bytes len) →
     TakesContent (IsUnread remaining mid) (IsUnread remaining new) string_of_bytes len payload →
-    Reads (IsUnread remaining) old new (Some old.levels) taken_bytes payload
+    Reads (IsUnread remaining) old new (Some old.levels) given_bytes payload
 bytes-read remaining old mid new len payload bare content =
-    reads-bare (IsUnread remaining) false (header.Bytes len) (Some old.levels) taken_bytes old mid new payload bare
-    (string-behind (IsUnread remaining) mid new string_of_bytes len (Some old.levels) taken_bytes payload payload
+    reads-bare (IsUnread remaining) false (header.Bytes len) (Some old.levels) given_bytes old mid new payload bare
+    (string-behind (IsUnread remaining) mid new string_of_bytes len (Some old.levels) given_bytes payload payload
     content (λ ts all. ap (λ j. outcome (Some old.levels) (bare_bytes j))
     (untagged-under ts (string_item string_of_bytes len payload))))
 
 -- ---- what is answered to a call for one item
 
 module _ {S W T A : Type 0} (can_fail : Bool) (remaining : S → Option (List ℕ)) (old new : ByteSource S W)
-    (taken : Taken A) (content : T → A) where
+    (taken : Given A) (content : T → A) where
   abbrev pub TakesOne : Result T (Error (Unit {0})) → Type 0
   TakesOne = TakesOneItem (StandsBefore remaining) (IsUnread remaining) (HasTakenSince remaining) weight_left
       (fault_at can_fail remaining) old new taken content

@@ -13,11 +13,11 @@ use Rattle.ciborium_ll.specs.Spells.{Spells}
 use Rattle.ciborium_ll.specs.StringRefusal.{of_bytes as bytes_kind}
 use Rattle.ciborium_ll.proofs.UniqueSpelling.{one_at_front}
 use Rattle.ciborium_value.specs.Sources.{Enters, EntersMap}
-use Rattle.ciborium_value.specs.Ahead.{Form, Rest, parts, after, item, inside, of_bytes, pairs, takes_level}
+use Rattle.ciborium_value.specs.Ahead.{Span, Rest, parts, after, item, inside, of_bytes, pairs, takes_level}
 use Rattle.ciborium_value.specs.Nesting.{Limit}
 use Rattle.ciborium_value.specs.Places.{is_open, sequence, dictionary}
-use Rattle.ciborium_value.specs.Taken.{Outcome, Steps, Taken, deeper, give, gives, nests, outcome, refuses, untagged}
-use Rattle.ciborium_value.specs.Taken.{bare_pairs, bare_seq, taken_pairs, taken_seq, unpack, unpack_pairs, within_level}
+use Rattle.ciborium_value.specs.Given.{Outcome, Steps, Given, deeper, give, gives, nests, outcome, refuses, untagged}
+use Rattle.ciborium_value.specs.Given.{bare_pairs, bare_seq, given_pairs, given_seq, unpack, unpack_pairs, within_level}
 use Rattle.ciborium_value.specs.declared.kind.Kind.TheVariants as kinds
 use Rattle.ciborium.specs.declared.de.byte_source.ByteSource.{ByteSource}
 use Rattle.ciborium.specs.declared.de.byte_source.ByteSeq.{ByteSeq}
@@ -28,7 +28,7 @@ use Rattle.ciborium.specs.inner.ByteSources.{SeqOwes, LeftOwes, OwesParts, Enter
 use Rattle.ciborium.specs.inner.ByteSources.{HasBytes, parts_left, weight_left, reader_of, seq_left}
 use Rattle.ciborium.specs.inner.Skips.{under, AreSkipped, IsBare, TakesBare, EntersUnread}
 use Rattle.ciborium.specs.inner.StringContents.{TakesContent}
-use Rattle.ciborium.specs.inner.Unread.{AreSpelled, AreLeft, SpellsPair, IsRest, ending, form_of, HasCount}
+use Rattle.ciborium.specs.inner.Unread.{AreSpelled, AreLeft, SpellsPair, IsRest, ending, span_of, HasCount}
 use Rattle.ciborium.proofs.Items.ItemHeads.{header_of, packed, packed-pairs, counted-front, open-front}
 use Rattle.ciborium.proofs.Items.ItemHeads.{counted-pairs-front, open-pairs-front, by-shape, no-bare-tag}
 use Rattle.ciborium.proofs.Items.SkippedTags.{untagged-under}
@@ -44,9 +44,9 @@ pub deeper-is : (n : ℕ) → n ≢ 0 → deeper (Some n) ≡ Some (n - 1)
 deeper-is zero h = absurd (h refl)
 deeper-is (suc n) h = ap Some (omega arith)
 
-inside-form : (count : Option ℕ) (l : Limit) → inside (form_of count) l ≡ deeper l
-inside-form (Some n) l = refl
-inside-form None l = refl
+inside-span : (count : Option ℕ) (l : Limit) → inside (span_of count) l ≡ deeper l
+inside-span (Some n) l = refl
+inside-span None l = refl
 
 -- ---- a container by its head and its parts
 
@@ -55,11 +55,11 @@ inside-form None l = refl
 record IsContainer {X : Type 0} (SpellsPart : List ℕ → X → Type 0) (head_with : Option ℕ → Header)
     (HasParts : Item → List X → Type 0) : Type 0 where
   make : (count : Option ℕ) (t : List ℕ) (xs : List X) → AreSpelled SpellsPart t xs → HasCount count xs → (x : List ℕ) →
-      SpellsHeader x (head_with count) → (i : Item) × Spells (x ++ (t ++ ending (form_of count))) i
+      SpellsHeader x (head_with count) → (i : Item) × Spells (x ++ (t ++ ending (span_of count))) i
   front : (count : Option ℕ) (s r x y : List ℕ) (i : Item) → Spells s i → SpellsHeader x (head_with count) →
       s ++ r ≡ x ++ y →
       (xs : List X) × (c : List ℕ) × HasParts i xs × AreSpelled SpellsPart c xs × HasCount count xs ×
-      (y ≡ c ++ (ending (form_of count) ++ r))
+      (y ≡ c ++ (ending (span_of count) ++ r))
 
 abbrev pub HasItems : Item → List Item → Type 0
 HasItems i is = (o : Bool) × (js : Items) × (i ≡ array o js) × (unpack js ≡ is)
@@ -71,7 +71,7 @@ array-container : IsContainer Spells header.Array HasItems
 array-container = record { make = build; front = behind }
   where
     build : (count : Option ℕ) (t : List ℕ) (xs : List Item) → AreSpelled Spells t xs → HasCount count xs →
-        (x : List ℕ) → SpellsHeader x (header.Array count) → (i : Item) × Spells (x ++ (t ++ ending (form_of count))) i
+        (x : List ℕ) → SpellsHeader x (header.Array count) → (i : Item) × Spells (x ++ (t ++ ending (span_of count))) i
     build (Some n) t xs sp len x hd = let p = packed t xs sp in (
       array false p.0,
       (
@@ -90,7 +90,7 @@ array-container = record { make = build; front = behind }
     behind : (count : Option ℕ) (s r x y : List ℕ) (i : Item) → Spells s i → SpellsHeader x (header.Array count) →
         s ++ r ≡ x ++ y →
         (xs : List Item) × (c : List ℕ) × HasItems i xs × AreSpelled Spells c xs × HasCount count xs ×
-        (y ≡ c ++ (ending (form_of count) ++ r))
+        (y ≡ c ++ (ending (span_of count) ++ r))
     behind (Some n) s r x y i sp hd e = let (its, c, is, sps, len, h) = counted-front s r x y i n sp hd e in
         (unpack its, c, (false, its, is, refl), sps, len, h)
     behind None s r x y i sp hd e = let (its, c, is, sps, h) = open-front s r x y i sp hd e in
@@ -100,7 +100,7 @@ map-container : IsContainer SpellsPair header.Map HasPairs
 map-container = record { make = build; front = behind }
   where
     build : (count : Option ℕ) (t : List ℕ) (xs : List (Item × Item)) → AreSpelled SpellsPair t xs → HasCount count xs →
-        (x : List ℕ) → SpellsHeader x (header.Map count) → (i : Item) × Spells (x ++ (t ++ ending (form_of count))) i
+        (x : List ℕ) → SpellsHeader x (header.Map count) → (i : Item) × Spells (x ++ (t ++ ending (span_of count))) i
     build (Some n) t xs sp len x hd = let p = packed-pairs t xs sp in (
       items.map false p.0,
       (
@@ -119,7 +119,7 @@ map-container = record { make = build; front = behind }
     behind : (count : Option ℕ) (s r x y : List ℕ) (i : Item) → Spells s i → SpellsHeader x (header.Map count) →
         s ++ r ≡ x ++ y →
         (xs : List (Item × Item)) × (c : List ℕ) × HasPairs i xs × AreSpelled SpellsPair c xs × HasCount count xs ×
-        (y ≡ c ++ (ending (form_of count) ++ r))
+        (y ≡ c ++ (ending (span_of count) ++ r))
     behind (Some n) s r x y i sp hd e = let (ps, c, is, sps, len, h) = counted-pairs-front s r x y i n sp hd e in
         (unpack_pairs ps, c, (false, ps, is, refl), sps, len, h)
     behind None s r x y i sp hd e = let (ps, c, is, sps, h) = open-pairs-front s r x y i sp hd e in
@@ -127,29 +127,29 @@ map-container = record { make = build; front = behind }
 
 -- all parts of a container of counted parts, or up to a break, are in the bytes
 left-spelled : {X : Type 0} (SpellsPart : List ℕ → X → Type 0) (count : Option ℕ) (c : List ℕ) (xs : List X) →
-    AreSpelled SpellsPart c xs → AreLeft SpellsPart (form_of count) c xs
+    AreSpelled SpellsPart c xs → AreLeft SpellsPart (span_of count) c xs
 left-spelled SpellsPart (Some n) c xs sp = sp
 left-spelled SpellsPart None c xs sp = sp
 
 module _ {S X A : Type 0} (SpellsPart : List ℕ → X → Type 0) (head_with : Option ℕ → Header)
     (HasParts : Item → List X → Type 0) (is_container : IsContainer SpellsPart head_with HasParts)
-    (Owed : ByteSeq → List ℕ → List ℕ → Type 0) (Held : ByteSeq → Form → List X → Type 0)
-    (IsUnread : S → List ℕ → Type 0) (taken : Taken A) (f : Form → List X → Steps A) where
+    (Owed : ByteSeq → List ℕ → List ℕ → Type 0) (Held : ByteSeq → Span → List X → Type 0)
+    (IsUnread : S → List ℕ → Type 0) (taken : Given A) (f : Span → List X → Steps A) where
   entered : (old mid new : S) (m : ℕ) (count : Option ℕ) (q : ByteSeq) → m ≢ 0 →
       TakesBare IsUnread old mid false (head_with count) → ((y : List ℕ) → IsUnread mid y → IsUnread new y) →
       ((b u : List ℕ) → OwesParts SpellsPart count b u → Owed q b u) →
-      ((xs : List X) → HasCount count xs → Held q (form_of count) xs) →
+      ((xs : List X) → HasCount count xs → Held q (span_of count) xs) →
       ((ts : List ℕ) (i : Item) (xs : List X) → HasParts i xs →
-      outcome (Some m) (taken (under ts i)) ≡ outcome (deeper (Some m)) (f (form_of count) xs)) →
+      outcome (Some m) (taken (under ts i)) ≡ outcome (deeper (Some m)) (f (span_of count) xs)) →
       EntersUnread IsUnread Owed SpellsPart Held old new (Some m) (Some (m - 1)) taken f q
   entered old mid new m count q some bare into owes holds give b u =
       let (ts, w, x, y, tagged, all, hd, e, un) = bare b u in
       let owed : OwesParts SpellsPart count b y = λ t z xs sp len g.
       let (i, made) = is_container.make count t xs sp len x hd in
-      let split : w ≡ (x ++ (t ++ ending (form_of count))) ++ z = e ∙
-      ap (λ (r : List ℕ). x ++ r) (g ∙ sym (append_assoc t (ending (form_of count)) z)) ∙
-      sym (append_assoc x (t ++ ending (form_of count)) z) in
-      let (s, sq, k) = tagged.outward i (x ++ (t ++ ending (form_of count))) z made split in
+      let split : w ≡ (x ++ (t ++ ending (span_of count))) ++ z = e ∙
+      ap (λ (r : List ℕ). x ++ r) (g ∙ sym (append_assoc t (ending (span_of count)) z)) ∙
+      sym (append_assoc x (t ++ ending (span_of count)) z) in
+      let (s, sq, k) = tagged.outward i (x ++ (t ++ ending (span_of count))) z made split in
       (under ts i, s, sq, k) in (
         y,
         into y un,
@@ -157,12 +157,12 @@ module _ {S X A : Type 0} (SpellsPart : List ℕ → X → Type 0) (head_with : 
         λ j t z sp g.
             let (i, s, is, sq, k) = tagged.inward j t z sp g in
             let (xs, c, has, sps, len, h) = is_container.front count s z x y i sq hd (sym k ∙ e) in (
-              form_of count,
+              span_of count,
               xs,
               c,
               ap (λ j. outcome (Some m) (taken j)) is ∙ give ts i xs has ∙
-                  ap (λ l. outcome l (f (form_of count) xs)) (sym (inside-form count (Some m))),
-              inside-form count (Some m) ∙ deeper-is m some,
+                  ap (λ l. outcome l (f (span_of count) xs)) (sym (inside-span count (Some m))),
+              inside-span count (Some m) ∙ deeper-is m some,
               left-spelled SpellsPart count c xs sps,
               h,
               holds xs len,
@@ -180,14 +180,14 @@ pairs-owed q (Some n) e b u h = subst (λ k. LeftOwes k dictionary b u) (sym e) 
 pairs-owed q None e b u h = subst (λ k. LeftOwes k dictionary b u) (sym e) h
 
 items-held : (q : ByteSeq) (count : Option ℕ) → q.left ≡ parts_left count → (xs : List Item) → HasCount count xs →
-    HoldsItems q.left (form_of count) xs
-items-held q (Some n) e xs h = subst (λ k. HoldsItems k (form_of (Some n)) xs) (sym e) (refl, h)
-items-held q None e xs h = subst (λ k. HoldsItems k (form_of None) xs) (sym e) (refl, h)
+    HoldsItems q.left (span_of count) xs
+items-held q (Some n) e xs h = subst (λ k. HoldsItems k (span_of (Some n)) xs) (sym e) (refl, h)
+items-held q None e xs h = subst (λ k. HoldsItems k (span_of None) xs) (sym e) (refl, h)
 
 pairs-held : (q : ByteSeq) (count : Option ℕ) → q.left ≡ parts_left count → (xs : List (Item × Item)) →
-    HasCount count xs → HoldsPairs q.left (form_of count) xs
-pairs-held q (Some n) e xs h = subst (λ k. HoldsPairs k (form_of (Some n)) xs) (sym e) (refl, h)
-pairs-held q None e xs h = subst (λ k. HoldsPairs k (form_of None) xs) (sym e) (refl, h)
+    HasCount count xs → HoldsPairs q.left (span_of count) xs
+pairs-held q (Some n) e xs h = subst (λ k. HoldsPairs k (span_of (Some n)) xs) (sym e) (refl, h)
+pairs-held q None e xs h = subst (λ k. HoldsPairs k (span_of None) xs) (sym e) (refl, h)
 
 -- ---- arrays, byte strings and maps
 
@@ -205,10 +205,10 @@ same-unread remaining mid new e f y u = subst (λ d. IsUnreadBy remaining d new.
 module _ {S W : Type 0} (remaining : S → Option (List ℕ)) (old mid new : ByteSource S W) (count : Option ℕ)
     (q : ByteSeq)
     (same : mid.levels ≡ old.levels) (is : IsEntered mid new count q) where
-  pub array-entered : {A : Type 0} (taken : Taken A) (f : Form → List Item → Steps A) →
+  pub array-entered : {A : Type 0} (taken : Given A) (f : Span → List Item → Steps A) →
       TakesBare (IsUnread remaining) old mid false (header.Array count) →
       ((ts : List ℕ) (i : Item) (xs : List Item) → HasItems i xs →
-      outcome (Some old.levels) (taken (under ts i)) ≡ outcome (deeper (Some old.levels)) (f (form_of count) xs)) →
+      outcome (Some old.levels) (taken (under ts i)) ≡ outcome (deeper (Some old.levels)) (f (span_of count) xs)) →
       EntersItemsUnread remaining old new taken f q
   array-entered taken f bare give =
       let some : old.levels ≢ 0 = λ z. is.2 (same ∙ z) in
@@ -218,10 +218,10 @@ module _ {S W : Type 0} (remaining : S → Option (List ℕ)) (old mid new : Byt
       (IsUnread remaining) taken f old mid new old.levels count q some bare
       (same-unread remaining mid new is.0 is.1) (items-owed q count is.4) (items-held q count is.4) give)
 
-  pub map-entered : {A : Type 0} (taken : Taken A) (f : Form → List (Item × Item) → Steps A) →
+  pub map-entered : {A : Type 0} (taken : Given A) (f : Span → List (Item × Item) → Steps A) →
       TakesBare (IsUnread remaining) old mid false (header.Map count) →
       ((ts : List ℕ) (i : Item) (xs : List (Item × Item)) → HasPairs i xs →
-      outcome (Some old.levels) (taken (under ts i)) ≡ outcome (deeper (Some old.levels)) (f (form_of count) xs)) →
+      outcome (Some old.levels) (taken (under ts i)) ≡ outcome (deeper (Some old.levels)) (f (span_of count) xs)) →
       EntersPairsUnread remaining old new taken f q
   map-entered taken f bare give =
       let some : old.levels ≢ 0 = λ z. is.2 (same ∙ z) in
@@ -232,21 +232,21 @@ module _ {S W : Type 0} (remaining : S → Option (List ℕ)) (old mid new : Byt
       (same-unread remaining mid new is.0 is.1) (pairs-owed q count is.4) (pairs-held q count is.4) give)
 
 -- a container of counted parts, or up to a break, takes a level
-level-form : (count : Option ℕ) → true ≡ takes_level (form_of count)
-level-form (Some n) = refl
-level-form None = refl
+level-span : (count : Option ℕ) → true ≡ takes_level (span_of count)
+level-span (Some n) = refl
+level-span None = refl
 
 pub seq-given : (m : ℕ) → m ≢ 0 → (count : Option ℕ) (ts : List ℕ) (i : Item) (xs : List Item) → HasItems i xs →
-    outcome (Some m) (taken_seq (under ts i)) ≡ gives (takes_level (form_of count), xs)
+    outcome (Some m) (given_seq (under ts i)) ≡ gives (takes_level (span_of count), xs)
 seq-given m some count ts i xs (o, js, is, all) =
     ap (λ j. outcome (Some m) (bare_seq j)) (untagged-under ts i ∙ ap untagged is) ∙ within-is m _ some ∙
-    ap (λ z. gives (true, z)) all ∙ ap (λ b. gives (b, xs)) (level-form count)
+    ap (λ z. gives (true, z)) all ∙ ap (λ b. gives (b, xs)) (level-span count)
 
 pub pairs-given : (m : ℕ) → m ≢ 0 → (count : Option ℕ) (ts : List ℕ) (i : Item) (xs : List (Item × Item)) →
-    HasPairs i xs → outcome (Some m) (taken_pairs (under ts i)) ≡ gives (takes_level (form_of count), xs)
+    HasPairs i xs → outcome (Some m) (given_pairs (under ts i)) ≡ gives (takes_level (span_of count), xs)
 pairs-given m some count ts i xs (o, js, is, all) =
     ap (λ j. outcome (Some m) (bare_pairs j)) (untagged-under ts i ∙ ap untagged is) ∙ within-is m _ some ∙
-    ap (λ z. gives (true, z)) all ∙ ap (λ b. gives (b, xs)) (level-form count)
+    ap (λ z. gives (true, z)) all ∙ ap (λ b. gives (b, xs)) (level-span count)
 
 pub bytes-had : (k : Left) (P : List ℕ → Type 0) → HasBytes k P → (v : _) × (k ≡ left.Bytes v) × P (into_iter_items v)
 bytes-had (left.Bytes v) P h = (v, refl, h)
@@ -259,7 +259,7 @@ pub bytes-entered : {S W : Type 0} (remaining : S → Option (List ℕ)) (old mi
     new.levels ≡ old.levels →
     TakesBare (IsUnread remaining) old mid false (header.Bytes len) →
     TakesContent (IsUnread remaining mid) (IsUnread remaining new) bytes_kind len payload →
-    EntersItemsUnread remaining old new taken_seq (λ form is. give (takes_level form, is)) q
+    EntersItemsUnread remaining old new given_seq (λ span is. give (takes_level span, is)) q
 bytes-entered remaining old mid new q v len payload is same levels bare content b u =
     let (ts, w, x, y, tagged, all, hd, e, un) = bare b u in
     let (c, z, make, f, un') = content y un in
@@ -287,7 +287,7 @@ bytes-entered remaining old mid new q v len payload is same levels bare content 
 -- ---- what is refused
 
 -- what an array is read as, behind tags, where no level is left
-pub array-nests : {A : Type 0} (bare : Taken A) →
+pub array-nests : {A : Type 0} (bare : Given A) →
     ((o : Bool) (is : Items) → outcome (Some 0) (bare (array o is)) ≡ nests) → (m : ℕ) (count : Option ℕ) → m ≡ 0 →
     (ts : List ℕ) (i : Item) → AreSkipped false ts → header_of i ≡ header.Array count →
     outcome (Some m) (bare (untagged (under ts i))) ≡ nests
@@ -297,15 +297,15 @@ array-nests bare none m count z ts i all e = ap (λ n. outcome (Some n) (bare (u
     (λ o b k. cc) (λ o b k. cc) (λ o is k. none o is) (λ o ps k. cc) (λ n k. cc) (λ raw k. cc) (λ t j k. cc) i e
 
 pub map-nests : (m : ℕ) (count : Option ℕ) → m ≡ 0 → (ts : List ℕ) (i : Item) → AreSkipped false ts →
-    header_of i ≡ header.Map count → outcome (Some m) (taken_pairs (under ts i)) ≡ nests
-map-nests m count z ts i all e = ap (λ n. outcome (Some n) (taken_pairs (under ts i))) z ∙
+    header_of i ≡ header.Map count → outcome (Some m) (given_pairs (under ts i)) ≡ nests
+map-nests m count z ts i all e = ap (λ n. outcome (Some n) (given_pairs (under ts i))) z ∙
     ap (λ j. outcome (Some 0) (bare_pairs j)) (untagged-under ts i) ∙
     by-shape (λ j. outcome (Some 0) (bare_pairs (untagged j)) ≡ nests) (header.Map count) (λ n k. cc) (λ n k. cc)
     (λ o b k. cc) (λ o b k. cc) (λ o is k. cc) (λ o ps k. refl) (λ n k. cc) (λ raw k. cc) (λ t j k. cc) i e
 
 pub seq-other : (l : Limit) (h : Header) → IsBare false h → ((n : Option ℕ) → h ≡ header.Array n → ⊥) →
     ((n : Option ℕ) → h ≡ header.Bytes n → ⊥) → (ts : List ℕ) (i : Item) → AreSkipped false ts → header_of i ≡ h →
-    outcome l (taken_seq (under ts i)) ≡ refuses kinds.Array
+    outcome l (given_seq (under ts i)) ≡ refuses kinds.Array
 seq-other l h bare p q ts i all e = ap (λ j. outcome l (bare_seq j)) (untagged-under ts i) ∙
     by-shape (λ j. outcome l (bare_seq (untagged j)) ≡ refuses kinds.Array) h (λ n k. refl) (λ n k. refl)
     (λ o b k. absurd (q _ k)) (λ o b k. refl) (λ o is k. absurd (p _ k)) (λ o ps k. refl) (λ n k. refl)
@@ -313,7 +313,7 @@ seq-other l h bare p q ts i all e = ap (λ j. outcome l (bare_seq j)) (untagged-
 
 pub map-other : (l : Limit) (h : Header) → IsBare false h → ((n : Option ℕ) → h ≡ header.Map n → ⊥) →
     (ts : List ℕ) (i : Item) → AreSkipped false ts → header_of i ≡ h →
-    outcome l (taken_pairs (under ts i)) ≡ refuses kinds.Map
+    outcome l (given_pairs (under ts i)) ≡ refuses kinds.Map
 map-other l h bare p ts i all e = ap (λ j. outcome l (bare_pairs j)) (untagged-under ts i) ∙
     by-shape (λ j. outcome l (bare_pairs (untagged j)) ≡ refuses kinds.Map) h (λ n k. refl) (λ n k. refl)
     (λ o b k. refl) (λ o b k. refl) (λ o is k. refl) (λ o ps k. absurd (p _ k)) (λ n k. refl) (λ raw k. refl)
@@ -326,44 +326,44 @@ module _ {S W : Type 0} (remaining : S → Option (List ℕ)) (old new : ByteSou
     (fewer : weight_left new < weight_left old) where
   -- what was entered, whatever its parts are: f takes them, and the source stands before them
   parts-stand : {A X : Type 0} (Owes : ByteSeq → List ℕ → List ℕ → Type 0) (SpellsPart : List ℕ → X → Type 0)
-      (Holds : ByteSeq → Form → List X → Type 0) (taken : Taken A) (f : Form → List X → Steps A) →
+      (Holds : ByteSeq → Span → List X → Type 0) (taken : Given A) (f : Span → List X → Steps A) →
       EntersUnread (IsUnread remaining) Owes SpellsPart Holds old new (Some old.levels) (Some new.levels) taken f q →
       (l : Limit) (i : Item) (r : Rest) → StandsBefore remaining old l (item i r) →
-      (form : Form) × (xs : List X) × (outcome l (taken i) ≡ outcome (inside form l) (f form xs)) ×
+      (span : Span) × (xs : List X) × (outcome l (taken i) ≡ outcome (inside span l) (f span xs)) ×
       ((w : List ℕ) × IsUnread remaining new w ×
-      ((c : List ℕ) × (t : List ℕ) × AreLeft SpellsPart form c xs × IsRest (reader_of remaining new.decoder) t r ×
-      (w ≡ c ++ (ending form ++ t))) × (inside form l ≡ Some new.levels) × (new.pending ≡ None)) ×
-      ((l ≡ Some q.levels) × Holds q form xs)
+      ((c : List ℕ) × (t : List ℕ) × AreLeft SpellsPart span c xs × IsRest (reader_of remaining new.decoder) t r ×
+      (w ≡ c ++ (ending span ++ t))) × (inside span l ≡ Some new.levels) × (new.pending ≡ None)) ×
+      ((l ≡ Some q.levels) × Holds q span xs)
   parts-stand Owes SpellsPart Holds taken f h l i r (b, u, (s, t, sp, rest, e), is, ahead) =
       let (w, un, owes, opens) = h b u in
-      let (form, xs, c, give, lv, stand, split, hold) = opens i s t sp e in (
-        form,
+      let (span, xs, c, give, lv, stand, split, hold) = opens i s t sp e in (
+        span,
         xs,
-        ap (λ k. outcome k (taken i)) is ∙ give ∙ ap (λ k. outcome (inside form k) (f form xs)) (sym is),
+        ap (λ k. outcome k (taken i)) is ∙ give ∙ ap (λ k. outcome (inside span k) (f span xs)) (sym is),
         (
           w,
           un,
           (c, t, stand, subst (λ n. IsRest n t r) (sym (kept-reader remaining old new kept b u)) rest, split),
-          ap (inside form) is ∙ lv,
+          ap (inside span) is ∙ lv,
           none,
         ),
         (is ∙ ap Some (sym levels), hold),
       )
 
   -- the items of what was entered
-  pub items-stand : {A : Type 0} (taken : Taken A) (f : Form → List Item → Steps A) →
+  pub items-stand : {A : Type 0} (taken : Given A) (f : Span → List Item → Steps A) →
       EntersItemsUnread remaining old new taken f q → (l : Limit) (i : Item) (r : Rest) →
       StandsBefore remaining old l (item i r) →
-      (form : Form) × (is : List Item) × (outcome l (taken i) ≡ outcome (inside form l) (f form is)) ×
-      StandsBefore remaining new (inside form l) (after (parts form is r)) × SeqStands q l (parts form is r)
+      (span : Span) × (is : List Item) × (outcome l (taken i) ≡ outcome (inside span l) (f span is)) ×
+      StandsBefore remaining new (inside span l) (after (parts span is r)) × SeqStands q l (parts span is r)
   items-stand = parts-stand (λ p. SeqOwes p sequence) Spells (λ p. HoldsItems p.left)
 
   -- the pairs
-  pub pairs-stand : {A : Type 0} (taken : Taken A) (f : Form → List (Item × Item) → Steps A) →
+  pub pairs-stand : {A : Type 0} (taken : Given A) (f : Span → List (Item × Item) → Steps A) →
       EntersPairsUnread remaining old new taken f q → (l : Limit) (i : Item) (r : Rest) →
       StandsBefore remaining old l (item i r) →
-      (form : Form) × (ps : List (Item × Item)) × (outcome l (taken i) ≡ outcome (inside form l) (f form ps)) ×
-      StandsBefore remaining new (inside form l) (after (pairs form ps r)) × SeqStands q l (pairs form ps r)
+      (span : Span) × (ps : List (Item × Item)) × (outcome l (taken i) ≡ outcome (inside span l) (f span ps)) ×
+      StandsBefore remaining new (inside span l) (after (pairs span ps r)) × SeqStands q l (pairs span ps r)
   pairs-stand = parts-stand (λ p. SeqOwes p dictionary) SpellsPair (λ p. HoldsPairs p.left)
 
 -- what is answered where a sequence was entered, and where a map was
@@ -371,16 +371,16 @@ module _ {S W : Type 0} (remaining : S → Option (List ℕ)) (old new : ByteSou
     (kept : IsKept remaining old new) where
   pub enters : (E : Type 0) (r : Result ByteSeq E) → IfOk r (λ q. q.levels ≡ old.levels) → OnOk r (new.pending ≡ None) →
       IfOk r (λ q. weight_left new + seq_left q < weight_left old) →
-      IfOk r (EntersItemsUnread remaining old new taken_seq (λ form is. give (takes_level form, is))) →
+      IfOk r (EntersItemsUnread remaining old new given_seq (λ span is. give (takes_level span, is))) →
       IfOk r (λ q. Enters (StandsBefore remaining) SeqStands old new q)
   enters E (Ok q) levels none fewer opens = items-stand remaining old new q kept levels none (omega (arith, fewer))
-      taken_seq (λ form is. give (takes_level form, is)) opens
+      given_seq (λ span is. give (takes_level span, is)) opens
   enters E (Err e) levels none fewer opens = tt
 
   pub enters-map : (E : Type 0) (r : Result ByteSeq E) → IfOk r (λ q. q.levels ≡ old.levels) →
       OnOk r (new.pending ≡ None) → IfOk r (λ q. weight_left new + seq_left q < weight_left old) →
-      IfOk r (EntersPairsUnread remaining old new taken_pairs (λ form ps. give (takes_level form, ps))) →
+      IfOk r (EntersPairsUnread remaining old new given_pairs (λ span ps. give (takes_level span, ps))) →
       IfOk r (λ q. EntersMap (StandsBefore remaining) SeqStands old new q)
   enters-map E (Ok q) levels none fewer opens = pairs-stand remaining old new q kept levels none (omega (arith, fewer))
-      taken_pairs (λ form ps. give (takes_level form, ps)) opens
+      given_pairs (λ span ps. give (takes_level span, ps)) opens
   enters-map E (Err e) levels none fewer opens = tt

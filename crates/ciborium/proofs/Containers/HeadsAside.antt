@@ -2,7 +2,7 @@
 use Rattle.std.proofs.Common.{◌≡◌, ◌≤◌, ◌+◌, Bool, List, None, Option, Some, Result, Ok, Err, length, sym, subst, ℕ}
 use Rattle.ciborium_ll.specs.declared.header.Header.{Header}
 use Rattle.ciborium_value.specs.Sources.{IsFaultOf, TakesOnly}
-use Rattle.ciborium_value.specs.Taken.{Taken, gives, outcome}
+use Rattle.ciborium_value.specs.Given.{Given, gives, outcome}
 use Rattle.ciborium.specs.declared.de.byte_source.ByteSource.{ByteSource}
 use Rattle.ciborium.specs.declared.de.error.Error.{Error}
 use Rattle.ciborium.specs.inner.ByteSources.{AnswersItem, CountsHead, HasTaken, IsUnread, fault_at}
@@ -22,7 +22,7 @@ module _ {S W : Type 0} (remaining : S → Option (List ℕ)) (old mid : ByteSou
       let (x, y, hd, e, un) = head b u in
       aside-unread remaining mid.decoder mid.pending h p b x y none hd e (counted b x y u hd e) un
 
-  pub answers-aside : (can_fail : Bool) {A T : Type 0} (taken : Taken A) (content : T → A) (new : ByteSource S W)
+  pub answers-aside : (can_fail : Bool) {A T : Type 0} (taken : Given A) (content : T → A) (new : ByteSource S W)
       (r : Result T (Error (Unit {0}))) →
       AnswersItem can_fail remaining aside new (Some mid.levels) taken content r →
       AnswersItem can_fail remaining old new (Some old.levels) taken content r

@@ -12,7 +12,7 @@ use Rattle.ciborium_value.specs.Labels.{Label, label_kind, label_place, name_pla
 use Rattle.ciborium_value.specs.Nesting.{Limit}
 use Rattle.ciborium_value.specs.Places.{is_open}
 use Rattle.ciborium_value.specs.Sources.{Fault, IsFaultOf, TakesOnly}
-use Rattle.ciborium_value.specs.Taken.{Taken, gives, mapped, outcome}
+use Rattle.ciborium_value.specs.Given.{Given, gives, mapped, outcome}
 use Rattle.ciborium_value.proofs.Sources.Sequences.{fault_map}
 use Rattle.ciborium.specs.declared.de.byte_source.ByteSource.{ByteSource}
 use Rattle.ciborium.specs.inner.ByteSources.{CountsHead, HasTaken, IsUnread, end_at, head_label_kind}
@@ -41,7 +41,7 @@ label-head h i e = subst (λ k. head_label_kind k ≡ label_kind i) e (by i)
 
 -- what is made of what is taken is refused as that is
 pub denies-mapped : {S A B : Type 0} (IsUnread : S → List ℕ → Type 0) (End : S → ℕ) (old : S) (l : Limit)
-    (taken : Taken A) (f : A → B) (fault : Fault) → Denies IsUnread End old l taken fault →
+    (taken : Given A) (f : A → B) (fault : Fault) → Denies IsUnread End old l taken fault →
     Denies IsUnread End old l (λ i. mapped f (taken i)) fault
 denies-mapped IsUnread End old l taken f fault denied b s z i end u sp e fits =
     fault_map end fault f (outcome l (taken i)) (denied b s z i end u sp e fits)

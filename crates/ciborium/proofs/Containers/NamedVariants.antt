@@ -16,8 +16,8 @@ use Rattle.ciborium_ll.proofs.UniqueSpelling.{one_at_front}
 use Rattle.ciborium_ll.proofs.OneHeader.{one_header_at_front}
 use Rattle.ciborium_value.specs.Nesting.{Limit}
 use Rattle.ciborium_value.specs.Sources.{Fault, IsFaultOf, of_kind}
-use Rattle.ciborium_value.specs.Taken.{gives, refuses, nests, deeper, untagged, outcome_map, taken_name, bare_name}
-use Rattle.ciborium_value.specs.Taken.{taken_variant, bare_variant, outcome, settled}
+use Rattle.ciborium_value.specs.Given.{gives, refuses, nests, deeper, untagged, outcome_map, given_name, bare_name}
+use Rattle.ciborium_value.specs.Given.{given_variant, bare_variant, outcome, settled}
 use Rattle.ciborium_value.specs.declared.kind.Kind.TheVariants as kinds
 use Rattle.ciborium_value.proofs.Sources.Sequences.{fault_map}
 use Rattle.ciborium_value.proofs.Sources.TreeLevels.{utf8_not}
@@ -34,7 +34,7 @@ use Rattle.ciborium.proofs.Items.SkippedTags.{untagged-under}
 
 -- a byte string that is UTF-8 is a name
 pub bytes-name : (ts : List ℕ) (l : Limit) (open_ : Bool) (b : List ℕ) → IsUtf8 b →
-    outcome l (taken_name (under ts (bytes open_ b))) ≡ gives b
+    outcome l (given_name (under ts (bytes open_ b))) ≡ gives b
 bytes-name ts l open_ b u = let t = is_utf8-from_IsUtf8 b u in
     ap (λ j. settled (bare_name j)) (untagged-under ts (bytes open_ b)) ∙ (rw t refl)
 
@@ -42,7 +42,7 @@ bytes-name ts l open_ b u = let t = is_utf8-from_IsUtf8 b u in
 pub bytes-no-name : {S : Type 0} (IsUnread : S → List ℕ → Type 0) (End : S → ℕ) (old mid new : S) (len : Option ℕ)
     (l : Limit) (payload : List ℕ) → (IsUtf8 payload → ⊥) → TakesBare IsUnread old mid false (header.Bytes len) →
     TakesContent (IsUnread mid) (IsUnread new) of_bytes len payload →
-    Denies IsUnread End old l taken_name (of_kind kinds.Name)
+    Denies IsUnread End old l given_name (of_kind kinds.Name)
 bytes-no-name IsUnread End old mid new len l payload not bare content b s z j end u sp e fits =
     let bad = utf8_not payload not (is_utf8 payload) refl in
     let (ts, w, x, y, tagged, all, hd, g, un) = bare b u in
@@ -54,7 +54,7 @@ bytes-no-name IsUnread End old mid new len l payload not bare content b s z j en
 
 pub name-other : (l : Limit) (h : Header) → IsBare false h → ((n : Option ℕ) → h ≡ header.Text n → ⊥) →
     ((n : Option ℕ) → h ≡ header.Bytes n → ⊥) → (ts : List ℕ) (i : Item) → AreSkipped false ts → header_of i ≡ h →
-    outcome l (taken_name (under ts i)) ≡ refuses kinds.Name
+    outcome l (given_name (under ts i)) ≡ refuses kinds.Name
 name-other l h bare p q ts i all e = ap (λ j. settled (bare_name j)) (untagged-under ts i) ∙
     by-shape (λ j. settled (bare_name (untagged j)) ≡ refuses kinds.Name) h (λ n k. refl) (λ n k. refl)
     (λ o b k. absurd (q _ k)) (λ o b k. absurd (p _ k)) (λ o is k. refl) (λ o ps k. refl) (λ n k. refl) (λ raw k. refl)
@@ -82,11 +82,11 @@ null-unread remaining d pending p z none u = (
 
 module _ {S : Type 0} (IsUnread : S → List ℕ → Type 0) (old mid new : S) (m : ℕ) (some : m ≢ 0) where
   -- a text
-  pub text-opened : (len : Option ℕ) (name : List ℕ) → TakesBare IsUnread old mid false (header.Text len) →
+  pub text-begun : (len : Option ℕ) (name : List ℕ) → TakesBare IsUnread old mid false (header.Text len) →
       ((y : List ℕ) → IsUnread mid y → (c : List ℕ) × (z : List ℕ) ×
       ((x : List ℕ) → SpellsHeader x (header.Text len) → Spells (x ++ c) (text (is_open len) name)) × (y ≡ c ++ z) ×
-      IsUnread new (0xf6 ∷ z)) → EntersLevelUnread IsUnread old new (Some m) taken_variant name
-  text-opened len name bare content b u =
+      IsUnread new (0xf6 ∷ z)) → EntersLevelUnread IsUnread old new (Some m) given_variant name
+  text-begun len name bare content b u =
       let (ts, w, x, y, tagged, all, hd, e, un) = bare b u in
       let (c, z, make, f, un') = content y un in
       let what : Item = text (is_open len) name in
@@ -142,10 +142,10 @@ pair-front s r x y i sp hd e = by i sp (same-head s r x y i (header.Map (Some 1)
 module _ {S : Type 0} (IsUnread : S → List ℕ → Type 0) (old mid inner new : S) (m : ℕ) (some : m ≢ 0)
     (keeps : (y : List ℕ) → IsUnread mid y → IsUnread inner y) where
   -- a map of one pair, whose key was read as a name
-  pub pair-opened : (name : List ℕ) → TakesBare IsUnread old mid false (header.Map (Some 1)) →
-      Reads IsUnread inner new (deeper (Some m)) taken_name name →
-      EntersLevelUnread IsUnread old new (Some m) taken_variant name
-  pair-opened name bare key b u =
+  pub pair-begun : (name : List ℕ) → TakesBare IsUnread old mid false (header.Map (Some 1)) →
+      Reads IsUnread inner new (deeper (Some m)) given_name name →
+      EntersLevelUnread IsUnread old new (Some m) given_variant name
+  pair-begun name bare key b u =
       let (ts, w, x, y, tagged, all, hd, e, un) = bare b u in
       let (k, a, z, ska, f, give, un') = key y (keeps y un) in
       let gave : (v : Item) → outcome (Some m) (bare_variant (items.map false (pair k v no_pairs))) ≡ gives (name, v) =
@@ -176,8 +176,8 @@ module _ {S : Type 0} (IsUnread : S → List ℕ → Type 0) (old mid inner new 
   -- its key is refused
   pub key-denied : (End : S → ℕ) (fault : Fault) → ((b : List ℕ) → IsUnread old b → End inner ≡ End old) →
       TakesBare IsUnread old mid false (header.Map (Some 1)) →
-      Denies IsUnread End inner (deeper (Some m)) taken_name fault →
-      Denies IsUnread End old (Some m) taken_variant fault
+      Denies IsUnread End inner (deeper (Some m)) given_name fault →
+      Denies IsUnread End old (Some m) given_variant fault
   key-denied End fault same bare denied b s z j end u sp e fits =
       let (ts, w, x, y, tagged, all, hd, f, un) = bare b u in
       let (i, t, io, sq, g) = tagged.inward j s z sp e in
@@ -187,7 +187,7 @@ module _ {S : Type 0} (IsUnread : S → List ℕ → Type 0) (old mid inner new 
       let blamed = denied y a (c ++ z) k end (keeps y un) ska p (omega (arith, all, more, fits)) in
       subst (IsFaultOf end fault) (sym (ap (λ j. outcome (Some m) (bare_variant j))
       (ap untagged io ∙ untagged-under ts i ∙ ap untagged im) ∙ within-is m _ some))
-      (fault_map end fault (λ n. (n, v)) (outcome (deeper (Some m)) (taken_name k)) blamed)
+      (fault_map end fault (λ n. (n, v)) (outcome (deeper (Some m)) (given_name k)) blamed)
 
 -- ---- what is refused
 
@@ -202,22 +202,22 @@ other-pairs l h q false (pair k v no_pairs) e = absurd (q e)
 other-pairs l h q u v e = refl
 
 pub text-nests : (m : ℕ) (len : Option ℕ) → m ≡ 0 → (ts : List ℕ) (i : Item) → AreSkipped false ts →
-    header_of i ≡ header.Text len → outcome (Some m) (taken_variant (under ts i)) ≡ nests
-text-nests m len z ts i all e = ap (λ n. outcome (Some n) (taken_variant (under ts i))) z ∙
+    header_of i ≡ header.Text len → outcome (Some m) (given_variant (under ts i)) ≡ nests
+text-nests m len z ts i all e = ap (λ n. outcome (Some n) (given_variant (under ts i))) z ∙
     ap (λ j. outcome (Some 0) (bare_variant j)) (untagged-under ts i) ∙
     by-shape (λ j. outcome (Some 0) (bare_variant (untagged j)) ≡ nests) (header.Text len) (λ n k. cc) (λ n k. cc)
     (λ o b k. cc) (λ o b k. refl) (λ o is k. cc) (λ o ps k. cc) (λ n k. cc) (λ raw k. cc) (λ t j k. cc) i e
 
 pub pair-nests : (m : ℕ) → m ≡ 0 → (ts : List ℕ) (i : Item) → AreSkipped false ts → header_of i ≡ header.Map (Some 1) →
-    outcome (Some m) (taken_variant (under ts i)) ≡ nests
-pair-nests m z ts i all e = ap (λ n. outcome (Some n) (taken_variant (under ts i))) z ∙
+    outcome (Some m) (given_variant (under ts i)) ≡ nests
+pair-nests m z ts i all e = ap (λ n. outcome (Some n) (given_variant (under ts i))) z ∙
     ap (λ j. outcome (Some 0) (bare_variant j)) (untagged-under ts i) ∙
     by-shape (λ j. outcome (Some 0) (bare_variant (untagged j)) ≡ nests) (header.Map (Some 1)) (λ n k. cc) (λ n k. cc)
     (λ o b k. cc) (λ o b k. cc) (λ o is k. cc) pair-only (λ n k. cc) (λ raw k. cc) (λ t j k. cc) i e
 
 pub variant-other : (l : Limit) (h : Header) → IsBare false h → ((n : Option ℕ) → h ≡ header.Text n → ⊥) →
     (h ≡ header.Map (Some 1) → ⊥) → (ts : List ℕ) (i : Item) → AreSkipped false ts → header_of i ≡ h →
-    outcome l (taken_variant (under ts i)) ≡ refuses kinds.Variant
+    outcome l (given_variant (under ts i)) ≡ refuses kinds.Variant
 variant-other l h bare p q ts i all e = ap (λ j. outcome l (bare_variant j)) (untagged-under ts i) ∙
     by-shape (λ j. outcome l (bare_variant (untagged j)) ≡ refuses kinds.Variant) h (λ n k. refl) (λ n k. refl)
     (λ o b k. refl) (λ o b k. absurd (p _ k)) (λ o is k. refl) (other-pairs l h q) (λ n k. refl) (λ raw k. refl)

@@ -11,7 +11,7 @@ use Rattle.ciborium_ll.specs.Item.{Item, unsigned}
 use Rattle.ciborium_ll.specs.Spells.{Spells}
 use Rattle.ciborium_ll.proofs.OneHeader.{one_header_at_front}
 use Rattle.ciborium_ll.proofs.UniqueSpelling.{one_at_front}
-use Rattle.ciborium_value.specs.Ahead.{Form, Rest, bottom, parts, pairs, entry, held, item, past, inside, end_of}
+use Rattle.ciborium_value.specs.Ahead.{Span, Rest, bottom, parts, pairs, entry, level_due, item, past, inside, end_of}
 use Rattle.ciborium_value.specs.Nesting.{Limit}
 use Rattle.ciborium_value.specs.Places.{Shape, sequence, dictionary}
 use Rattle.ciborium_value.specs.Sources.{Fault, HasItem, HasPart, GoesOn, Leaves, RefusesNext, OwesLess, OwesNothing}
@@ -22,20 +22,20 @@ use Rattle.ciborium.specs.inner.ByteSources.{IsHeadCounted, IsUnread, IsUnreadBy
 use Rattle.ciborium.specs.inner.ByteSources.{HasNoneBehind, HoldsItems, HoldsPairs, HoldsParts, SeqOwes, LeftOwes}
 use Rattle.ciborium.specs.inner.ByteSources.{OwesParts, end_at, reader_of}
 use Rattle.ciborium.specs.inner.FrontItems.{TakesHead, DeniesHead}
-use Rattle.ciborium.specs.inner.Unread.{AreSpelled, AreLeft, SpellsPair, FitsAhead, IsRest, ending, form_of, HasCount}
+use Rattle.ciborium.specs.inner.Unread.{AreSpelled, AreLeft, SpellsPair, FitsAhead, IsRest, ending, span_of, HasCount}
 use Rattle.ciborium_ll.specs.Decoding.{left_of}
 use Rattle.ciborium.proofs.Items.TakenOnly.{IsKept, kept-reader, rest-end}
 use Rattle.ciborium.proofs.Items.ItemHeads.{header_of, first-head, first-payload, same-head, no-break-head}
 
 pub fits-past : (name : _) (b : List ℕ) (f : Rest) → IsRest name b f → FitsAhead name b (past f)
 fits-past name b (bottom m r) h = h
-fits-past name b (parts form is f) h = h
-fits-past name b (pairs form ps f) h = h
-fits-past name b (entry v form ps f) h = h
-fits-past name b (held f) h = h
+fits-past name b (parts span is f) h = h
+fits-past name b (pairs span ps f) h = h
+fits-past name b (entry v span ps f) h = h
+fits-past name b (level_due f) h = h
 
 pub none-past : (p : Option (Header × ℕ)) → p ≡ None → (f : Rest) → HasNoneBehind p (past f)
-none-past p e (entry v form ps f) = tt
+none-past p e (entry v span ps f) = tt
 none-past p e u = e
 
 -- ---- the parts left, by what stands at the front
@@ -57,7 +57,7 @@ pair-begins a p (s, t, sp, sq, e) = (p.0, s, t, sp, e)
 abbrev HasNext : {X : Type 0} → (List ℕ → X → Type 0) → Option ℕ → List X → List ℕ → List ℕ → Type 0
 HasNext {X} SpellsPart rest xs b r =
     (x : X) × (ys : List X) × (xs ≡ x ∷ ys) × ((a : List ℕ) × (c : List ℕ) × SpellsPart a x ×
-    AreLeft SpellsPart (form_of rest) c ys × (b ≡ a ++ (c ++ (ending (form_of rest) ++ r)))) × HasCount rest ys
+    AreLeft SpellsPart (span_of rest) c ys × (b ≡ a ++ (c ++ (ending (span_of rest) ++ r)))) × HasCount rest ys
 
 -- of the parts left up to a break none is next, and the break stands at the front of b; or one is, which begins with an
 -- item, and r stands somewhere behind that
@@ -66,9 +66,9 @@ IsFront SpellsPart xs b r = ((xs ≡ []) × (b ≡ break_byte ∷ r)) ⊎ (HasNe
     ((i : Item) × (t : List ℕ) × (z : List ℕ) × Spells t i × (b ≡ t ++ z) × (length r ≤ length z)))
 
 module _ {X : Type 0} (SpellsPart : List ℕ → X → Type 0) where
-  counted-next : (n : ℕ) (form : Form) (xs : List X) (s r b : List ℕ) → n ≢ 0 → HoldsParts (Some n) form xs →
-      AreLeft SpellsPart form s xs → b ≡ s ++ (ending form ++ r) → HasNext SpellsPart (Some (n - 1)) xs b r
-  counted-next n form xs s r b some (is, len) left e =
+  counted-next : (n : ℕ) (span : Span) (xs : List X) (s r b : List ℕ) → n ≢ 0 → HoldsParts (Some n) span xs →
+      AreLeft SpellsPart span s xs → b ≡ s ++ (ending span ++ r) → HasNext SpellsPart (Some (n - 1)) xs b r
+  counted-next n span xs s r b some (is, len) left e =
       by xs len (subst (λ k. AreLeft SpellsPart k s xs) is left) (e ∙ ap (λ k. s ++ (ending k ++ r)) is)
     where
       by : (xs : List X) → length xs ≡ n → AreSpelled SpellsPart s xs → b ≡ s ++ r →
@@ -82,9 +82,9 @@ module _ {X : Type 0} (SpellsPart : List ℕ → X → Type 0) where
         (let k : suc (length ys) ≡ n = len in omega (arith, k)),
       )
 
-  counted-end : (form : Form) (xs : List X) (s r b : List ℕ) → HoldsParts (Some 0) form xs →
-      AreLeft SpellsPart form s xs → b ≡ s ++ (ending form ++ r) → (xs ≡ []) × (b ≡ r)
-  counted-end form xs s r b (is, len) left e = by xs len (subst (λ k. AreLeft SpellsPart k s xs) is left)
+  counted-end : (span : Span) (xs : List X) (s r b : List ℕ) → HoldsParts (Some 0) span xs →
+      AreLeft SpellsPart span s xs → b ≡ s ++ (ending span ++ r) → (xs ≡ []) × (b ≡ r)
+  counted-end span xs s r b (is, len) left e = by xs len (subst (λ k. AreLeft SpellsPart k s xs) is left)
       (e ∙ ap (λ k. s ++ (ending k ++ r)) is)
     where
       by : (xs : List X) → length xs ≡ 0 → AreSpelled SpellsPart s xs → b ≡ s ++ r → (xs ≡ []) × (b ≡ r)
@@ -93,10 +93,10 @@ module _ {X : Type 0} (SpellsPart : List ℕ → X → Type 0) where
 
   module _ (begins : BeginsWithItem SpellsPart) where
     -- what stands at the front where parts are left up to a break: the break, or a head that is another one
-    open-front : (form : Form) (xs : List X) (s r b : List ℕ) → HoldsParts None form xs → AreLeft SpellsPart form s xs →
-        b ≡ s ++ (ending form ++ r) → IsFront SpellsPart xs b r
+    open-front : (span : Span) (xs : List X) (s r b : List ℕ) → HoldsParts None span xs → AreLeft SpellsPart span s xs →
+        b ≡ s ++ (ending span ++ r) → IsFront SpellsPart xs b r
     unfolding BeginsWithItem
-    open-front form xs s r b (is, any) left e = by xs (subst (λ k. AreLeft SpellsPart k s xs) is left)
+    open-front span xs s r b (is, any) left e = by xs (subst (λ k. AreLeft SpellsPart k s xs) is left)
         (e ∙ ap (λ k. s ++ (ending k ++ r)) is)
       where
         by : (xs : List X) → AreSpelled SpellsPart s xs → b ≡ s ++ (break_byte ∷ r) → IsFront SpellsPart xs b r
@@ -120,10 +120,10 @@ module _ {X : Type 0} (SpellsPart : List ℕ → X → Type 0) where
               ),
             )
 
-    open-end : (form : Form) (xs : List X) (s r b x y : List ℕ) → HoldsParts None form xs →
-        AreLeft SpellsPart form s xs → b ≡ s ++ (ending form ++ r) → SpellsHeader x header.Break → b ≡ x ++ y →
+    open-end : (span : Span) (xs : List X) (s r b x y : List ℕ) → HoldsParts None span xs →
+        AreLeft SpellsPart span s xs → b ≡ s ++ (ending span ++ r) → SpellsHeader x header.Break → b ≡ x ++ y →
         (xs ≡ []) × (y ≡ r)
-    open-end form xs s r b x y hold left e hd f = by (open-front form xs s r b hold left e)
+    open-end span xs s r b x y hold left e hd f = by (open-front span xs s r b hold left e)
       where
         by : IsFront SpellsPart xs b r → (xs ≡ []) × (y ≡ r)
         by (inl (none, g)) = (
@@ -134,10 +134,10 @@ module _ {X : Type 0} (SpellsPart : List ℕ → X → Type 0) where
         by (inr (next, (i, t, z, sp, g, less))) = absurd (no-break-head i
             (same-head t z x y i header.Break sp hd (sym g ∙ f)).0)
 
-    open-next : (form : Form) (xs : List X) (s r b x y : List ℕ) (h : Header) → HoldsParts None form xs →
-        AreLeft SpellsPart form s xs → b ≡ s ++ (ending form ++ r) → SpellsHeader x h → h ≢ header.Break → b ≡ x ++ y →
+    open-next : (span : Span) (xs : List X) (s r b x y : List ℕ) (h : Header) → HoldsParts None span xs →
+        AreLeft SpellsPart span s xs → b ≡ s ++ (ending span ++ r) → SpellsHeader x h → h ≢ header.Break → b ≡ x ++ y →
         HasNext SpellsPart None xs b r
-    open-next form xs s r b x y h hold left e hd other f = by (open-front form xs s r b hold left e)
+    open-next span xs s r b x y h hold left e hd other f = by (open-front span xs s r b hold left e)
       where
         by : IsFront SpellsPart xs b r → HasNext SpellsPart None xs b r
         by (inl (none, g)) = absurd (other (one_header_at_front x (break_byte ∷ []) y r h header.Break hd refl
@@ -145,10 +145,10 @@ module _ {X : Type 0} (SpellsPart : List ℕ → X → Type 0) where
         by (inr (next, first)) = next
 
     -- some head stands there
-    open-head : (form : Form) (xs : List X) (s r b : List ℕ) → HoldsParts None form xs → AreLeft SpellsPart form s xs →
-        b ≡ s ++ (ending form ++ r) → (h : Header) × (x : List ℕ) × (y : List ℕ) × SpellsHeader x h × (b ≡ x ++ y) ×
+    open-head : (span : Span) (xs : List X) (s r b : List ℕ) → HoldsParts None span xs → AreLeft SpellsPart span s xs →
+        b ≡ s ++ (ending span ++ r) → (h : Header) × (x : List ℕ) × (y : List ℕ) × SpellsHeader x h × (b ≡ x ++ y) ×
         (announced_length h + length r ≤ length y)
-    open-head form xs s r b hold left e = by (open-front form xs s r b hold left e)
+    open-head span xs s r b hold left e = by (open-front span xs s r b hold left e)
       where
         by : IsFront SpellsPart xs b r → (h : Header) × (x : List ℕ) × (y : List ℕ) × SpellsHeader x h ×
             (b ≡ x ++ y) × (announced_length h + length r ≤ length y)
@@ -174,12 +174,12 @@ record IsAheadOf {S W : Type 0} (remaining : S → Option (List ℕ)) (old new :
 
 module _ {S W : Type 0} (remaining : S → Option (List ℕ)) (old new : ByteSource S W) (rest : Option ℕ) (b r : List ℕ)
     (f : Rest) (ahead : IsAheadOf remaining old new b) (q q' : ByteSeq) (same : q'.levels ≡ q.levels) where
-  stands-item : (l : Limit) (form : Form) (xs : List Item) → form ≡ form_of rest → HasNext Spells rest xs b r →
-      IsRest (reader_of remaining old.decoder) r f → inside form l ≡ Some old.levels →
-      l ≡ Some q.levels → ((ys : List Item) → HasCount rest ys → HoldsItems q'.left form ys) →
-      (i : Item) × (js : List Item) × (xs ≡ i ∷ js) × StandsBefore remaining new (inside form l)
-      (item i (parts form js f)) × SeqStands q' l (parts form js f)
-  stands-item l form xs is (x, ys, whole, (a, c, sp, left, e), count) behind lv lq hold = (
+  stands-item : (l : Limit) (span : Span) (xs : List Item) → span ≡ span_of rest → HasNext Spells rest xs b r →
+      IsRest (reader_of remaining old.decoder) r f → inside span l ≡ Some old.levels →
+      l ≡ Some q.levels → ((ys : List Item) → HasCount rest ys → HoldsItems q'.left span ys) →
+      (i : Item) × (js : List Item) × (xs ≡ i ∷ js) × StandsBefore remaining new (inside span l)
+      (item i (parts span js f)) × SeqStands q' l (parts span js f)
+  stands-item l span xs is (x, ys, whole, (a, c, sp, left, e), count) behind lv lq hold = (
     x,
     ys,
     whole,
@@ -188,7 +188,7 @@ module _ {S W : Type 0} (remaining : S → Option (List ℕ)) (old new : ByteSou
       ahead.unread,
       (
         a,
-        c ++ (ending form ++ r),
+        c ++ (ending span ++ r),
         sp,
         (
           c,
@@ -205,12 +205,12 @@ module _ {S W : Type 0} (remaining : S → Option (List ℕ)) (old new : ByteSou
     (lq ∙ ap Some (sym same), hold ys count),
   )
 
-  stands-pair : (l : Limit) (form : Form) (xs : List (Item × Item)) → form ≡ form_of rest →
-      HasNext SpellsPair rest xs b r → IsRest (reader_of remaining old.decoder) r f → inside form l ≡ Some old.levels →
-      l ≡ Some q.levels → ((ys : List (Item × Item)) → HasCount rest ys → HoldsPairs q'.left form ys) →
+  stands-pair : (l : Limit) (span : Span) (xs : List (Item × Item)) → span ≡ span_of rest →
+      HasNext SpellsPair rest xs b r → IsRest (reader_of remaining old.decoder) r f → inside span l ≡ Some old.levels →
+      l ≡ Some q.levels → ((ys : List (Item × Item)) → HasCount rest ys → HoldsPairs q'.left span ys) →
       (k : Item) × (v : Item) × (qs : List (Item × Item)) × (xs ≡ (k, v) ∷ qs) ×
-      StandsBefore remaining new (inside form l) (item k (entry v form qs f)) × SeqStands q' l (pairs form qs f)
-  stands-pair l form xs is (x, ys, whole, (a, c, (s, t, sp, sq, g), left, e), count) behind lv lq hold = (
+      StandsBefore remaining new (inside span l) (item k (entry v span qs f)) × SeqStands q' l (pairs span qs f)
+  stands-pair l span xs is (x, ys, whole, (a, c, (s, t, sp, sq, g), left, e), count) behind lv lq hold = (
     x.0,
     x.1,
     ys,
@@ -220,11 +220,11 @@ module _ {S W : Type 0} (remaining : S → Option (List ℕ)) (old new : ByteSou
       ahead.unread,
       (
         s,
-        t ++ (c ++ (ending form ++ r)),
+        t ++ (c ++ (ending span ++ r)),
         sp,
         (
           t,
-          c ++ (ending form ++ r),
+          c ++ (ending span ++ r),
           sq,
           (
             c,
@@ -236,7 +236,7 @@ module _ {S W : Type 0} (remaining : S → Option (List ℕ)) (old new : ByteSou
           refl,
         ),
         subst (λ k. b ≡ a ++ (c ++ (ending k ++ r))) (sym is) e ∙
-            ap (λ (z : List ℕ). z ++ (c ++ (ending form ++ r))) g ∙ append_assoc s t (c ++ (ending form ++ r)),
+            ap (λ (z : List ℕ). z ++ (c ++ (ending span ++ r))) g ∙ append_assoc s t (c ++ (ending span ++ r)),
       ),
       lv ∙ ap Some (sym ahead.levels),
       tt,
@@ -265,32 +265,32 @@ module _ {S W : Type 0} (remaining : S → Option (List ℕ)) where
   pub goes-counted : (old : ByteSource S W) (q q' : ByteSeq) (n : ℕ) → q.left ≡ left.Counted n → n ≢ 0 →
       q'.left ≡ left.Counted (n - 1) → q'.levels ≡ q.levels → GoesOn (StandsBefore remaining) SeqStands old old q q'
   goes-counted old q q' n is some is' levels = (
-    λ l form its f (b, u, (s, r, stand, rest, e), lv, none) (lq, hold).
-        let held : HoldsParts (Some n) form its = subst (λ k. HoldsItems k form its) is hold in
+    λ l span its f (b, u, (s, r, stand, rest, e), lv, none) (lq, hold).
+        let held : HoldsParts (Some n) span its = subst (λ k. HoldsItems k span its) is hold in
         stands-item remaining old old (Some (n - 1)) b r f
-        (record { reader = refl; levels = refl; unread = u }) q q' levels l form its held.0
-        (counted-next Spells n form its s r b some held stand e) rest lv lq
-        (λ ys count. subst (λ k. HoldsItems k form ys) (sym is') (held.0, count)),
-    λ l form its f (b, u, (s, r, stand, rest, e), lv, none) (lq, hold).
-        let held : HoldsParts (Some n) form its = subst (λ k. HoldsPairs k form its) is hold in
+        (record { reader = refl; levels = refl; unread = u }) q q' levels l span its held.0
+        (counted-next Spells n span its s r b some held stand e) rest lv lq
+        (λ ys count. subst (λ k. HoldsItems k span ys) (sym is') (held.0, count)),
+    λ l span its f (b, u, (s, r, stand, rest, e), lv, none) (lq, hold).
+        let held : HoldsParts (Some n) span its = subst (λ k. HoldsPairs k span its) is hold in
         stands-pair remaining old old (Some (n - 1)) b r f
-        (record { reader = refl; levels = refl; unread = u }) q q' levels l form its held.0
-        (counted-next SpellsPair n form its s r b some held stand e) rest lv lq
-        (λ ys count. subst (λ k. HoldsPairs k form ys) (sym is') (held.0, count)),
+        (record { reader = refl; levels = refl; unread = u }) q q' levels l span its held.0
+        (counted-next SpellsPair n span its s r b some held stand e) rest lv lq
+        (λ ys count. subst (λ k. HoldsPairs k span ys) (sym is') (held.0, count)),
   )
 
   pub leaves-counted : (old new : ByteSource S W) (q : ByteSeq) → q.left ≡ left.Counted 0 → new.decoder ≡ old.decoder →
       new.pending ≡ old.pending → new.levels ≡ q.levels → Leaves (StandsBefore remaining) SeqStands old new q
   leaves-counted old new q is same same' levels = (
-    λ l form its f (b, u, (s, r, stand, rest, e), lv, none) (lq, hold).
-        let (empty, all) = counted-end Spells form its s r b (subst (λ k. HoldsItems k form its) is hold) stand e in (
+    λ l span its f (b, u, (s, r, stand, rest, e), lv, none) (lq, hold).
+        let (empty, all) = counted-end Spells span its s r b (subst (λ k. HoldsItems k span its) is hold) stand e in (
           empty,
           stands-past remaining old new l q b f (ap (reader_of remaining) same) levels (same' ∙ none) (into b u)
               (subst (λ k. IsRest (reader_of remaining old.decoder) k f) (sym all) rest) lq,
         ),
-    λ l form its f (b, u, (s, r, stand, rest, e), lv, none) (lq, hold).
-        let held = subst (λ k. HoldsPairs k form its) is hold in
-        let (empty, all) = counted-end SpellsPair form its s r b held stand e in (
+    λ l span its f (b, u, (s, r, stand, rest, e), lv, none) (lq, hold).
+        let held = subst (λ k. HoldsPairs k span its) is hold in
+        let (empty, all) = counted-end SpellsPair span its s r b held stand e in (
           empty,
           stands-past remaining old new l q b f (ap (reader_of remaining) same) levels (same' ∙ none) (into b u)
               (subst (λ k. IsRest (reader_of remaining old.decoder) k f) (sym all) rest) lq,
@@ -360,18 +360,18 @@ module _ {S W : Type 0} (remaining : S → Option (List ℕ)) where
       ((y : List ℕ) → IsUnread remaining mid y → IsUnread remaining new y) →
       Leaves (StandsBefore remaining) SeqStands old new q
   leaves-open old mid new q is kept took levels none into = (
-    λ l form its f (b, u, (s, r, stand, rest, e), lv, ahead) (lq, hold).
+    λ l span its f (b, u, (s, r, stand, rest, e), lv, ahead) (lq, hold).
         let (x, y, hd, g, un) = took b u in
-        let (empty, all) = open-end Spells item-begins form its s r b x y (subst (λ k. HoldsItems k form its) is hold)
+        let (empty, all) = open-end Spells item-begins span its s r b x y (subst (λ k. HoldsItems k span its) is hold)
         stand e hd g in (
           empty,
           stands-past remaining old new l q y f (kept-reader remaining old new kept b u) levels none (into y un)
               (subst (λ k. IsRest (reader_of remaining old.decoder) k f) (sym all) rest) lq,
         ),
-    λ l form its f (b, u, (s, r, stand, rest, e), lv, ahead) (lq, hold).
+    λ l span its f (b, u, (s, r, stand, rest, e), lv, ahead) (lq, hold).
         let (x, y, hd, g, un) = took b u in
-        let (empty, all) = open-end SpellsPair pair-begins form its s r b x y
-        (subst (λ k. HoldsPairs k form its) is hold) stand e hd g in (
+        let (empty, all) = open-end SpellsPair pair-begins span its s r b x y
+        (subst (λ k. HoldsPairs k span its) is hold) stand e hd g in (
           empty,
           stands-past remaining old new l q y f (kept-reader remaining old new kept b u) levels none (into y un)
               (subst (λ k. IsRest (reader_of remaining old.decoder) k f) (sym all) rest) lq,
@@ -385,39 +385,39 @@ module _ {S W : Type 0} (remaining : S → Option (List ℕ)) where
       ((b x y : List ℕ) → IsUnread remaining old b → SpellsHeader x h → b ≡ x ++ y → IsUnread remaining mid y →
       IsUnread remaining new b) → GoesOn (StandsBefore remaining) SeqStands old new q q'
   goes-open old mid new q q' h is is' levels same kept took other back = (
-    λ l form its f (b, u, (s, r, stand, rest, e), lv, none) (lq, hold).
+    λ l span its f (b, u, (s, r, stand, rest, e), lv, none) (lq, hold).
         let (x, y, hd, g, un) = took b u in
-        let held : HoldsParts None form its = subst (λ k. HoldsItems k form its) is hold in
+        let held : HoldsParts None span its = subst (λ k. HoldsItems k span its) is hold in
         stands-item remaining old new None b r f (record {
           reader = kept-reader remaining old new same b u;
           levels = kept;
           unread = back b x y u hd g un;
-        }) q q' levels l form its held.0
-        (open-next Spells item-begins form its s r b x y h held stand e hd other g) rest lv lq
-        (λ ys count. subst (λ k. HoldsItems k form ys) (sym is') (held.0, count)),
-    λ l form its f (b, u, (s, r, stand, rest, e), lv, none) (lq, hold).
+        }) q q' levels l span its held.0
+        (open-next Spells item-begins span its s r b x y h held stand e hd other g) rest lv lq
+        (λ ys count. subst (λ k. HoldsItems k span ys) (sym is') (held.0, count)),
+    λ l span its f (b, u, (s, r, stand, rest, e), lv, none) (lq, hold).
         let (x, y, hd, g, un) = took b u in
-        let held : HoldsParts None form its = subst (λ k. HoldsPairs k form its) is hold in
+        let held : HoldsParts None span its = subst (λ k. HoldsPairs k span its) is hold in
         stands-pair remaining old new None b r f (record {
           reader = kept-reader remaining old new same b u;
           levels = kept;
           unread = back b x y u hd g un;
-        }) q q' levels l form its held.0
-        (open-next SpellsPair pair-begins form its s r b x y h held stand e hd other g) rest lv lq
-        (λ ys count. subst (λ k. HoldsPairs k form ys) (sym is') (held.0, count)),
+        }) q q' levels l span its held.0
+        (open-next SpellsPair pair-begins span its s r b x y h held stand e hd other g) rest lv lq
+        (λ ys count. subst (λ k. HoldsPairs k span ys) (sym is') (held.0, count)),
   )
 
   pub no-next : (old : ByteSource S W) (q : ByteSeq) (fault : Fault) → q.left ≡ left.Open →
       DeniesHead (IsUnread remaining) (end_at remaining) old fault →
       RefusesNext (StandsBefore remaining) SeqStands old q fault
   no-next old q fault is denied = (
-    λ l form its f (b, u, (s, r, stand, rest, e), lv, ahead) (lq, hold).
-        let (h, x, y, hd, g, there) = open-head Spells item-begins form its s r b
-        (subst (λ k. HoldsItems k form its) is hold) stand e in
+    λ l span its f (b, u, (s, r, stand, rest, e), lv, ahead) (lq, hold).
+        let (h, x, y, hd, g, there) = open-head Spells item-begins span its s r b
+        (subst (λ k. HoldsItems k span its) is hold) stand e in
         denied b x y h (length r) (end_of f) u hd g there (rest-end (reader_of remaining old.decoder) r f rest),
-    λ l form its f (b, u, (s, r, stand, rest, e), lv, ahead) (lq, hold).
-        let (h, x, y, hd, g, there) = open-head SpellsPair pair-begins form its s r b
-        (subst (λ k. HoldsPairs k form its) is hold) stand e in
+    λ l span its f (b, u, (s, r, stand, rest, e), lv, ahead) (lq, hold).
+        let (h, x, y, hd, g, there) = open-head SpellsPair pair-begins span its s r b
+        (subst (λ k. HoldsPairs k span its) is hold) stand e in
         denied b x y h (length r) (end_of f) u hd g there (rest-end (reader_of remaining old.decoder) r f rest),
   )
 
@@ -453,12 +453,12 @@ module _ {S W : Type 0} (remaining : S → Option (List ℕ)) where
       new.decoder ≡ old.decoder → new.levels ≡ old.levels → new.pending ≡ Some (header.Positive n, p) →
       GoesOn (StandsBefore remaining) SeqStands old new q q'
   goes-bytes old new q q' v w n p is is' levels first lt same kept pushed = (
-    λ l form its f (b, u, (s, r, stand, rest, e), lv, none) (lq, hold).
-        let held : HoldsItems (left.Bytes v) form its = subst (λ k. HoldsItems k form its) is hold in
+    λ l span its f (b, u, (s, r, stand, rest, e), lv, none) (lq, hold).
+        let held : HoldsItems (left.Bytes v) span its = subst (λ k. HoldsItems k span its) is hold in
         let known : left_of remaining old.decoder ≡ Some b = subst (λ o. IsUnreadBy remaining old.decoder o b) none u in
         let known' : left_of remaining new.decoder ≡ Some b = ap (λ d. left_of remaining d) same ∙ known in
         let empty : s ≡ [] = subst (λ k. AreLeft Spells k s its) held.0 stand in
-        let all : b ≡ r = e ∙ ap (λ (k : List ℕ). k ++ (ending form ++ r)) empty ∙ ap (λ k. ending k ++ r) held.0 in (
+        let all : b ≡ r = e ∙ ap (λ (k : List ℕ). k ++ (ending span ++ r)) empty ∙ ap (λ k. ending k ++ r) held.0 in (
           unsigned n,
           map unsigned (into_iter_items w),
           sym held.1 ∙ ap (map unsigned) first,
@@ -485,30 +485,30 @@ module _ {S W : Type 0} (remaining : S → Option (List ℕ)) where
           ),
           (
             lq ∙ ap Some (sym levels),
-            subst (λ k. HoldsItems k form (map unsigned (into_iter_items w))) (sym is')
+            subst (λ k. HoldsItems k span (map unsigned (into_iter_items w))) (sym is')
                 (held.0, refl),
           ),
         ),
-    λ l form its f (b, u, (s, r, stand, rest, e), lv, none) (lq, hold). absurd
-        (subst (λ k. HoldsPairs k form its) is hold),
+    λ l span its f (b, u, (s, r, stand, rest, e), lv, none) (lq, hold). absurd
+        (subst (λ k. HoldsPairs k span its) is hold),
   )
 
 module _ {S W : Type 0} (remaining : S → Option (List ℕ)) where
   pub leaves-bytes : (old : ByteSource S W) (q : ByteSeq) (v : _) → q.left ≡ left.Bytes v → into_iter_items v ≡ [] →
       Leaves (StandsBefore remaining) SeqStands old old q
   leaves-bytes old q v is nothing = (
-    λ l form its f (b, u, (s, r, stand, rest, e), lv, none) (lq, hold).
-        let held : HoldsItems (left.Bytes v) form its = subst (λ k. HoldsItems k form its) is hold in
+    λ l span its f (b, u, (s, r, stand, rest, e), lv, none) (lq, hold).
+        let held : HoldsItems (left.Bytes v) span its = subst (λ k. HoldsItems k span its) is hold in
         let empty : s ≡ [] = subst (λ k. AreLeft Spells k s its) held.0 stand in
-        let all : b ≡ r = e ∙ ap (λ (k : List ℕ). k ++ (ending form ++ r)) empty ∙ ap (λ k. ending k ++ r) held.0 in
+        let all : b ≡ r = e ∙ ap (λ (k : List ℕ). k ++ (ending span ++ r)) empty ∙ ap (λ k. ending k ++ r) held.0 in
         let at : l ≡ Some old.levels = ap (λ k. inside k l) (sym held.0) ∙ lv in
         let levels : old.levels ≡ q.levels = same-level old.levels q.levels (sym at ∙ lq) in (
           sym held.1 ∙ ap (map unsigned) nothing,
           stands-past remaining old old l q b f refl levels none u
               (subst (λ k. IsRest (reader_of remaining old.decoder) k f) (sym all) rest) lq,
         ),
-    λ l form its f (b, u, (s, r, stand, rest, e), lv, none) (lq, hold). absurd
-        (subst (λ k. HoldsPairs k form its) is hold),
+    λ l span its f (b, u, (s, r, stand, rest, e), lv, none) (lq, hold). absurd
+        (subst (λ k. HoldsPairs k span its) is hold),
   )
     where
       same-level : (n m : ℕ) → Some n ≡ Some m → n ≡ m

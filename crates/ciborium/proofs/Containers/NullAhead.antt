@@ -6,7 +6,7 @@ use Rattle.ciborium_ll.specs.Header.{SpellsHeader}
 use Rattle.ciborium_ll.specs.Item.{Item, simple}
 use Rattle.ciborium_value.specs.Ahead.{end_of}
 use Rattle.ciborium_value.specs.Sources.{Fault, RefusesToTell, TakesNothing, Tells}
-use Rattle.ciborium_value.specs.Taken.{is_null}
+use Rattle.ciborium_value.specs.Given.{is_null}
 use Rattle.ciborium.specs.declared.de.byte_source.ByteSource.{ByteSource}
 use Rattle.ciborium.specs.inner.ByteSources.{IsUnread, StandsBefore, end_at, reader_of, tells_null}
 use Rattle.ciborium.specs.inner.FrontItems.{TakesHead, DeniesHead}

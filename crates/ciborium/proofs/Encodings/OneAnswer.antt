@@ -26,7 +26,7 @@ names left (errors.Semantic (Some p) k) P h = by (refusal_kind_of k) h
     at : Error IoError
     at = errors.Semantic (Some p) k
 
-    by : (o : Option refusal.Kind) → IsNamed (Some p) o P →
+    by : (o : Option refusal.SemanticKind) → IsNamed (Some p) o P →
         IsFailed left at ⊎ ((r : Refusal) × (option_map (refusal.semantic p) o ≡ Some r) × P r)
     by (Some n) h = inr (refusal.semantic p n, refl, h)
     by None h = absurd h

@@ -4,7 +4,7 @@ use Rattle.ciborium_ll.specs.declared.header.Header.{Header}
 use Rattle.ciborium_ll.specs.Item.{Item}
 use Rattle.ciborium_ll.specs.StringRefusal.{StringKind}
 use Rattle.ciborium_value.specs.Sources.{Fault, TakesOnly, of_kind}
-use Rattle.ciborium_value.specs.Taken.{Taken, gives, nests, outcome, refuses}
+use Rattle.ciborium_value.specs.Given.{Given, gives, nests, outcome, refuses}
 use Rattle.ciborium_value.specs.declared.kind.Kind.{Kind}
 use Rattle.ciborium.specs.declared.de.byte_source.ByteSource.{ByteSource}
 use Rattle.ciborium.specs.declared.de.error.Error.{Error}
@@ -18,7 +18,7 @@ use Rattle.ciborium.proofs.Items.SkippedTags.{denies-bare, denies-nested, denies
 use Rattle.ciborium.proofs.Items.TakenOnly.{same-end}
 use Rattle.ciborium.proofs.Payloads.StringPayloads.{denies-string, reads-string}
 
-module _ {S W A : Type 0} (remaining : S → Option (List ℕ)) (old : ByteSource S W) (taken : Taken A) where
+module _ {S W A : Type 0} (remaining : S → Option (List ℕ)) (old : ByteSource S W) (taken : Given A) where
   abbrev pub IsDenied : Fault → Type 0
   IsDenied = Denies (IsUnread remaining) (end_at remaining) old (Some old.levels) taken
 

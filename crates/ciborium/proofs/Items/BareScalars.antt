@@ -8,9 +8,9 @@ use Rattle.ciborium_ll.specs.Item.{Item, tag, simple}
 use Rattle.ciborium_value.specs.Meaning.{is_bignum_tag}
 use Rattle.ciborium_value.specs.Nesting.{Limit}
 use Rattle.ciborium_value.specs.Sources.{Fault, IsFaultOf}
-use Rattle.ciborium_value.specs.Taken.{gives, refuses, outcome, settled, untagged, number_of, bignum_of, bare_boolean}
-use Rattle.ciborium_value.specs.Taken.{bare_unit, boolean_of, is_null_simple, taken_bignum, taken_boolean}
-use Rattle.ciborium_value.specs.Taken.{taken_integer, taken_unit, with_sign}
+use Rattle.ciborium_value.specs.Given.{gives, refuses, outcome, settled, untagged, number_of, bignum_of, bare_boolean}
+use Rattle.ciborium_value.specs.Given.{bare_unit, boolean_of, is_null_simple, given_bignum, given_boolean}
+use Rattle.ciborium_value.specs.Given.{given_integer, given_unit, with_sign}
 use Rattle.ciborium_value.specs.declared.kind.Kind.{Kind}
 use Rattle.ciborium_value.proofs.Sources.Sequences.{fault_map}
 use Rattle.ciborium_value.specs.declared.kind.Kind.TheVariants as kinds
@@ -26,7 +26,7 @@ of_settled (Ok w) v e = let same : w ≡ v = cc in ap Ok same
 of_settled (Err k) v e = absurd cc
 
 pub integer-gives : (l : Limit) (i : Item) (v : Bool × ℕ) → number_of i ≡ Ok v → (ts : List ℕ) → AreSkipped true ts →
-    outcome l (taken_integer (under ts i)) ≡ gives v
+    outcome l (given_integer (under ts i)) ≡ gives v
 integer-gives l i v e ts all = ap settled (number-under ts i all ∙ e)
 
 signed : (t n : ℕ) (i : Item) → is_bignum_tag t ≡ true → settled (bignum_of i) ≡ gives n →
@@ -43,8 +43,8 @@ signed-fault : (end t : ℕ) (i : Item) (fault : Fault) → is_bignum_tag t ≡ 
 signed-fault end t i fault e b = rw e (sign-fault end (t == 3) (bignum_of i) fault b)
 
 module _ {S : Type 0} (IsUnread : S → List ℕ → Type 0) (t : ℕ) (l : Limit) (is : is_bignum_tag t ≡ true) where
-  pub bignum-behind : (mid new : S) (n : ℕ) → Reads IsUnread mid new None taken_bignum n → (y : List ℕ) →
-      IsUnread mid y → ReadsBehind IsUnread new true (header.Tag t) l taken_integer (t == 3, n) y
+  pub bignum-behind : (mid new : S) (n : ℕ) → Reads IsUnread mid new None given_bignum n → (y : List ℕ) →
+      IsUnread mid y → ReadsBehind IsUnread new true (header.Tag t) l given_integer (t == 3, n) y
   bignum-behind mid new n r y un =
       let (i, s, z, sp, e, give, un') = r y un in (
         tag t i,
@@ -59,7 +59,7 @@ module _ {S : Type 0} (IsUnread : S → List ℕ → Type 0) (t : ℕ) (l : Limi
   -- a bignum that is refused behind its tag
   pub bignum-denied : (End : S → ℕ) (old mid : S) (fault : Fault) →
       ((b : List ℕ) → IsUnread old b → End mid ≡ End old) → TakesBare IsUnread old mid true (header.Tag t) →
-      Denies IsUnread End mid None taken_bignum fault → Denies IsUnread End old l taken_integer fault
+      Denies IsUnread End mid None given_bignum fault → Denies IsUnread End old l given_integer fault
   bignum-denied End old mid fault same bare d b s z j end u sp e fits =
       let (ts, w, x, y, tagged, all, hd, f, un) = bare b u in
       let (i, r, io, sq, g) = tagged.inward j s z sp e in
@@ -72,7 +72,7 @@ module _ {S : Type 0} (IsUnread : S → List ℕ → Type 0) (t : ℕ) (l : Limi
 pub integer-other : (l : Limit) (h : Header) → ((n : ℕ) → h ≡ header.Positive n → ⊥) →
     ((n : ℕ) → h ≡ header.Negative n → ⊥) → ((n : ℕ) → h ≡ header.Tag n → ⊥) →
     (ts : List ℕ) (i : Item) → AreSkipped true ts → header_of i ≡ h →
-    outcome l (taken_integer (under ts i)) ≡ refuses kinds.Integer
+    outcome l (given_integer (under ts i)) ≡ refuses kinds.Integer
 integer-other l h p q r ts i all e = ap settled (number-under ts i all ∙
     by-shape (λ j. number_of j ≡ Err kinds.Integer) h (λ n k. absurd (p n k)) (λ n k. absurd (q n k))
     (λ o b k. refl) (λ o b k. refl) (λ o is k. refl) (λ o ps k. refl) (λ n k. refl) (λ raw k. refl)
@@ -81,13 +81,13 @@ integer-other l h p q r ts i all e = ap settled (number-under ts i all ∙
 -- ---- booleans
 
 pub boolean-gives : (l : Limit) (n : ℕ) (v : Bool) → boolean_of n ≡ Ok v → (ts : List ℕ) → AreSkipped false ts →
-    outcome l (taken_boolean (under ts (simple n))) ≡ gives v
+    outcome l (given_boolean (under ts (simple n))) ≡ gives v
 boolean-gives l n v e ts all = ap settled (ap bare_boolean (untagged-under ts (simple n)) ∙ e)
 
 pub boolean-other : (l : Limit) (h : Header) → IsBare false h →
     ((n : ℕ) → h ≡ header.Simple n → boolean_of n ≡ Err kinds.Bool) →
     (ts : List ℕ) (i : Item) → AreSkipped false ts → header_of i ≡ h →
-    outcome l (taken_boolean (under ts i)) ≡ refuses kinds.Bool
+    outcome l (given_boolean (under ts i)) ≡ refuses kinds.Bool
 boolean-other l h bare nope ts i all e = ap settled (ap bare_boolean (untagged-under ts i) ∙
     by-shape (λ j. bare_boolean (untagged j) ≡ Err kinds.Bool) h (λ n k. refl) (λ n k. refl) (λ o b k. refl)
     (λ o b k. refl) (λ o is k. refl) (λ o ps k. refl) nope (λ raw k. refl) (λ t j k. no-bare-tag h t bare k) i e)
@@ -102,13 +102,13 @@ boolean-none h m e p q n f = let s : m ≡ n = cc in subst (λ k. boolean_of k �
 -- ---- null
 
 pub unit-gives : (l : Limit) (n : ℕ) → is_null_simple n ≡ true → (ts : List ℕ) → AreSkipped false ts →
-    outcome l (taken_unit (under ts (simple n))) ≡ gives tt
+    outcome l (given_unit (under ts (simple n))) ≡ gives tt
 unit-gives l n e ts all = ap (λ j. settled (bare_unit j)) (untagged-under ts (simple n)) ∙ rw e refl
 
 pub unit-other : (l : Limit) (h : Header) → IsBare false h →
     ((n : ℕ) → h ≡ header.Simple n → is_null_simple n ≡ false) →
     (ts : List ℕ) (i : Item) → AreSkipped false ts → header_of i ≡ h →
-    outcome l (taken_unit (under ts i)) ≡ refuses kinds.Unit
+    outcome l (given_unit (under ts i)) ≡ refuses kinds.Unit
 unit-other l h bare nope ts i all e = ap settled (ap bare_unit (untagged-under ts i) ∙
     by-shape (λ j. bare_unit (untagged j) ≡ Err kinds.Unit) h (λ n k. refl) (λ n k. refl) (λ o b k. refl)
     (λ o b k. refl) (λ o is k. refl) (λ o ps k. refl) (λ n k. let no = nope n k in rw no refl) (λ raw k. refl)

@@ -10,7 +10,7 @@ use Rattle.ciborium_ll.specs.Item.{Item, Items, Pairs, unsigned, negative, bytes
 use Rattle.ciborium_ll.specs.Item.{items_count, pairs_count}
 use Rattle.ciborium_ll.specs.Spells.{Spells, SpellsItems, SpellsPairs}
 use Rattle.ciborium_ll.proofs.OneHeader.{one_header_at_front}
-use Rattle.ciborium_value.specs.Taken.{unpack, unpack_pairs}
+use Rattle.ciborium_value.specs.Given.{unpack, unpack_pairs}
 use Rattle.ciborium.specs.inner.Skips.{IsBare}
 use Rattle.ciborium.specs.inner.Unread.{AreSpelled, SpellsPair}
 

@@ -18,7 +18,7 @@ use Rattle.ciborium_ll.proofs.LevelsTo.{to-incomplete}
 use Rattle.ciborium_ll.proofs.OneHeader.{one_header_at_front}
 use Rattle.ciborium_value.specs.Nesting.{nesting}
 use Rattle.ciborium_value.specs.Sources.{Fault, IsFaultOf, IsOutsideFault, of_kind, of_nesting}
-use Rattle.ciborium_value.specs.Taken.{gives, nests, outcome, taken_skip}
+use Rattle.ciborium_value.specs.Given.{gives, nests, outcome, given_skip}
 use Rattle.ciborium_value.proofs.Sources.SkippedItems.{skip-gives, skip-nests}
 use Rattle.ciborium.specs.inner.FrontItems.{DeniesHead}
 use Rattle.ciborium.specs.inner.PassedOver.{LevelsTo, HasRoom, PassesHeads}
@@ -321,7 +321,7 @@ denied-before P Q m all ahead a b fault f same denied y z end u to fits =
 
 pub item-passed : (P Q : List ℕ → Type 0) (m : ℕ) → PassesHeads P Q m (Items 1 ∷ []) [] → (b : List ℕ) → P b →
     (i : Item) × (s : List ℕ) × (z : List ℕ) × Spells s i × (b ≡ s ++ z) ×
-    (outcome (Some m) (taken_skip i) ≡ gives (tt {0})) × Q z
+    (outcome (Some m) (given_skip i) ≡ gives (tt {0})) × Q z
 item-passed P Q m f b u =
     let (w, v, first) = f b u in
     let (i, s, spelled, split, within) = started (within (Some m)) b w ((first true w).1 refl) in
@@ -329,12 +329,12 @@ item-passed P Q m f b u =
 
 pub item-denied : (P : List ℕ → Type 0) (all m : ℕ) (fault : Fault) → DeniesLevels P all m (Items 1 ∷ []) fault →
     (b s z : List ℕ) (i : Item) (end : ℕ) → P b → Spells s i → b ≡ s ++ z → all ≤ end + length z →
-    IsFaultOf end fault (outcome (Some m) (taken_skip i))
+    IsFaultOf end fault (outcome (Some m) (given_skip i))
 item-denied P all m fault denied b s z i end u spelled split fits =
     by fault (denied b z end u (start (within None) b z (i, s, spelled, split, tt)) fits)
   where
     deep : ¬ (LevelsTo (Some m) (Items 1 ∷ []) b z) → (t : Bool) → ltb m (nesting i) ≡ t →
-        outcome (Some m) (taken_skip i) ≡ nests
+        outcome (Some m) (given_skip i) ≡ nests
     deep not true e = skip-nests m i (ltb-true m (nesting i) e)
     deep not false e = absurd (not (start (within (Some m)) b z (
       i,
@@ -345,7 +345,7 @@ item-denied P all m fault denied b s z i end u spelled split fits =
     )))
 
     by : (fault : Fault) → IsLevelFault end fault (LevelsTo (Some m) (Items 1 ∷ []) b z) →
-        IsFaultOf end fault (outcome (Some m) (taken_skip i))
+        IsFaultOf end fault (outcome (Some m) (given_skip i))
     by (of_kind k) h = absurd h
     by of_nesting h = deep h (ltb m (nesting i)) refl
     by u h = h

@@ -9,7 +9,7 @@ use Rattle.ciborium_ll.specs.Spells.{Spells}
 use Rattle.ciborium_value.specs.Meaning.{is_bignum_tag}
 use Rattle.ciborium_value.specs.Nesting.{Limit}
 use Rattle.ciborium_value.specs.Sources.{Fault, IsFaultOf, of_nesting}
-use Rattle.ciborium_value.specs.Taken.{Taken, gives, nests, number_of, number_under, outcome, untagged}
+use Rattle.ciborium_value.specs.Given.{Given, gives, nests, number_of, number_under, outcome, untagged}
 use Rattle.ciborium_value.proofs.Sources.Sequences.{fault_outside}
 use Rattle.ciborium.specs.inner.FrontItems.{TakesHead, DeniesHead, DeniesItem, Reads, Denies}
 use Rattle.ciborium.specs.inner.Skips.{under, IsSkipped, AreSkipped, IsTagged, Skips, TakesBare}
@@ -96,7 +96,7 @@ module _ {S : Type 0} (IsUnread : S → List ℕ → Type 0) where
       let (x, y, hd, g, un') = k c un in
       absurd (no-break-head j (same-head t z x y j header.Break sq hd (sym f ∙ g)).0)
 
-  pub denies-of-item : {A : Type 0} (End : S → ℕ) (l : Limit) (taken : Taken A) (old : S) (fault : Fault) →
+  pub denies-of-item : {A : Type 0} (End : S → ℕ) (l : Limit) (taken : Given A) (old : S) (fault : Fault) →
       DeniesItem IsUnread End old fault → Denies IsUnread End old l taken fault
   denies-of-item End l taken old fault h b s z i end u sp e fits =
       fault_outside end fault (outcome l (taken i)) (h b s z i end u sp e fits)
@@ -127,13 +127,13 @@ module _ {S : Type 0} (IsUnread : S → List ℕ → Type 0) where
 -- ---- what is read behind tags
 
 -- what stands behind a head makes an item with it, which gives this under tags that are skipped
-abbrev pub ReadsBehind : {S A : Type 0} → (S → List ℕ → Type 0) → S → Bool → Header → Limit → Taken A → A → List ℕ →
+abbrev pub ReadsBehind : {S A : Type 0} → (S → List ℕ → Type 0) → S → Bool → Header → Limit → Given A → A → List ℕ →
     Type 0
 ReadsBehind IsUnread new numbers h l taken v y =
     (i : Item) × (c : List ℕ) × (z : List ℕ) × ((x : List ℕ) → SpellsHeader x h → Spells (x ++ c) i) × (y ≡ c ++ z) ×
     ((ts : List ℕ) → AreSkipped numbers ts → outcome l (taken (under ts i)) ≡ gives v) × IsUnread new z
 
-module _ {S A : Type 0} (IsUnread : S → List ℕ → Type 0) (numbers : Bool) (h : Header) (l : Limit) (taken : Taken A)
+module _ {S A : Type 0} (IsUnread : S → List ℕ → Type 0) (numbers : Bool) (h : Header) (l : Limit) (taken : Given A)
   where
     pub reads-bare : (old mid new : S) (v : A) → TakesBare IsUnread old mid numbers h →
         ((y : List ℕ) → IsUnread mid y → ReadsBehind IsUnread new numbers h l taken v y) →

@@ -10,7 +10,7 @@ use Rattle.ciborium_ll.specs.Decoding.{HasBegun, HasSameReader, Takes, left_of}
 use Rattle.ciborium_ll.proofs.Advancing.{Advances-then}
 use Rattle.ciborium_ll.proofs.Decoders.{begun-left}
 use Rattle.ciborium_ll.proofs.Unread.{rest-of}
-use Rattle.ciborium_value.specs.Ahead.{Form, Rest, bottom, parts, pairs, entry, held, end_of}
+use Rattle.ciborium_value.specs.Ahead.{Span, Rest, bottom, parts, pairs, entry, level_due, end_of}
 use Rattle.ciborium_value.specs.Sources.{TakesOnly}
 use Rattle.ciborium.specs.declared.de.byte_source.ByteSource.{ByteSource}
 use Rattle.ciborium.specs.inner.ByteSources.{HasTaken, IsUnread, IsUnreadBy, end_at, known_end, reader_of}
@@ -132,19 +132,19 @@ kept-reader remaining old new (same, only) b u =
     ap (λ n. (old.decoder.reader.ghost_name, n)) (same-end remaining old new only b u)
 
 -- what follows in the open containers begins where the outermost item ends, or before that
-end-behind : (n m : ℕ) (form : Form) (b s r : List ℕ) → b ≡ s ++ (ending form ++ r) → n ≤ m + length r →
+end-behind : (n m : ℕ) (span : Span) (b s r : List ℕ) → b ≡ s ++ (ending span ++ r) → n ≤ m + length r →
     n ≤ m + length b
-end-behind n m form b s r e le =
-    let size = ap length e ∙ length-append s (ending form ++ r) in
-    let more = length-append (ending form) r in
+end-behind n m span b s r e le =
+    let size = ap length e ∙ length-append s (ending span ++ r) in
+    let more = length-append (ending span) r in
     omega (arith, size, more, le)
 
 pub rest-end : (reader : GName × ℕ) (b : List ℕ) (f : Rest) → IsRest reader b f → reader.1 ≤ end_of f + length b
 rest-end reader b (bottom m r) (e, name, all) = let size = ap length e in omega (arith, size, all)
-rest-end reader b (parts form is f) (s, r, left, rest, e) = end-behind _ _ form b s r e (rest-end reader r f rest)
-rest-end reader b (pairs form ps f) (s, r, left, rest, e) = end-behind _ _ form b s r e (rest-end reader r f rest)
-rest-end reader b (entry v form ps f) (t, c, sp, (s, r, left, rest, g), e) =
+rest-end reader b (parts span is f) (s, r, left, rest, e) = end-behind _ _ span b s r e (rest-end reader r f rest)
+rest-end reader b (pairs span ps f) (s, r, left, rest, e) = end-behind _ _ span b s r e (rest-end reader r f rest)
+rest-end reader b (entry v span ps f) (t, c, sp, (s, r, left, rest, g), e) =
     let size = ap length e ∙ length-append t c in
-    let behind = end-behind (reader.1) (end_of f) form c s r g (rest-end reader r f rest) in
+    let behind = end-behind (reader.1) (end_of f) span c s r g (rest-end reader r f rest) in
     omega (arith, size, behind)
-rest-end reader b (held f) h = rest-end reader b f h
+rest-end reader b (level_due f) h = rest-end reader b f h

@@ -25,8 +25,8 @@ use Rattle.ciborium_value.specs.Refuses.{AreReadAs, Due, items, keys, values, ne
 use Rattle.ciborium_value.specs.Refuses.{BeginsContainer, IsTagAt, Refuses}
 use Rattle.ciborium_value.specs.Sources.{Fault, of_kind, of_nesting, of_syntax, of_memory, of_device, of_end}
 use Rattle.ciborium_value.specs.Sources.{of_length, IsFaultOf, IsOutsideFault}
-use Rattle.ciborium_value.specs.Taken.{Outcome, Steps, gives, leveled, mapped, nests, of_meaning, outcome, outcome_map}
-use Rattle.ciborium_value.specs.Taken.{refuses, taken_items, taken_tag, taken_tree_pairs, taken_value}
+use Rattle.ciborium_value.specs.Given.{Outcome, Steps, gives, leveled, mapped, nests, of_meaning, outcome, outcome_map}
+use Rattle.ciborium_value.specs.Given.{refuses, given_items, given_tag, given_tree_pairs, given_value}
 use Rattle.ciborium_value.specs.Spelling.{any}
 use Rattle.ciborium_value.specs.Tree as trees
 use Rattle.ciborium_value.specs.Tree.{Tree, Trees, TreePairs}
@@ -45,7 +45,7 @@ use Rattle.ciborium.proofs.Items.ValuesGiven.{level-taken, value-gives}
 not-break : (s r y : List ℕ) (i : Item) → Spells s i → s ++ r ≡ break_byte ∷ y → ⊥
 not-break s r y i sp e = no-break-head i (same-head s r (break_byte ∷ []) y i header.Break sp refl e).0
 
-abbrev pub kind_fault : refusal.Kind → Fault
+abbrev pub kind_fault : refusal.SemanticKind → Fault
 kind_fault refusal.Float = of_kind kinds.Float
 kind_fault refusal.Simple = of_kind kinds.Simple
 kind_fault refusal.Break = of_kind kinds.Break
@@ -305,12 +305,12 @@ nest-pair (gives a) nests r q rec h = refl
 nest-pair nests y r q rec h = refl
 nest-pair u v w q rec h = cc
 
-flat-faults : (end : ℕ) (f : Fault) (l : Limit) (ps : Pairs) → IsFaultOf end f (outcome l (taken_items (flat ps))) →
-    IsFaultOf end f (outcome l (taken_tree_pairs ps))
-flat-faults end (of_kind k) l (pair x y ps) b = kind-pair k (outcome l (taken_value x)) (outcome l (taken_value y))
-    (outcome l (taken_items (flat ps))) (outcome l (taken_tree_pairs ps)) (flat-faults end (of_kind k) l ps) b
-flat-faults end of_nesting l (pair x y ps) b = nest-pair (outcome l (taken_value x)) (outcome l (taken_value y))
-    (outcome l (taken_items (flat ps))) (outcome l (taken_tree_pairs ps)) (flat-faults end of_nesting l ps) b
+flat-faults : (end : ℕ) (f : Fault) (l : Limit) (ps : Pairs) → IsFaultOf end f (outcome l (given_items (flat ps))) →
+    IsFaultOf end f (outcome l (given_tree_pairs ps))
+flat-faults end (of_kind k) l (pair x y ps) b = kind-pair k (outcome l (given_value x)) (outcome l (given_value y))
+    (outcome l (given_items (flat ps))) (outcome l (given_tree_pairs ps)) (flat-faults end (of_kind k) l ps) b
+flat-faults end of_nesting l (pair x y ps) b = nest-pair (outcome l (given_value x)) (outcome l (given_value y))
+    (outcome l (given_items (flat ps))) (outcome l (given_tree_pairs ps)) (flat-faults end of_nesting l ps) b
 flat-faults end of_syntax l ps b = b
 flat-faults end of_memory l ps b = tt
 flat-faults end of_device l ps b = tt
@@ -319,17 +319,17 @@ flat-faults end of_length l ps b = b
 flat-faults end u l no_pairs b = cc
 
 container-faults : (end : ℕ) (i : Item) (is : Items) (f : Fault) (l m : Limit) → IsContainer i is → IsOneLess l m →
-    IsFaultOf end f (outcome m (taken_items is)) → IsFaultOf end f (outcome l (taken_value i))
+    IsFaultOf end f (outcome m (given_items is)) → IsFaultOf end f (outcome l (given_value i))
 container-faults end (array o js) is f l m h one b = level-faults end f l m
-    (mapped trees.array (taken_items js)) one (fault_map end f trees.array (outcome m (taken_items js))
-    (subst (λ ks. IsFaultOf end f (outcome m (taken_items ks))) (sym h) b))
+    (mapped trees.array (given_items js)) one (fault_map end f trees.array (outcome m (given_items js))
+    (subst (λ ks. IsFaultOf end f (outcome m (given_items ks))) (sym h) b))
 container-faults end (maps.map o ps) is f l m h one b =
-    level-faults end f l m (mapped trees.map (taken_tree_pairs ps)) one
-    (fault_map end f trees.map (outcome m (taken_tree_pairs ps))
-    (flat-faults end f m ps (subst (λ ks. IsFaultOf end f (outcome m (taken_items ks))) (sym h) b)))
+    level-faults end f l m (mapped trees.map (given_tree_pairs ps)) one
+    (fault_map end f trees.map (outcome m (given_tree_pairs ps))
+    (flat-faults end f m ps (subst (λ ks. IsFaultOf end f (outcome m (given_items ks))) (sym h) b)))
 container-faults end _ is f l m h one b = absurd h
 
-container-nests : (i : Item) (is : Items) → IsContainer i is → outcome (Some 0) (taken_value i) ≡ nests
+container-nests : (i : Item) (is : Items) → IsContainer i is → outcome (Some 0) (given_value i) ≡ nests
 container-nests (array o js) is h = refl
 container-nests (maps.map o ps) is h = refl
 container-nests _ is h = absurd h
@@ -387,18 +387,18 @@ items-faults : (o : ℕ) (vs : List Tree) (is : Items) (w now : Due) (c good r e
     (f : Fault) → SpellsItems c is → AreReadAs any good p l vs → good ++ r ≡ c ++ (end ++ z) → IsAll w is end →
     due_after w vs ≡ Some now → IsDue now r (p + length good) →
     ((j : Item) (s y : List ℕ) → Spells s j → r ≡ s ++ y → length z ≤ length y →
-    IsFaultOf o f (outcome l (taken_value j))) →
+    IsFaultOf o f (outcome l (given_value j))) →
     (r ≡ break_byte ∷ z → (p + length good < greatest_offset → ⊥) → IsOutsideFault o f) →
-    IsFaultOf o f (outcome l (taken_items is))
+    IsFaultOf o f (outcome l (given_items is))
 items-faults o [] no_items w now c good r end z p l f sp g e all next due rec br =
     let same : w ≡ now = cc in
-    fault_outside o f (outcome l (taken_items no_items)) (none-due w end r z (p + length good) o f all
+    fault_outside o f (outcome l (given_items no_items)) (none-due w end r z (p + length good) o f all
     (ap (λ (k : List ℕ). k ++ r) (sym g) ∙ e ∙ ap (λ (k : List ℕ). k ++ (end ++ z)) sp)
     (subst (λ d. IsDue d r (p + length good)) (sym same) due) br)
 items-faults o [] (item i is) w now c good r end z p l f (s, t, si, ts, ce) g e all next due rec br =
     let behind = length-append t (end ++ z) in
     let more = length-append end z in
-    fault_then o f (outcome l (taken_value i)) _
+    fault_then o f (outcome l (given_value i)) _
     (rec i s (t ++ (end ++ z)) si (ap (λ (k : List ℕ). k ++ r) (sym g) ∙ e ∙
     ap (λ (k : List ℕ). k ++ (end ++ z)) ce ∙ append_assoc s t (end ++ z)) (omega (arith, behind, more)))
 items-faults o (v ∷ vs) no_items w now c good r end z p l f sp
@@ -416,8 +416,8 @@ items-faults o (v ∷ vs) (item i is) w now c good r end z p l f (s', t', si, ts
     let same : n ≡ m = cc in
     let at : p + length good ≡ p + length s + length t = let size : length good ≡ length s + length t = ap length ge ∙
     length-append s t in omega (arith, size) in
-    rest-faults o f (outcome l (taken_value i)) (outcome l (taken_items is)) v
-    (ap (λ j. outcome l (taken_value j)) (sym one.2) ∙ value-gives j l v means nests-in)
+    rest-faults o f (outcome l (given_value i)) (outcome l (given_items is)) v
+    (ap (λ j. outcome l (given_value j)) (sym one.2) ∙ value-gives j l v means nests-in)
     (items-faults o vs is n now t' t r end z (p + length s) l f ts' ts one.1
     (subst (λ d. IsAll d is end) (sym same) rest) then (subst (IsDue now r) at due) rec
     (λ h past. br h (λ lt. past (subst (λ k. k < greatest_offset) at lt))))
@@ -490,11 +490,11 @@ opening-size {b = b} {r = r} {k = k} (BeginsContainer.open_map e g) = let size :
 -- ---- tags
 
 tag-faults : (end : ℕ) (t : ℕ) (i : Item) (f : Fault) (l m : Limit) → folding_bytes t i ≡ None → IsOneLess l m →
-    IsFaultOf end f (outcome m (taken_value i)) → IsFaultOf end f (outcome l (taken_value (tag t i)))
+    IsFaultOf end f (outcome m (given_value i)) → IsFaultOf end f (outcome l (given_value (tag t i)))
 tag-faults end t i f l m none one b =
-    subst (λ o. IsFaultOf end f (outcome l (taken_tag t o (taken_value i)))) (sym none)
-    (level-faults end f l m (mapped (trees.tag t) (taken_value i)) one
-    (fault_map end f (trees.tag t) (outcome m (taken_value i)) b))
+    subst (λ o. IsFaultOf end f (outcome l (given_tag t o (given_value i)))) (sym none)
+    (level-faults end f l m (mapped (trees.tag t) (given_value i)) one
+    (fault_map end f (trees.tag t) (outcome m (given_value i)) b))
 
 -- the string of a tag that folds is there
 given-outside : (end : ℕ) (f : Fault) (v : Tree) → IsFaultOf end f (gives v) → IsOutsideFault end f
@@ -506,9 +506,9 @@ given-outside end of_length v h = h
 given-outside end u v h = cc
 
 large-refuses : (l : Limit) (y : List ℕ) → length y ≤ 16 → 2 ^ 127 ≤ big_endian y →
-    outcome l (taken_value (tag 3 (bytes false y))) ≡ refuses kinds.TooLarge
+    outcome l (given_value (tag 3 (bytes false y))) ≡ refuses kinds.TooLarge
 large-refuses l y small large =
-    ap (λ o. outcome l (taken_tag 3 o (taken_value (bytes false y)))) (folding-over 3 y refl small) ∙
+    ap (λ o. outcome l (given_tag 3 o (given_value (bytes false y)))) (folding-over 3 y refl small) ∙
     ap (of_meaning kinds.TooLarge) (large-none y large)
 
 -- ---- every refusal
@@ -543,19 +543,19 @@ enclosed {b} {p} {t} {r} {q} a i s z end sp f fits =
 
 pub value-faults : {b : List ℕ} {p : ℕ} {l : Limit} {e : Refusal} → Refuses any b p l e → (i : Item) (s z : List ℕ)
     (end : ℕ) → Spells s i → b ≡ s ++ z → p + length b ≤ end + length z →
-    IsFaultOf end (fault_of e) (outcome l (taken_value i))
+    IsFaultOf end (fault_of e) (outcome l (given_value i))
 value-faults {b} {p} {l} {e} (Refuses.no_head h) i s z end sp f fits =
-    head-faults b p end e i s z (outcome l (taken_value i)) h sp f fits
+    head-faults b p end e i s z (outcome l (given_value i)) h sp f fits
 value-faults (Refuses.bad_head kind u bad) i s z end sp f fits = cc
 value-faults {b} {p} {l} {e} (Refuses.string kind u w) i s z end sp f fits =
-    string-faults kind b p end e i s z (outcome l (taken_value i)) w sp f
+    string-faults kind b p end e i s z (outcome l (given_value i)) w sp f
 value-faults {b} {p} {l} {e} (Refuses.open_string kind u w) i s z end sp f fits =
-    open-faults kind b p end e i s z (outcome l (taken_value i)) w sp f fits
+    open-faults kind b p end e i s z (outcome l (given_value i)) w sp f fits
 value-faults {l = l} (Refuses.float {x} {b = b} u lo hi) i s z end sp f fits =
     let (raw, is) = float-only x b s z i sp f lo hi in
-    ap (λ j. outcome l (taken_value j)) is
+    ap (λ j. outcome l (given_value j)) is
 value-faults {l = l} (Refuses.simple t n r u si none g) i s z end sp f fits =
-    ap (λ j. outcome l (taken_value j)) (simple-only i n (same-head s z t r i (header.Simple n) sp si (sym f ∙ g)).0) ∙
+    ap (λ j. outcome l (given_value j)) (simple-only i n (same-head s z t r i (header.Simple n) sp si (sym f ∙ g)).0) ∙
     ap (of_meaning kinds.Simple) none
 value-faults (Refuses.break {b = b} u) i s z end sp f fits = absurd (not-break s z b i sp (sym f))
 value-faults (Refuses.no_level k r w u o) i s z end sp f fits =
@@ -574,13 +574,13 @@ value-faults {b = b} {p = p} {l = l} {e = e} (Refuses.part vs r q w below a due 
 value-faults (Refuses.key_order vs r s t key q w below a due read g bad) i s' z end sp f fits = absurd (bad tt)
 value-faults {b = b} {p = p} {l = l} {e = e} (Refuses.tag_no_head t k r u (x, hd, len, g) h) i s z end sp f fits =
     let (j, c, is, sj, q) = tag-front s z x r i t sp hd (sym f ∙ g) in
-    head-faults r (p + k) end e j c z (outcome l (taken_value i)) h sj q
+    head-faults r (p + k) end e j c z (outcome l (given_value i)) h sj q
     (behind-head b r p k (end + length z) (head-size b r 6 t k (x, hd, len, g)) fits)
 value-faults {l = l} {e = e} (Refuses.folding t r q a fo sub) i s z end sp f fits =
     let w = enclosed a i s z end sp f fits in
     let (y, is, few) = folding-string t w.within w.spelling z r w.spelled w.split fo in
-    fault_outside end (fault_of e) (outcome l (taken_value i)) (given-outside end (fault_of e) (trees.bytes y)
-    (subst (λ j. IsFaultOf end (fault_of e) (outcome l (taken_value j))) is
+    fault_outside end (fault_of e) (outcome l (given_value i)) (given-outside end (fault_of e) (trees.bytes y)
+    (subst (λ j. IsFaultOf end (fault_of e) (outcome l (given_value j))) is
     (value-faults sub w.within w.spelling z end w.spelled w.split w.fits)))
 value-faults {l = l} (Refuses.too_large r s t payload q a fo (j, sj, means, nests-in, low, so) g large) i s' z end sp f
     fits =
@@ -589,16 +589,16 @@ value-faults {l = l} (Refuses.too_large r s t payload q a fo (j, sj, means, nest
     let one = one_at_front s w.spelling t z j w.within sj w.spelled (sym g ∙ w.split) in
     let says : Some (trees.bytes payload) ≡ Some (trees.bytes y) = sym means ∙ ap meaning (one.2 ∙ is) in
     let same : payload ≡ y = cc in
-    ap (λ j. outcome l (taken_value j)) (w.is ∙ ap (tag 3) is) ∙
+    ap (λ j. outcome l (given_value j)) (w.is ∙ ap (tag 3) is) ∙
     large-refuses l y few (subst (λ (k : List ℕ). 2 ^ 127 ≤ big_endian k) same large)
 value-faults (Refuses.not_folded n r s t payload q a fo read g bad) i s' z end sp f fits = absurd bad
 value-faults (Refuses.no_tag_level t r q a nf) i s z end sp f fits =
     let w = enclosed a i s z end sp f fits in
-    ap (λ j. outcome (Some zero) (taken_value j)) w.is ∙ ap (λ o. outcome (Some zero)
-    (taken_tag t o (taken_value w.within)))
+    ap (λ j. outcome (Some zero) (given_value j)) w.is ∙ ap (λ o. outcome (Some zero)
+    (given_tag t o (given_value w.within)))
     (folds-none t w.within w.spelling z r w.spelled w.split nf)
 value-faults {l = l} {e = e} (Refuses.tagged t r q below a nf one sub) i s z end sp f fits =
     let w = enclosed a i s z end sp f fits in
-    subst (λ m. IsFaultOf end (fault_of e) (outcome l (taken_value m))) (sym w.is)
+    subst (λ m. IsFaultOf end (fault_of e) (outcome l (given_value m))) (sym w.is)
     (tag-faults end t w.within (fault_of e) l below (folds-none t w.within w.spelling z r w.spelled w.split nf) one
     (value-faults sub w.within w.spelling z end w.spelled w.split w.fits))

@@ -5,8 +5,8 @@ use Rattle.ciborium_ll.specs.Item.{Item, Items, Pairs, no_items, no_pairs, pair}
 use Rattle.ciborium_value.specs.Meaning.{meaning, items_meaning, pairs_meaning, trees_more, tree_pairs_more}
 use Rattle.ciborium_value.specs.Meaning.{folding_bytes, tag_meaning}
 use Rattle.ciborium_value.specs.Nesting.{Limit, IsWithin, IsOneLess, nesting, items_nesting, pairs_nesting, tag_nesting}
-use Rattle.ciborium_value.specs.Taken.{Steps, gives, leveled, mapped, of_meaning, outcome}
-use Rattle.ciborium_value.specs.Taken.{outcome_map, taken_items, taken_tag, taken_tree_pairs, taken_value}
+use Rattle.ciborium_value.specs.Given.{Steps, gives, leveled, mapped, of_meaning, outcome}
+use Rattle.ciborium_value.specs.Given.{outcome_map, given_items, given_tag, given_tree_pairs, given_value}
 use Rattle.ciborium_value.specs.Tree as trees
 use Rattle.ciborium_value.specs.Tree.{Tree, Trees, TreePairs}
 use Rattle.ciborium_value.specs.declared.kind.Kind.TheVariants as kinds
@@ -45,41 +45,41 @@ container-gives f o n l s v h k rec =
 tag-gives : (t : ℕ) (o : Option (List ℕ)) (c : Option Tree) (n : ℕ) (l : Limit) (s : Steps Tree) (v : Tree) →
     tag_meaning t o c ≡ Some v → IsWithin l (tag_nesting o n) →
     ((m : Limit) (a : Tree) → c ≡ Some a → IsWithin m n → outcome m s ≡ gives a) →
-    outcome l (taken_tag t o s) ≡ gives v
+    outcome l (given_tag t o s) ≡ gives v
 tag-gives t (Some b) c n l s v h k rec = ap (of_meaning kinds.TooLarge) h
 tag-gives t None c n l s v h k rec = container-gives (trees.tag t) c n l s v h k rec
 
 mutual
   pub value-gives : (i : Item) (l : Limit) (v : Tree) → meaning i ≡ Some v → IsWithin l (nesting i) →
-      outcome l (taken_value i) ≡ gives v
+      outcome l (given_value i) ≡ gives v
   value-gives (items.array o is) l v h k = container-gives trees.array (items_meaning is) (items_nesting is) l
-      (taken_items is) v h k (λ m a. values-give is m a)
+      (given_items is) v h k (λ m a. values-give is m a)
   value-gives (items.map o ps) l v h k = container-gives trees.map (pairs_meaning ps) (pairs_nesting ps) l
-      (taken_tree_pairs ps) v h k (λ m a. pairs-give ps m a)
-  value-gives (items.tag t i) l v h k = tag-gives t (folding_bytes t i) (meaning i) (nesting i) l (taken_value i)
+      (given_tree_pairs ps) v h k (λ m a. pairs-give ps m a)
+  value-gives (items.tag t i) l v h k = tag-gives t (folding_bytes t i) (meaning i) (nesting i) l (given_value i)
       v h k (λ m a. value-gives i m a)
   value-gives (items.simple n) l v h k = ap (of_meaning kinds.Simple) h
   value-gives _ l v h k = cc
 
   values-give : (is : Items) (l : Limit) (vs : Trees) → items_meaning is ≡ Some vs → IsWithin l (items_nesting is) →
-      outcome l (taken_items is) ≡ gives vs
+      outcome l (given_items is) ≡ gives vs
   values-give items.no_items l vs h k = cc
   values-give (items.item i is) l vs h k =
       let (w, ws, e, f, g) = more (meaning i) (items_meaning is) vs h in
-      ap (λ o. tree_first o (outcome l (taken_items is)))
+      ap (λ o. tree_first o (outcome l (given_items is)))
       (value-gives i l w e (within-left l (nesting i) (items_nesting is) k)) ∙
       ap (outcome_map (trees.tree w)) (values-give is l ws f (within-right l (nesting i) (items_nesting is) k)) ∙
       ap gives g
 
   pairs-give : (ps : Pairs) (l : Limit) (vs : TreePairs) → pairs_meaning ps ≡ Some vs → IsWithin l (pairs_nesting ps) →
-      outcome l (taken_tree_pairs ps) ≡ gives vs
+      outcome l (given_tree_pairs ps) ≡ gives vs
   pairs-give items.no_pairs l vs h k = cc
   pairs-give (items.pair x y ps) l vs h k =
       let (a, w, ws, e, f, g, is) = more-pairs (meaning x) (meaning y) (pairs_meaning ps) vs h in
       let both = within-left l (max (nesting x) (nesting y)) (pairs_nesting ps) k in
-      ap (λ o. pair_first o (outcome l (taken_value y)) (outcome l (taken_tree_pairs ps)))
+      ap (λ o. pair_first o (outcome l (given_value y)) (outcome l (given_tree_pairs ps)))
       (value-gives x l a e (within-left l (nesting x) (nesting y) both)) ∙
-      ap (λ o. pair_first (gives a) o (outcome l (taken_tree_pairs ps)))
+      ap (λ o. pair_first (gives a) o (outcome l (given_tree_pairs ps)))
       (value-gives y l w f (within-right l (nesting x) (nesting y) both)) ∙
       ap (outcome_map (trees.tree_pair a w)) (pairs-give ps l ws g
       (within-right l (max (nesting x) (nesting y)) (pairs_nesting ps) k)) ∙ ap gives is

@@ -20,7 +20,7 @@ use Rattle.ciborium_value.specs.Nesting.{Limit, IsWithin, nesting}
 use Rattle.ciborium_value.specs.Refuses.{Refuses}
 use Rattle.ciborium_value.specs.Sources.{IsFaultOf, of_kind}
 use Rattle.ciborium_value.specs.View.{read_as, tree_of}
-use Rattle.ciborium_value.specs.Taken.{gives, taken_value, outcome}
+use Rattle.ciborium_value.specs.Given.{gives, given_value, outcome}
 use Rattle.ciborium_value.specs.Tree as trees
 use Rattle.ciborium_value.specs.Tree.{Tree}
 use Rattle.ciborium.specs.declared.de.error.Error.{Error}
@@ -119,7 +119,7 @@ module _ {S W : Type 0} (remaining : S → Option (List ℕ)) where
 pub whole-reads : (E : Type 0) {S W : Type 0} (remaining : S → Option (List ℕ)) (d : Decoder S W) (l p : ℕ) (b : List ℕ)
     (v : Value) → d.pushed ≡ None → IsValueRead {E = E} any remaining d l b p (Ok v) →
     (i : Item) × (s : List ℕ) × (z : List ℕ) × Spells s i × (b ≡ s ++ z) ×
-    (outcome (Some l) (taken_value i) ≡ gives (tree_of v)) × (left_of remaining d ≡ Some z)
+    (outcome (Some l) (given_value i) ≡ gives (tree_of v)) × (left_of remaining d ≡ Some z)
 whole-reads E remaining d l p b v none (z, r, item, ahead) =
     let at : IsAheadBy remaining d z r None = subst (λ o. IsAheadBy remaining d z r o) none ahead in
     let (i, spelled, means, nests, fits, so) = item.read in
@@ -138,15 +138,15 @@ whole-end remaining d (Some h) b real (x, y, hd, split, left, counted) =
 -- an error is what the item there is refused for
 pub whole-faults : {E : Type 0} (left : Option (List ℕ)) (e : Error E) (l p end : ℕ) (b s z : List ℕ) (i : Item) →
     Spells s i → b ≡ s ++ z → p + length b ≤ end + length z → IsRefusedBy left e (λ r. Refuses any b p (Some l) r) →
-    IsFaultOf end (fault_of left e) (outcome (Some l) (taken_value i))
+    IsFaultOf end (fault_of left e) (outcome (Some l) (given_value i))
 whole-faults left (errors.Io x) l p end b s z i sp f fits h = fault_outside end (io_fault left)
-    (outcome (Some l) (taken_value i)) (io-outside left end (λ none. value-faults (h none) i s z end sp f fits))
+    (outcome (Some l) (given_value i)) (io-outside left end (λ none. value-faults (h none) i s z end sp f fits))
 whole-faults left (errors.Syntax q) l p end b s z i sp f fits h = value-faults h i s z end sp f fits
 whole-faults left (errors.Semantic None k) l p end b s z i sp f fits h = absurd h
 whole-faults left (errors.Semantic (Some q) k) l p end b s z i sp f fits h = by k h
   where
     by : (k : Kind) → IsNamed (Some q) (refusal_kind_of k) (λ r. Refuses any b p (Some l) r) →
-        IsFaultOf end (of_kind k) (outcome (Some l) (taken_value i))
+        IsFaultOf end (of_kind k) (outcome (Some l) (given_value i))
     by kinds.Float h = value-faults h i s z end sp f fits
     by kinds.Simple h = value-faults h i s z end sp f fits
     by kinds.Break h = value-faults h i s z end sp f fits
@@ -185,7 +185,7 @@ no-level (Some l) n flat = omega arith
 pub portable-reads : {S W : Type 0} (remaining : S → Option (List ℕ)) (d : Decoder S W) (pending : Option (Header × ℕ))
     (h : Header) (p : ℕ) (b : List ℕ) (v : Tree) (l : Limit) → pending ≡ Some (h, p) → MeansTree h v →
     IsUnreadBy remaining d pending b →
-    (i : Item) × (s : List ℕ) × (z : List ℕ) × Spells s i × (b ≡ s ++ z) × (outcome l (taken_value i) ≡ gives v) ×
+    (i : Item) × (s : List ℕ) × (z : List ℕ) × Spells s i × (b ≡ s ++ z) × (outcome l (given_value i) ≡ gives v) ×
     (left_of remaining d ≡ Some z)
 portable-reads remaining d pending h p b v l is for u =
     let (x, y, hd, e, left, counted) = subst (λ o. IsUnreadBy remaining d o b) is u in

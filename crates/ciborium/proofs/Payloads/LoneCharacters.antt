@@ -17,8 +17,8 @@ use Rattle.ciborium_ll.specs.StringRefusal.{of_text}
 use Rattle.ciborium_ll.proofs.Unread.{rest-of}
 use Rattle.ciborium_value.specs.Nesting.{Limit}
 use Rattle.ciborium_value.specs.Sources.{Fault, IsFaultOf, of_kind}
-use Rattle.ciborium_value.specs.Taken.{bare_character, gives, lone_character, outcome, refuses, settled}
-use Rattle.ciborium_value.specs.Taken.{taken_character, untagged}
+use Rattle.ciborium_value.specs.Given.{bare_character, gives, lone_character, outcome, refuses, settled}
+use Rattle.ciborium_value.specs.Given.{given_character, untagged}
 use Rattle.ciborium_value.specs.declared.kind.Kind.TheVariants as kinds
 use Rattle.ciborium.specs.inner.ByteSources.{IsUnreadBy}
 use Rattle.ciborium.specs.inner.FrontItems.{Denies}
@@ -77,7 +77,7 @@ long-text bs u long = by (chars bs) (encodes-chars bs u)
 -- ---- behind skipped tags
 
 pub character-given : (l : Limit) (payload : List ℕ) (c : ℕ) → lone_character (chars payload) ≡ Ok c →
-    (ts : List ℕ) → AreSkipped false ts → outcome l (taken_character (under ts (text false payload))) ≡ gives c
+    (ts : List ℕ) → AreSkipped false ts → outcome l (given_character (under ts (text false payload))) ≡ gives c
 character-given l payload c e ts all = ap settled (ap bare_character (untagged-under ts (text false payload)) ∙ e)
 
 -- the payload that was read into a buffer
@@ -93,7 +93,7 @@ module _ {S : Type 0} (IsUnread : S → List ℕ → Type 0) (End : S → ℕ) (
   pub text-denied : (fault : Fault) → ((b : List ℕ) → IsUnread old b → End mid ≡ End old) →
       ((y z payload : List ℕ) (end : ℕ) → IsUnread mid y → length payload ≡ n → IsUtf8 payload → y ≡ payload ++ z →
       End mid ≤ end + length z → IsFaultOf end fault (settled (lone_character (chars payload)))) →
-      Denies IsUnread End old l taken_character fault
+      Denies IsUnread End old l given_character fault
   text-denied fault same blames b s z j end u sp e fits =
       let (ts, w, x, y, tagged, all, hd, f, un) = bare b u in
       let (i, t, is, sq, g) = tagged.inward j s z sp e in
@@ -105,7 +105,7 @@ module _ {S : Type 0} (IsUnread : S → List ℕ → Type 0) (End : S → ℕ) (
       (blames y z payload end un (sym size) utf8 h (subst (λ n. n ≤ end + length z) (sym (same b u)) fits))
 
   pub long-denied : ((b : List ℕ) → IsUnread old b → End mid ≡ End old) → 4 < n →
-      Denies IsUnread End old l taken_character (of_kind kinds.Char)
+      Denies IsUnread End old l given_character (of_kind kinds.Char)
   long-denied same long = text-denied (of_kind kinds.Char) same
       (λ y z payload end un size utf8 e fits. ap settled (long-text payload utf8 (omega (arith, long, size))))
 
@@ -138,14 +138,14 @@ open-text true b e = refl
 open-text false b e = cc
 
 pub character-open : (l : Limit) (ts : List ℕ) (i : Item) → AreSkipped false ts → header_of i ≡ header.Text None →
-    outcome l (taken_character (under ts i)) ≡ refuses kinds.Char
+    outcome l (given_character (under ts i)) ≡ refuses kinds.Char
 character-open l ts i all e = ap settled (ap bare_character (untagged-under ts i) ∙
     by-shape (λ j. bare_character (untagged j) ≡ Err kinds.Char) (header.Text None) (λ n k. cc) (λ n k. cc)
     (λ o b k. cc) open-text (λ o is k. cc) (λ o ps k. cc) (λ n k. cc) (λ raw k. cc) (λ t j k. cc) i e)
 
 pub character-other : (l : Limit) (h : Header) → IsBare false h → ((n : Option ℕ) → h ≡ header.Text n → ⊥) →
     (ts : List ℕ) (i : Item) → AreSkipped false ts → header_of i ≡ h →
-    outcome l (taken_character (under ts i)) ≡ refuses kinds.Char
+    outcome l (given_character (under ts i)) ≡ refuses kinds.Char
 character-other l h bare p ts i all e = ap settled (ap bare_character (untagged-under ts i) ∙
     by-shape (λ j. bare_character (untagged j) ≡ Err kinds.Char) h (λ n k. refl) (λ n k. refl) (λ o b k. refl)
     (λ o b k. absurd (p _ k)) (λ o is k. refl) (λ o ps k. refl) (λ n k. refl) (λ raw k. refl)

@@ -14,7 +14,7 @@ use Rattle.ciborium_ll.proofs.OneHeader.{one_header_at_front}
 use Rattle.ciborium_ll.proofs.OpenStrings.{AreParts-more, joined-more}
 use Rattle.ciborium_ll.proofs.UniqueSpelling.{one_at_front}
 use Rattle.ciborium_value.specs.Sources.{Fault, IsOutsideFault, of_kind}
-use Rattle.ciborium_value.specs.Taken.{bignum_of, settled, taken_bignum}
+use Rattle.ciborium_value.specs.Given.{bignum_of, settled, given_bignum}
 use Rattle.ciborium_value.specs.declared.kind.Kind.TheVariants as kinds
 use Rattle.ciborium_value.proofs.Sources.Sequences.{fault_outside}
 use Rattle.ciborium.specs.inner.FrontItems.{TakesHead, DeniesHead, Reads, Denies}
@@ -172,7 +172,7 @@ other-bignum i h e p =
 
 module _ {S : Type 0} (IsUnread : S → List ℕ → Type 0) (End : S → ℕ) (old mid : S) where
   pub bignum-reads : (new : S) (len : Option ℕ) (v : ℕ) → TakesHead IsUnread old mid (header.Bytes len) →
-      TakesNumber (IsUnread mid) (IsUnread new) len (Some v) → Reads IsUnread old new None taken_bignum v
+      TakesNumber (IsUnread mid) (IsUnread new) len (Some v) → Reads IsUnread old new None given_bignum v
   bignum-reads new len v took number b u =
       let (x, y, hd, e, un) = took b u in
       let (payload, c, z, make, val, small, f, un') = number y un in (
@@ -186,7 +186,7 @@ module _ {S : Type 0} (IsUnread : S → List ℕ → Type 0) (End : S → ℕ) (
       )
 
   pub bignum-large : (Q : List ℕ → Type 0) (len : Option ℕ) → TakesHead IsUnread old mid (header.Bytes len) →
-      TakesNumber (IsUnread mid) Q len None → Denies IsUnread End old None taken_bignum (of_kind kinds.TooLarge)
+      TakesNumber (IsUnread mid) Q len None → Denies IsUnread End old None given_bignum (of_kind kinds.TooLarge)
   bignum-large Q len took number b s z i end u sp e fits =
       let (x, y, hd, f, un) = took b u in
       let (payload, c, r, make, val, small, g, un') = number y un in
@@ -196,7 +196,7 @@ module _ {S : Type 0} (IsUnread : S → List ℕ → Type 0) (End : S → ℕ) (
 
   pub bignum-content : (len : Option ℕ) (fault : Fault) → ((b : List ℕ) → IsUnread old b → End mid ≡ End old) →
       TakesHead IsUnread old mid (header.Bytes len) → DeniesContent (IsUnread mid) (End mid) of_bytes len fault →
-      Denies IsUnread End old None taken_bignum fault
+      Denies IsUnread End old None given_bignum fault
   bignum-content len fault same took none b s z i end u sp e fits =
       let (x, y, hd, f, un) = took b u in
       let (payload, io) = string-only of_bytes len i (same-head s z x y i (header.Bytes len) sp hd (sym e ∙ f)).0 in
@@ -205,7 +205,7 @@ module _ {S : Type 0} (IsUnread : S → List ℕ → Type 0) (End : S → ℕ) (
       (subst (λ n. n ≤ end + length z) (sym (same b u)) fits))
 
   pub bignum-no-head : (fault : Fault) → DeniesHead IsUnread End old fault →
-      Denies IsUnread End old None taken_bignum fault
+      Denies IsUnread End old None given_bignum fault
   bignum-no-head fault none b s z i end u sp e fits =
       let (x, y, hd, f) = first-head s i sp in
       let there = first-payload s i sp in
@@ -214,13 +214,13 @@ module _ {S : Type 0} (IsUnread : S → List ℕ → Type 0) (End : S → ℕ) (
       (e ∙ ap (λ (k : List ℕ). k ++ z) f ∙ append_assoc x y z) (omega (arith, there, more)) fits)
 
   pub bignum-other : (h : Header) → TakesHead IsUnread old mid h → ((n : Option ℕ) → h ≡ header.Bytes n → ⊥) →
-      Denies IsUnread End old None taken_bignum (of_kind kinds.Bytes)
+      Denies IsUnread End old None given_bignum (of_kind kinds.Bytes)
   bignum-other h took p b s z i end u sp e fits =
       let (x, y, hd, f, un) = took b u in
       ap settled (other-bignum i h (same-head s z x y i h sp hd (sym e ∙ f)).0 p)
 
   pub bignum-break : (fault : Fault) → TakesHead IsUnread old mid header.Break →
-      Denies IsUnread End old None taken_bignum fault
+      Denies IsUnread End old None given_bignum fault
   bignum-break fault took b s z i end u sp e fits =
       let (x, y, hd, f, un) = took b u in
       absurd (no-break-head i (same-head s z x y i header.Break sp hd (sym e ∙ f)).0)

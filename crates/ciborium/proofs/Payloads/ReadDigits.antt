@@ -15,7 +15,7 @@ use Rattle.ciborium_ll.specs.ReaderSteps.{IsFillTaken}
 use Rattle.ciborium_ll.proofs.Unread.{rest-of}
 use Rattle.ciborium_value.specs.Meaning.{big_endian_behind, big_endian, without_zeros}
 use Rattle.ciborium_value.specs.Sources.{IsOutsideFault}
-use Rattle.ciborium_value.specs.Taken.{magnitude}
+use Rattle.ciborium_value.specs.Given.{magnitude}
 use Rattle.ciborium_value.specs.declared.kind.Kind.TheVariants as kinds
 use Rattle.ciborium.specs.inner.ByteSources.{known_end, reader_of}
 use Rattle.ciborium.specs.Errors.{fault_of, from_ll}

@@ -14,7 +14,7 @@ use Rattle.ciborium_ll.specs.Strings.{IsStringTaken}
 use Rattle.ciborium_ll.proofs.Unread.{rest-of}
 use Rattle.ciborium_value.specs.Nesting.{Limit}
 use Rattle.ciborium_value.specs.Sources.{Fault}
-use Rattle.ciborium_value.specs.Taken.{Taken, bare_text, gives, outcome, refuses, settled, taken_text, untagged}
+use Rattle.ciborium_value.specs.Given.{Given, bare_text, gives, outcome, refuses, settled, given_text, untagged}
 use Rattle.ciborium_value.specs.declared.kind.Kind.TheVariants as kinds
 use Rattle.ciborium.specs.inner.ByteSources.{IsUnreadBy}
 use Rattle.ciborium.specs.inner.FrontItems.{DeniesItem, Denies, Reads}
@@ -84,7 +84,7 @@ denies-content IsUnread End numbers old mid kind len fault same bare none b s z 
     (subst (λ n. n ≤ end + length z) (sym (same b u)) fits)
 
 -- so the item that the string is in is refused
-pub denies-string : {S A : Type 0} (IsUnread : S → List ℕ → Type 0) (End : S → ℕ) (l : Limit) (taken : Taken A)
+pub denies-string : {S A : Type 0} (IsUnread : S → List ℕ → Type 0) (End : S → ℕ) (l : Limit) (taken : Given A)
     (old mid : S) (kind : StringKind) (len : Option ℕ) (fault : Fault) →
     ((b : List ℕ) → IsUnread old b → End mid ≡ End old) →
     TakesBare IsUnread old mid false (head_of kind len) → DeniesContent (IsUnread mid) (End mid) kind len fault →
@@ -132,7 +132,7 @@ content-fewer E remaining d e kind len start out empty (b, takes, count, (added,
 
 -- the string whose payload was taken
 pub string-behind : {S A : Type 0} (IsUnread : S → List ℕ → Type 0) (mid new : S) (kind : StringKind) (len : Option ℕ)
-    (l : Limit) (taken : Taken A) (payload : List ℕ) (v : A) →
+    (l : Limit) (taken : Given A) (payload : List ℕ) (v : A) →
     TakesContent (IsUnread mid) (IsUnread new) kind len payload →
     ((ts : List ℕ) → AreSkipped false ts → outcome l (taken (under ts (string_item kind len payload))) ≡ gives v) →
     (y : List ℕ) →
@@ -142,7 +142,7 @@ string-behind IsUnread mid new kind len l taken payload v content give y un =
     (string_item kind len payload, c, z, make, f, give, un')
 
 pub reads-string : {S A : Type 0} (IsUnread : S → List ℕ → Type 0) (old mid new : S) (kind : StringKind)
-    (len : Option ℕ) (l : Limit) (taken : Taken A) (payload : List ℕ) (v : A) →
+    (len : Option ℕ) (l : Limit) (taken : Given A) (payload : List ℕ) (v : A) →
     TakesBare IsUnread old mid false (head_of kind len) →
     TakesContent (IsUnread mid) (IsUnread new) kind len payload →
     ((ts : List ℕ) → AreSkipped false ts → outcome l (taken (under ts (string_item kind len payload))) ≡ gives v) →
@@ -153,7 +153,7 @@ reads-string IsUnread old mid new kind len l taken payload v bare content give =
 
 pub text-other : (l : Limit) (h : Header) → IsBare false h → ((n : Option ℕ) → h ≡ header.Text n → ⊥) →
     (ts : List ℕ) (i : Item) → AreSkipped false ts → header_of i ≡ h →
-    outcome l (taken_text (under ts i)) ≡ refuses kinds.Text
+    outcome l (given_text (under ts i)) ≡ refuses kinds.Text
 text-other l h bare p ts i all e = ap (λ j. settled (bare_text j)) (untagged-under ts i) ∙
     by-shape (λ j. settled (bare_text (untagged j)) ≡ refuses kinds.Text) h (λ n k. refl) (λ n k. refl) (λ o b k. refl)
     (λ o b k. absurd (p _ k)) (λ o is k. refl) (λ o ps k. refl) (λ n k. refl) (λ raw k. refl)

@@ -6,7 +6,7 @@ use Rattle.ciborium_value.specs.Encoding.{written_bytes}
 use Rattle.ciborium_value.specs.Readings.{Reading}
 use Rattle.ciborium_value.specs.ReadsBack.{IsReadBack, by_bytes}
 use Rattle.ciborium_value.specs.Sinks.{Named}
-use Rattle.ciborium_value.specs.Taken.{gives, outcome}
+use Rattle.ciborium_value.specs.Given.{gives, outcome}
 use Rattle.ciborium_value.specs.WrittenContents.{IsWrittenByContent}
 use Rattle.ciborium_value.proofs.Writing.ReadBack.{written_spells_item}
 use Rattle.ciborium.specs.laws.RoundTrips.{AreRefusedAlike, BytesWrittenAgain, LeaveSameBytes, TreeWrittenAgain}
@@ -39,19 +39,19 @@ module _ {T C : Type 0} (written : T → Named) (content : T → C) (alike : IsW
   leave_same_bytes v w old new before after same first second none neither =
       same-left (written v) (written w) old new before after (alike v w same) first second none neither
 
-module _ {T C : Type 0} (IsHeld : T → Type 0) (written : T → Named) (reading : Reading T C) (levels : T → ℕ)
-    (law : IsReadBack IsHeld written reading.taken reading.content levels)
+module _ {T C : Type 0} (IsValid : T → Type 0) (written : T → Named) (reading : Reading T C) (levels : T → ℕ)
+    (law : IsReadBack IsValid written reading.taken reading.content levels)
     (alike : IsWrittenByContent written reading.content) where
-  pub bytes_written_again : BytesWrittenAgain IsHeld written reading levels
-  bytes_written_again v w i l rest after held names fits within (j, s, left, sp, e, give, is) =
+  pub bytes_written_again : BytesWrittenAgain IsValid written reading levels
+  bytes_written_again v w i l rest after valid names fits within (j, s, left, sp, e, give, is) =
       let one = one_at_front (written_bytes i) s rest left i j (written_spells_item i fits) sp e in
       let given : outcome (Some l) (reading.taken i) ≡ gives (reading.content v) =
-      (law v held).back by_bytes i names (Some l) within in
+      (law v valid).back by_bytes i names (Some l) within in
       let taken : outcome (Some l) (reading.taken i) ≡ gives (reading.content w) =
       ap (λ j. outcome (Some l) (reading.taken j)) one.2 ∙ give in
       alike w v (one-content (outcome (Some l) (reading.taken i)) (reading.content v) (reading.content w) given taken) ∙
       names
 
-  pub tree_written_again : TreeWrittenAgain IsHeld written reading
-  tree_written_again v w made held is give = alike w v
-      (tree_gives_content IsHeld written reading levels law v made (reading.content w) held is give)
+  pub tree_written_again : TreeWrittenAgain IsValid written reading
+  tree_written_again v w made valid is give = alike w v
+      (tree_gives_content IsValid written reading levels law v made (reading.content w) valid is give)

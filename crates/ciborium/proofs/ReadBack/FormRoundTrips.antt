@@ -9,7 +9,7 @@ use Rattle.ciborium_value.specs.lemmas.ItemsOfTrees.{tree_is_written_as_itself}
 use Rattle.ciborium_value.specs.Readings.{Reading}
 use Rattle.ciborium_value.specs.ReadsBack.{IsReadBack, by_tree}
 use Rattle.ciborium_value.specs.Sinks.{Named}
-use Rattle.ciborium_value.specs.Taken.{Outcome, Taken, gives, outcome}
+use Rattle.ciborium_value.specs.Given.{Outcome, Given, gives, outcome}
 use Rattle.ciborium_value.specs.Tree.{Tree}
 use Rattle.ciborium_value.specs.View.{tree_of}
 use Rattle.ciborium_value.specs.WrittenItems.{IsWritten}
@@ -62,7 +62,7 @@ form_read_back o named l w bytes rest old new (t, form, out) (u, own, fits) read
 
 -- ---- as any type
 
-own-alike : {C : Type 0} (taken : Taken C) (o : KeyOrder) (named : Named) → IsOwnForm o named →
+own-alike : {C : Type 0} (taken : Given C) (o : KeyOrder) (named : Named) → IsOwnForm o named →
     IsFormReadAlike taken o named
 own-alike taken o (Ok i) own = λ t form. ap (λ v. outcome None (taken (item_of v)))
     (one-form (deterministic_form o (written_tree i)) t (written_tree i) form own)
@@ -86,42 +86,42 @@ module _ {T C : Type 0} (written : T → Named) (reading : Reading T C) where
   content-read_back : (o : KeyOrder) (l : ℕ) (v again : T) (bytes rest : List ℕ) →
       ((t : Tree) → named_form o (written v) ≡ gives t → outcome None (reading.taken (item_of t)) ≡
       gives (reading.content v)) → IsFormContentGiven (λ w. Unit {0}) written reading o l v again bytes rest
-  content-read_back o l v again bytes rest given old new held (t, form, out) (u, own, fits) takes none same =
+  content-read_back o l v again bytes rest given old new valid (t, form, out) (u, own, fits) takes none same =
       let one : u ≡ t = one-form (named_form o (written v)) u t own form in
       let t-fits : IsWritten (item_of t) = subst (λ w. IsWritten (item_of w)) one fits in
       read-content t l bytes (Some rest) (reading.content again) (reading.content v) t-fits
       (form-bytes t old new bytes out none same) (given t form) (takes bytes refl)
 
 -- of a type to which the order of pairs and folding make no difference
-module _ {T C : Type 0} (IsHeld : T → Type 0) (written : T → Named) (reading : Reading T C)
-    (law : (o : KeyOrder) → IsReadFromForm o IsHeld written reading.taken reading.content) where
-  pub from-form : (o : KeyOrder) (v : T) → IsHeld v → (n : Named) → written v ≡ n → (t : Tree) →
+module _ {T C : Type 0} (IsValid : T → Type 0) (written : T → Named) (reading : Reading T C)
+    (law : (o : KeyOrder) → IsReadFromForm o IsValid written reading.taken reading.content) where
+  pub from-form : (o : KeyOrder) (v : T) → IsValid v → (n : Named) → written v ≡ n → (t : Tree) →
       named_form o n ≡ gives t →
       outcome None (reading.taken (item_of t)) ≡ gives (reading.content v)
-  from-form o v held (Ok i) names t form = (law o v held).back i names t form
-  from-form o v held (Err k) names t form = absurd cc
+  from-form o v valid (Ok i) names t form = (law o v valid).back i names t form
+  from-form o v valid (Err k) names t form = absurd cc
 
   pub form_gives_content : (o : KeyOrder) (l : ℕ) (v again : T) (bytes rest : List ℕ) →
-      IsFormContentGiven IsHeld written reading o l v again bytes rest
-  form_gives_content o l v again bytes rest old new held out fits takes none same =
-      content-read_back written reading o l v again bytes rest (from-form o v held (written v) refl) old new tt out fits
-      takes none same
+      IsFormContentGiven IsValid written reading o l v again bytes rest
+  form_gives_content o l v again bytes rest old new valid out fits takes none same =
+      content-read_back written reading o l v again bytes rest
+      (from-form o v valid (written v) refl) old new tt out fits takes none same
 
-module _ {T C : Type 0} (IsHeld : T → Type 0) (written : T → Named) (reading : Reading T C) (levels : T → ℕ)
-    (law : IsReadBack IsHeld written reading.taken reading.content levels) where
+module _ {T C : Type 0} (IsValid : T → Type 0) (written : T → Named) (reading : Reading T C) (levels : T → ℕ)
+    (law : IsReadBack IsValid written reading.taken reading.content levels) where
   -- reading takes the content from the form of what is named
-  form-content : (o : KeyOrder) (v : T) → IsHeld v → (n : Named) → written v ≡ n → IsFormReadAlike reading.taken o n →
+  form-content : (o : KeyOrder) (v : T) → IsValid v → (n : Named) → written v ≡ n → IsFormReadAlike reading.taken o n →
       (t : Tree) → named_form o n ≡ gives t → outcome None (reading.taken (item_of t)) ≡ gives (reading.content v)
-  form-content o v held (Ok i) names alike t form = alike t form ∙ (law v held).back by_tree i names None tt
-  form-content o v held (Err k) names alike t form = absurd alike
+  form-content o v valid (Ok i) names alike t form = alike t form ∙ (law v valid).back by_tree i names None tt
+  form-content o v valid (Err k) names alike t form = absurd alike
 
   pub alike_read_back : (o : KeyOrder) (l : ℕ) (v again : T) (bytes rest : List ℕ) →
-      IsFormContentReadBack (IsFormReadAlike reading.taken o) IsHeld written reading o l v again bytes rest
-  alike_read_back o l v again bytes rest old new held alike out fits takes none same =
-      content-read_back written reading o l v again bytes rest (form-content o v held (written v) refl alike) old new tt
-      out fits takes none same
+      IsFormContentReadBack (IsFormReadAlike reading.taken o) IsValid written reading o l v again bytes rest
+  alike_read_back o l v again bytes rest old new valid alike out fits takes none same =
+      content-read_back written reading o l v again bytes rest
+      (form-content o v valid (written v) refl alike) old new tt out fits takes none same
 
   pub own_read_back : (o : KeyOrder) (l : ℕ) (v again : T) (bytes rest : List ℕ) →
-      IsFormContentReadBack (IsOwnForm o) IsHeld written reading o l v again bytes rest
-  own_read_back o l v again bytes rest old new held own =
-      alike_read_back o l v again bytes rest old new held (own-alike reading.taken o (written v) own)
+      IsFormContentReadBack (IsOwnForm o) IsValid written reading o l v again bytes rest
+  own_read_back o l v again bytes rest old new valid own =
+      alike_read_back o l v again bytes rest old new valid (own-alike reading.taken o (written v) own)

@@ -19,7 +19,7 @@ use Rattle.ciborium_value.specs.Places.{dictionary, pairs_from}
 use Rattle.ciborium_value.specs.Readings.{Reading}
 use Rattle.ciborium_value.specs.ReadsBack.{IsReadBack, by_bytes}
 use Rattle.ciborium_value.specs.Sinks.{Named, all_named, and_then, contained, container_of, in_turn, named_value}
-use Rattle.ciborium_value.specs.Taken.{gives, outcome}
+use Rattle.ciborium_value.specs.Given.{gives, outcome}
 use Rattle.ciborium_value.specs.Tree as trees
 use Rattle.ciborium_value.specs.Tree.{Tree, TreePairs}
 use Rattle.ciborium_value.specs.View.{tree_of, tree_pairs_of}
@@ -32,9 +32,9 @@ use Rattle.ciborium.specs.ValueAnswers.{AnswersGoodItem, GivesTree}
 use Rattle.ciborium.specs.ValueClauses.{TakesValue}
 use Rattle.ciborium_value.specs.Deterministic as rising
 use Rattle.ciborium_value.specs.Deterministic.{AreRising, HasRisingKeys, PairsHaveRisingKeys}
-use Rattle.ciborium_value.specs.CanonicalTrees.{IsCanonicalTree}
-use Rattle.ciborium.specs.laws.Loaded.{AreCanonicalParts, IsContentLoaded, IsDeterministicStore, IsLoaded, IsStoreHeld}
-use Rattle.ciborium.specs.laws.Loaded.{LoadedAsSaved, LoadingGivesContent, store_tree}
+use Rattle.ciborium_value.specs.DeterministicTrees.{IsDeterministicTree}
+use Rattle.ciborium.specs.laws.Loaded.{AreDeterministicParts, IsContentLoaded, IsDeterministicStore, IsLoaded}
+use Rattle.ciborium.specs.laws.Loaded.{IsStoreValid, LoadedAsSaved, LoadingGivesContent, store_tree}
 use Rattle.ciborium_value.specs.Spelling.{deterministic}
 use Rattle.ciborium.specs.declared.ser.error.Error.{Error as WriteError}
 use Rattle.ciborium.specs.Writes.{IsNamedWritten, WritesNamed}
@@ -44,12 +44,13 @@ use Rattle.ciborium_value.proofs.GoodItems.Accepted.{accepted, written-item}
 
 -- ---- any type
 
-pub loaded_as_saved : {T C : Type 0} (IsHeld : T → Type 0) (written : T → Named) (reading : Reading T C)
-    (levels : T → ℕ) → IsReadBack IsHeld written reading.taken reading.content levels →
-    LoadedAsSaved IsHeld written reading
-loaded_as_saved {T} {C} IsHeld written reading levels law o v t l rest after r held names canonical nests fits answers =
+pub loaded_as_saved : {T C : Type 0} (IsValid : T → Type 0) (written : T → Named) (reading : Reading T C)
+    (levels : T → ℕ) → IsReadBack IsValid written reading.taken reading.content levels →
+    LoadedAsSaved IsValid written reading
+loaded_as_saved {T} {C} IsValid written reading levels law o v t l rest after r valid names determined nests fits
+    answers =
     by r (answers (encoding t ++ rest) (encoding t) rest t refl
-    (accepted o (encoding t) 0 (Some l) t (refl, canonical) nests (omega (arith, fits)))
+    (accepted o (encoding t) 0 (Some l) t (refl, determined) nests (omega (arith, fits)))
     refl)
   where
     by : (r : Result Tree (Error IoError)) → GivesTree t rest after r →
@@ -57,52 +58,52 @@ loaded_as_saved {T} {C} IsHeld written reading levels law o v t l rest after r h
     by (Ok w) (same, left) = (
       left,
       ap (λ u. outcome None (reading.taken (item_of u))) (sym same) ∙
-          (law v held).back by_bytes (item_of t) names None tt,
+          (law v valid).back by_bytes (item_of t) names None tt,
     )
     by (Err e) failed = failed
 
-pub loading_gives_content : {T C : Type 0} (IsHeld : T → Type 0) (written : T → Named) (reading : Reading T C) →
-    LoadedAsSaved IsHeld written reading → LoadingGivesContent IsHeld written reading
-loading_gives_content IsHeld written reading law o v t w l old new bytes after c held names canonical nests fits appends
-    answers
+pub loading_gives_content : {T C : Type 0} (IsValid : T → Type 0) (written : T → Named) (reading : Reading T C) →
+    LoadedAsSaved IsValid written reading → LoadingGivesContent IsValid written reading
+loading_gives_content IsValid written reading law o v t w l old new bytes after c valid names determined nests fits
+    appends answers
     give none same =
     let out : new ≡ old ++ encoding t = subst (λ n. WritesNamed {E = WriteError IoError} (Some old) (Some new) (Ok tt)
     n) names appends in
     let whole : bytes ≡ encoding t = same ∙ out ∙ ap (λ (b : List ℕ). b ++ encoding t) none in
     let all : bytes ≡ encoding t ++ [] = whole ∙ sym (append-nil (encoding t)) in
-    let loaded = law o v t l [] after (Ok w) held names canonical nests
+    let loaded = law o v t l [] after (Ok w) valid names determined nests
     (subst (λ (b : List ℕ). length b ≤ greatest_offset) whole fits)
     (subst (λ b. AnswersGoodItem {E = IoError} (deterministic o) (Some b) l after (Ok w)) all answers) in
     one-content (outcome None (reading.taken (item_of w))) (reading.content v) c loaded.1 give
 
-module _ {T C : Type 0} (IsHeld : T → Type 0) (written : T → Named) (reading : Reading T C) (levels : T → ℕ)
-    (law : IsReadBack IsHeld written reading.taken reading.content levels) where
+module _ {T C : Type 0} (IsValid : T → Type 0) (written : T → Named) (reading : Reading T C) (levels : T → ℕ)
+    (law : IsReadBack IsValid written reading.taken reading.content levels) where
   -- an item that is named was written whole: a tree that is read at its front has just that item
   front-content : (o : KeyOrder) (v : T) (l : ℕ) (w : Tree) (bytes : List ℕ) (after : Option (List ℕ)) (c : C) →
-      IsHeld v → (i : Item) → written v ≡ Ok i → IsWritten i → bytes ≡ written_bytes i →
+      IsValid v → (i : Item) → written v ≡ Ok i → IsWritten i → bytes ≡ written_bytes i →
       TakesValue (deterministic o) bytes l w after → outcome None (reading.taken (item_of w)) ≡ gives c → c ≡
       reading.content v
-  front-content o v l w bytes after c held i names fits same (s, left, good, e, is) give =
+  front-content o v l w bytes after c valid i names fits same (s, left, good, e, is) give =
       let one = one_at_front (written_bytes i) s [] left i (item_of w) (written_spells_item i fits)
       (written-item o s 0 (Some l) w good) (append-nil (written_bytes i) ∙ sym same ∙ e) in
-      one-content (outcome None (reading.taken i)) (reading.content v) c ((law v held).back by_bytes i names None tt)
+      one-content (outcome None (reading.taken i)) (reading.content v) c ((law v valid).back by_bytes i names None tt)
       (ap (λ j. outcome None (reading.taken j)) one.2 ∙ give)
 
   -- the same, by cases on what is named
   by-name : (o : KeyOrder) (v : T) (l : ℕ) (w : Tree) (old new bytes : List ℕ) (after : Option (List ℕ)) (c : C) →
-      IsHeld v → (n : Named) → written v ≡ n → WritesNamed {E = WriteError IoError} (Some old) (Some new) (Ok tt) n →
+      IsValid v → (n : Named) → written v ≡ n → WritesNamed {E = WriteError IoError} (Some old) (Some new) (Ok tt) n →
       IsNamedWritten n →
       TakesValue (deterministic o) bytes l w after → outcome None (reading.taken (item_of w)) ≡ gives c → old ≡ [] →
       bytes ≡ new → c ≡ reading.content v
-  by-name o v l w old new bytes after c held (Ok i) names appends fits takes give none same =
+  by-name o v l w old new bytes after c valid (Ok i) names appends fits takes give none same =
       let all : new ≡ written_bytes i = appends ∙ ap (λ (b : List ℕ). b ++ written_bytes i) none in
-      front-content o v l w bytes after c held i names fits (same ∙ all) takes give
-  by-name o v l w old new bytes after c held (Err k) names appends fits takes give none same = absurd fits
+      front-content o v l w bytes after c valid i names fits (same ∙ all) takes give
+  by-name o v l w old new bytes after c valid (Err k) names appends fits takes give none same = absurd fits
 
   pub content_loaded : (o : KeyOrder) (l : ℕ) (v : T) (w : Value) (again : T) (bytes rest : List ℕ) →
-      IsContentLoaded o IsHeld written reading l v w again bytes rest
-  content_loaded o l v w again bytes rest old new held appends fits reads give none same =
-      by-name o v l (tree_of w) old new bytes (Some rest) (reading.content again) held (written v) refl appends fits
+      IsContentLoaded o IsValid written reading l v w again bytes rest
+  content_loaded o l v w again bytes rest old new valid appends fits reads give none same =
+      by-name o v l (tree_of w) old new bytes (Some rest) (reading.content again) valid (written v) refl appends fits
       (reads.ok bytes refl) give none same
 
 -- ---- stores
@@ -123,28 +124,28 @@ pub store-named : (es : List (Value × Value)) → container_of dictionary (in_t
 store-named es = let (is, named, same) = store-items es in ap (contained dictionary false) named ∙
     ap (λ ps. Ok (items.map false ps)) same
 
-store-folds : (o : KeyOrder) (es : List (Value × Value)) → AreCanonicalParts o es →
+store-folds : (o : KeyOrder) (es : List (Value × Value)) → AreDeterministicParts o es →
     tree_pairs_folded (tree_pairs_of es) ≡ Some (tree_pairs_of es)
 store-folds o [] h = refl
 store-folds o (e ∷ es) h =
-    let here = All-head (λ e. IsCanonicalTree o (tree_of e.0) × IsCanonicalTree o (tree_of e.1)) e
+    let here = All-head (λ e. IsDeterministicTree o (tree_of e.0) × IsDeterministicTree o (tree_of e.1)) e
     es h in
     ap (λ o. tree_pairs_more o (folded (tree_of e.1)) (tree_pairs_folded (tree_pairs_of es))) here.0.folds
     ∙ ap (λ o. tree_pairs_more (Some (tree_of e.0)) o (tree_pairs_folded (tree_pairs_of es))) here.1.folds
     ∙ ap (tree_pairs_more (Some (tree_of e.0)) (Some (tree_of e.1)))
-    (store-folds o es (All-tail (λ e. IsCanonicalTree o (tree_of e.0) ×
-    IsCanonicalTree o (tree_of e.1)) e es h))
+    (store-folds o es (All-tail (λ e. IsDeterministicTree o (tree_of e.0) ×
+    IsDeterministicTree o (tree_of e.1)) e es h))
 
-parts-rise : (o : KeyOrder) (es : List (Value × Value)) → AreCanonicalParts o es →
+parts-rise : (o : KeyOrder) (es : List (Value × Value)) → AreDeterministicParts o es →
     PairsHaveRisingKeys o (tree_pairs_of es)
 parts-rise o [] h = tt
 parts-rise o (e ∷ es) h =
-    let here = All-head (λ e. IsCanonicalTree o (tree_of e.0) × IsCanonicalTree o (tree_of e.1)) e
+    let here = All-head (λ e. IsDeterministicTree o (tree_of e.0) × IsDeterministicTree o (tree_of e.1)) e
     es h in (
       here.0.rises,
       here.1.rises,
       parts-rise o es (All-tail
-          (λ e. IsCanonicalTree o (tree_of e.0) × IsCanonicalTree o (tree_of e.1)) e es h),
+          (λ e. IsDeterministicTree o (tree_of e.0) × IsDeterministicTree o (tree_of e.1)) e es h),
     )
 
 tree_keys : (es : List (Value × Value)) → map tree_of (keys_of es) ≡ rising.keys_of (tree_pairs_of es)
@@ -158,7 +159,7 @@ neighbours-rise o u h = tt
 
 pub deterministic_store : (o : KeyOrder) (es : List (Value × Value)) →
     IsStrictlySortedBy (ordered_value_cmp o) (keys_of es) →
-    IsNamedWritten (container_of dictionary (in_turn named_value named_value es)) → AreCanonicalParts o es →
+    IsNamedWritten (container_of dictionary (in_turn named_value named_value es)) → AreDeterministicParts o es →
     IsDeterministicStore o es
 deterministic_store o es sorted written parts = (
   store-named es,
@@ -174,11 +175,11 @@ deterministic_store o es sorted written parts = (
   },
 )
 
-pub store_held : (o : KeyOrder) (m : BTreeMap Value Value) → IsOrdered (ordered_value_cmp o) m →
-    AreCanonicalParts o m.entries → IsStoreHeld o m
-store_held o m ordered parts = (
+pub store_valid : (o : KeyOrder) (m : BTreeMap Value Value) → IsOrdered (ordered_value_cmp o) m →
+    AreDeterministicParts o m.entries → IsStoreValid o m
+store_valid o m ordered parts = (
   ordered,
-  All-weaker (λ e. IsCanonicalTree o (tree_of e.0) × IsCanonicalTree o (tree_of e.1))
+  All-weaker (λ e. IsDeterministicTree o (tree_of e.0) × IsDeterministicTree o (tree_of e.1))
       (λ e. (folded (tree_of e.0) ≡ Some (tree_of e.0)) × (folded (tree_of e.1) ≡ Some (tree_of e.1)))
       (λ e h. (h.0.folds, h.1.folds)) m.entries parts,
 )

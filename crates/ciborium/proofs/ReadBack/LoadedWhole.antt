@@ -10,7 +10,7 @@ use Rattle.ciborium_value.specs.FormsReadBack.{IsReadFromForm}
 use Rattle.ciborium_value.specs.Readings.{Reading}
 use Rattle.ciborium_value.specs.Sinks.{Named}
 use Rattle.ciborium_value.specs.Sources.{IsFaultOf}
-use Rattle.ciborium_value.specs.Taken.{Outcome, gives, nests, outcome}
+use Rattle.ciborium_value.specs.Given.{Outcome, gives, nests, outcome}
 use Rattle.ciborium_value.specs.Tree.{Tree}
 use Rattle.ciborium_value.specs.WrittenItems.{IsWritten}
 use Rattle.ciborium_value.specs.declared.key_order.KeyOrder.{KeyOrder}
@@ -50,12 +50,12 @@ no-other o l b named t e form same (RefusesOther.other u k f d r) =
     absurd (d.1 (ap (take (suc k)) (same ∙ ap encoding (one-form (named_form o named) t u form f))))
 no-other o l b named t e form same RefusesOther.no_memory = refl
 
-module _ {T C : Type 0} (IsHeld : T → Type 0) (written : T → Named) (reading : Reading T C)
-    (law : (o : KeyOrder) → IsReadFromForm o IsHeld written reading.taken reading.content) where
-  module _ (o : KeyOrder) (l : ℕ) (v : T) (t : Tree) (bytes : List ℕ) (held : IsHeld v)
+module _ {T C : Type 0} (IsValid : T → Type 0) (written : T → Named) (reading : Reading T C)
+    (law : (o : KeyOrder) → IsReadFromForm o IsValid written reading.taken reading.content) where
+  module _ (o : KeyOrder) (l : ℕ) (v : T) (t : Tree) (bytes : List ℕ) (valid : IsValid v)
       (form : named_form o (written v) ≡ gives t) (fits : IsWritten (item_of t)) (same : bytes ≡ encoding t) where
     given : outcome None (reading.taken (item_of t)) ≡ gives (reading.content v)
-    given = from-form IsHeld written reading law o v held (written v) refl t form
+    given = from-form IsValid written reading law o v valid (written v) refl t form
 
     spelled : Spells bytes (item_of t)
     spelled = subst (λ b. Spells b (item_of t)) (sym same) (written_spells_item (item_of t) fits)
@@ -96,17 +96,17 @@ module _ {T C : Type 0} (IsHeld : T → Type 0) (written : T → Named) (reading
         by (inr is) = memory (reads.exact (item_of t) (reading.content v) spelled (is ∙ given))
 
   pub saved_loaded : (o : KeyOrder) (l : ℕ) (v again : T) (bytes : List ℕ) →
-      IsSavedLoaded IsHeld written reading o l v again bytes
-  saved_loaded o l v again bytes old new held (t, form, out) (u, own, fits) loads none same =
+      IsSavedLoaded IsValid written reading o l v again bytes
+  saved_loaded o l v again bytes old new valid (t, form, out) (u, own, fits) loads none same =
       let one = one-form (named_form o (written v)) u t own form in
-      content-read o l v t bytes held form (subst (λ w. IsWritten (item_of w)) one fits)
+      content-read o l v t bytes valid form (subst (λ w. IsWritten (item_of w)) one fits)
       (same ∙ out ∙ ap (λ (b : List ℕ). b ++ encoding t) none) again loads.ok.0
 
   pub saved_is_loaded : ((v w : T) → reading.content v ≡ reading.content w → written v ≡ written w) →
-      SavedIsLoaded IsHeld written reading
-  saved_is_loaded alike o l v old new bytes (Ok w) held out fits room loads none same =
-      saved_loaded o l v w bytes old new held out fits loads none same
-  saved_is_loaded alike o l v old new bytes (Err e) held (t, form, out) (u, own, fits) room loads none same =
+      SavedIsLoaded IsValid written reading
+  saved_is_loaded alike o l v old new bytes (Ok w) valid out fits room loads none same =
+      saved_loaded o l v w bytes old new valid out fits loads none same
+  saved_is_loaded alike o l v old new bytes (Err e) valid (t, form, out) (u, own, fits) room loads none same =
       by loads.refused
     where
       one : u ≡ t
@@ -120,8 +120,8 @@ module _ {T C : Type 0} (IsHeld : T → Type 0) (written : T → Named) (reading
 
       by : ReadsAll l reading bytes (Err e) ⊎
           ((w : T) × ReadsAll {E = IoError} l reading bytes (Ok w) × RefusesOther o l bytes (written w) e) →
-          IsLimit o l v t bytes held form right is e
-      by (inl reads) = refused-read o l v t bytes held form right is e room reads
+          IsLimit o l v t bytes valid form right is e
+      by (inl reads) = refused-read o l v t bytes valid form right is e room reads
       by (inr (w, reads, refusal)) =
-          let content = content-read o l v t bytes held form right is w reads in
+          let content = content-read o l v t bytes valid form right is w reads in
           inl (no-other o l bytes (written w) t e (ap (named_form o) (alike w v content) ∙ form) is refusal)

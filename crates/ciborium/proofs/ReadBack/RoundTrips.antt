@@ -11,7 +11,7 @@ use Rattle.ciborium_value.specs.ReadsBack.{IsReadBack, by_bytes, by_tree}
 use Rattle.ciborium_value.specs.Sinks.{Named}
 use Rattle.ciborium_value.specs.Sources.{Fault, of_syntax, of_memory, of_device, of_end}
 use Rattle.ciborium_value.specs.Sources.{of_length, IsFaultOf, IsOutsideFault}
-use Rattle.ciborium_value.specs.Taken.{Outcome, gives, outcome}
+use Rattle.ciborium_value.specs.Given.{Outcome, gives, outcome}
 use Rattle.ciborium_value.specs.WrittenItems.{IsWritten}
 use Rattle.ciborium_value.proofs.Writing.ReadBack.{written_spells_item}
 use Rattle.ciborium.specs.declared.de.error.Error.{Error}
@@ -38,14 +38,14 @@ not-blamed end u o c e h = cc
 pub one-content : {C : Type 0} (o : Outcome C) (c d : C) → o ≡ gives c → o ≡ gives d → d ≡ c
 one-content o c d h k = cc
 
-pub bytes_read_back : {T C : Type 0} (IsHeld : T → Type 0) (written : T → Named) (reading : Reading T C)
+pub bytes_read_back : {T C : Type 0} (IsValid : T → Type 0) (written : T → Named) (reading : Reading T C)
     (levels : T → ℕ) →
-    IsReadBack IsHeld written reading.taken reading.content levels → BytesReadBack IsHeld written reading levels
-bytes_read_back {T} {C} IsHeld written reading levels law v i l rest after r held names fits within answers =
+    IsReadBack IsValid written reading.taken reading.content levels → BytesReadBack IsValid written reading levels
+bytes_read_back {T} {C} IsValid written reading levels law v i l rest after r valid names fits within answers =
     by r answers
   where
     given : outcome (Some l) (reading.taken i) ≡ gives (reading.content v)
-    given = (law v held).back by_bytes i names (Some l) within
+    given = (law v valid).back by_bytes i names (Some l) within
 
     by : (r : Result C (Error IoError)) → AnswersBytes reading.taken l (written_bytes i ++ rest) after r →
         IsGivenBack (reading.content v) rest (length (written_bytes i)) after r
@@ -63,46 +63,46 @@ bytes_read_back {T} {C} IsHeld written reading levels law v i l rest after r hel
         (not-blamed (0 + n) (fault_of after e) (outcome (Some l) (reading.taken i)) (reading.content v) given
         (refused (written_bytes i ++ rest) refl i (written_bytes i) rest (written_spells_item i fits) refl))
 
-module _ {T C : Type 0} (IsHeld : T → Type 0) (written : T → Named) (reading : Reading T C) (levels : T → ℕ)
-    (law : IsReadBack IsHeld written reading.taken reading.content levels) where
+module _ {T C : Type 0} (IsValid : T → Type 0) (written : T → Named) (reading : Reading T C) (levels : T → ℕ)
+    (law : IsReadBack IsValid written reading.taken reading.content levels) where
   -- an item that is named was written whole: what is read at its front is the content
-  taken-content : (v : T) (l : ℕ) (bytes : List ℕ) (after : Option (List ℕ)) (c : C) → IsHeld v →
+  taken-content : (v : T) (l : ℕ) (bytes : List ℕ) (after : Option (List ℕ)) (c : C) → IsValid v →
       IsWithin (Some l) (levels v) → (i : Item) → written v ≡ Ok i → IsWritten i → bytes ≡ written_bytes i →
       TakesGiving (Some l) reading.taken bytes c after → c ≡ reading.content v
-  taken-content v l bytes after c held within i names fits same (j, s, left, sp, e, give, is) =
+  taken-content v l bytes after c valid within i names fits same (j, s, left, sp, e, give, is) =
       let one = one_at_front (written_bytes i) s [] left i j (written_spells_item i fits) sp
       (append-nil (written_bytes i) ∙ sym same ∙ e) in
       one-content (outcome (Some l) (reading.taken i)) (reading.content v) c
-      ((law v held).back by_bytes i names (Some l) within) (ap (λ j. outcome (Some l) (reading.taken j)) one.2 ∙ give)
+      ((law v valid).back by_bytes i names (Some l) within) (ap (λ j. outcome (Some l) (reading.taken j)) one.2 ∙ give)
 
   -- the same, by cases on what is named
-  by-name : (v : T) (l : ℕ) (old new bytes : List ℕ) (after : Option (List ℕ)) (c : C) → IsHeld v →
+  by-name : (v : T) (l : ℕ) (old new bytes : List ℕ) (after : Option (List ℕ)) (c : C) → IsValid v →
       IsWithin (Some l) (levels v) → (n : Named) → written v ≡ n →
       WritesNamed {E = WriteError IoError} (Some old) (Some new) (Ok tt) n → IsNamedWritten n →
       TakesGiving (Some l) reading.taken bytes c after → old ≡ [] → bytes ≡ new → c ≡ reading.content v
-  by-name v l old new bytes after c held within (Ok i) names appends fits takes none same =
+  by-name v l old new bytes after c valid within (Ok i) names appends fits takes none same =
       let all : new ≡ written_bytes i = appends ∙ ap (λ (w : List ℕ). w ++ written_bytes i) none in
-      taken-content v l bytes after c held within i names fits (same ∙ all) takes
-  by-name v l old new bytes after c held within (Err k) names appends fits takes none same = absurd fits
+      taken-content v l bytes after c valid within i names fits (same ∙ all) takes
+  by-name v l old new bytes after c valid within (Err k) names appends fits takes none same = absurd fits
 
   pub content_read_back : (l : ℕ) (v again : T) (bytes rest : List ℕ) →
-      IsContentReadBack IsHeld written reading levels l v again bytes rest
-  content_read_back l v again bytes rest old new held within appends fits takes none same =
-      by-name v l old new bytes (Some rest) (reading.content again) held within (written v) refl appends fits
+      IsContentReadBack IsValid written reading levels l v again bytes rest
+  content_read_back l v again bytes rest old new valid within appends fits takes none same =
+      by-name v l old new bytes (Some rest) (reading.content again) valid within (written v) refl appends fits
       (takes bytes refl) none same
 
-  made-content : (v : T) (made : Value) → IsHeld v → (n : Named) → written v ≡ n → IsTreeOf n made →
+  made-content : (v : T) (made : Value) → IsValid v → (n : Named) → written v ≡ n → IsTreeOf n made →
       outcome None (reading.taken (value_item made)) ≡ gives (reading.content v)
-  made-content v made held (Ok i) names is = ap (λ t. outcome None (reading.taken (item_of t))) is ∙
-      (law v held).back by_tree i names None tt
-  made-content v made held (Err k) names is = absurd is
+  made-content v made valid (Ok i) names is = ap (λ t. outcome None (reading.taken (item_of t))) is ∙
+      (law v valid).back by_tree i names None tt
+  made-content v made valid (Err k) names is = absurd is
 
-  pub tree_gives_content : TreeGivesContent IsHeld written reading
-  tree_gives_content v made c held is give = one-content (outcome None (reading.taken (value_item made)))
-      (reading.content v) c (made-content v made held (written v) refl is) give
+  pub tree_gives_content : TreeGivesContent IsValid written reading
+  tree_gives_content v made c valid is give = one-content (outcome None (reading.taken (value_item made)))
+      (reading.content v) c (made-content v made valid (written v) refl is) give
 
-  pub tree_read_back : TreeReadBack IsHeld written reading
-  tree_read_back v made (Ok d) held is answers = tree_gives_content v made d held is answers
-  tree_read_back v made (Err (of_tree.Custom k)) held is answers = let given =
-      made-content v made held (written v) refl is in cc
-  tree_read_back v made (Err of_tree.Memory) held is answers = refl
+  pub tree_read_back : TreeReadBack IsValid written reading
+  tree_read_back v made (Ok d) valid is answers = tree_gives_content v made d valid is answers
+  tree_read_back v made (Err (of_tree.Custom k)) valid is answers = let given =
+      made-content v made valid (written v) refl is in cc
+  tree_read_back v made (Err of_tree.Memory) valid is answers = refl

@@ -14,7 +14,7 @@ use Rattle.ciborium_value.specs.Readings.{Reading}
 use Rattle.ciborium_value.specs.Sinks.{Named, all_named}
 use Rattle.ciborium_value.specs.Sources.{Fault, of_kind, of_nesting, of_syntax, of_memory, of_device, of_end, of_length}
 use Rattle.ciborium_value.specs.Sources.{IsOutsideFault}
-use Rattle.ciborium_value.specs.Taken.{Taken, gives, outcome}
+use Rattle.ciborium_value.specs.Given.{Given, gives, outcome}
 use Rattle.ciborium_value.specs.WrittenItems.{AreWritten}
 use Rattle.ciborium_value.proofs.Writing.Progress.{and_then_is}
 use Rattle.ciborium_value.proofs.Writing.ReadBack.{written_spells_item}
@@ -51,13 +51,13 @@ outside-none left u n h = h
 -- ---- items that give contents, one by one, in their shortest spelling
 
 -- each of the items can be written, and gives the content
-abbrev pub AreGiven : {C : Type 0} → Limit → Taken C → List Item → List C → Type 0
+abbrev pub AreGiven : {C : Type 0} → Limit → Given C → List Item → List C → Type 0
 AreGiven l taken [] [] = Unit {0}
 AreGiven l taken [] (c ∷ cs) = ⊥
 AreGiven l taken (i ∷ is) [] = ⊥
 AreGiven l taken (i ∷ is) (c ∷ cs) = (outcome l (taken i) ≡ gives c) × AreGiven l taken is cs
 
-module _ {C : Type 0} (l : Limit) (taken : Taken C) where
+module _ {C : Type 0} (l : Limit) (taken : Given C) where
   -- the same item stands at the front of its bytes and others, and gives its content alone
   same-front : (i j : Item) (is : List Item) (s left : List ℕ) (c d : C) → AreWritten (items_from (i ∷ is)) →
       outcome l (taken i) ≡ gives c → Spells s j → items_bytes (items_from (i ∷ is)) ≡ s ++ left → outcome l (taken j) ≡
@@ -107,26 +107,26 @@ module _ {C : Type 0} (l : Limit) (taken : Taken C) where
 
 -- ---- values whose items are read as their contents
 
-module _ {T C : Type 0} (IsHeld : T → Type 0) (written : T → Named) (reading : Reading T C) (levels : T → ℕ)
-    (law : (v : T) → IsHeld v → (i : Item) → written v ≡ Ok i → (l : Limit) → IsWithin l (levels v) →
+module _ {T C : Type 0} (IsValid : T → Type 0) (written : T → Named) (reading : Reading T C) (levels : T → ℕ)
+    (law : (v : T) → IsValid v → (i : Item) → written v ≡ Ok i → (l : Limit) → IsWithin l (levels v) →
     outcome l (reading.taken i) ≡ gives (reading.content v)) where
-  are-given : (l : Limit) (vs : List T) (is : List Item) → All IsHeld vs → all_named (map written vs) ≡ Ok is →
+  are-given : (l : Limit) (vs : List T) (is : List Item) → All IsValid vs → all_named (map written vs) ≡ Ok is →
       All (λ v. IsWithin l (levels v)) vs → AreGiven l reading.taken is (map reading.content vs)
-  are-given l [] is held named within = let none : [] ≡ is = cc in subst (λ js. AreGiven l reading.taken js []) none tt
-  are-given l (v ∷ vs) is held named within =
+  are-given l [] is valid named within = let none : [] ≡ is = cc in subst (λ js. AreGiven l reading.taken js []) none tt
+  are-given l (v ∷ vs) is valid named within =
       let a = and_then_is (written v) (all_named (map written vs)) is named in
       let step : AreGiven l reading.taken (a.0 ∷ a.1) (map reading.content (v ∷ vs)) = (
-        law v (held 0 v (omega arith)) a.0 a.2 l (within 0 v (omega arith)),
-        are-given l vs a.1 (λ k d lt. held (suc k) d (omega (arith, lt))) a.3
+        law v (valid 0 v (omega arith)) a.0 a.2 l (within 0 v (omega arith)),
+        are-given l vs a.1 (λ k d lt. valid (suc k) d (omega (arith, lt))) a.3
             (λ k d lt. within (suc k) d (omega (arith, lt))),
       ) in
       subst (λ js. AreGiven l reading.taken js (map reading.content (v ∷ vs))) (sym a.4) step
 
-  pub sequence_read_back : SequenceReadsBack IsHeld written reading levels
-  sequence_read_back vs is l after r held named fits within answers = by r answers
+  pub sequence_read_back : SequenceReadsBack IsValid written reading levels
+  sequence_read_back vs is l after r valid named fits within answers = by r answers
     where
       given : AreGiven (Some l) reading.taken is (map reading.content vs)
-      given = are-given (Some l) vs is held named within
+      given = are-given (Some l) vs is valid named within
 
       by : (r : Result (List C) (Error IoError)) → AnswersSequence reading.taken l (items_bytes (items_from is)) after r
           → AreGivenBack (map reading.content vs) (longest is) after r
@@ -138,8 +138,8 @@ module _ {T C : Type 0} (IsHeld : T → Type 0) (written : T → Named) (reading
           (map reading.content vs) cs u fits given gave ahead end
 
   pub contents_read_back : (vs again : List T) (bytes rest : List ℕ) →
-      AreContentsReadBack IsHeld written reading levels vs again bytes rest
-  contents_read_back vs again bytes rest old new held within out fits taken none same =
+      AreContentsReadBack IsValid written reading levels vs again bytes rest
+  contents_read_back vs again bytes rest old new valid within out fits taken none same =
       by (all_named (map written vs)) refl out fits
     where
       by : (r : AllNamed) → all_named (map written vs) ≡ r →
@@ -148,7 +148,7 @@ module _ {T C : Type 0} (IsHeld : T → Type 0) (written : T → Named) (reading
       by (Ok is) named out fits =
           let whole : bytes ≡ items_bytes (items_from is) = same ∙ out ∙
           ap (λ (b : List ℕ). b ++ items_bytes (items_from is)) none in
-          (sequence_read_back vs is 256 (Some rest) (Ok (map reading.content again)) held named fits within (
+          (sequence_read_back vs is 256 (Some rest) (Ok (map reading.content again)) valid named fits within (
             subst (λ b. TakesSequence {E = IoError} (Some 256) reading.taken (Some b) (Some rest)
                 (Ok (map reading.content again))) whole taken,
             λ b known. tt,

@@ -5,7 +5,7 @@ use Rattle.ciborium_ll.proofs.UniqueSpelling.{one_at_front}
 use Rattle.ciborium_value.specs.Encoding.{encoding, item_of}
 use Rattle.ciborium_value.specs.Sources.{Fault, of_kind, of_nesting, of_syntax, of_memory, of_device, of_end}
 use Rattle.ciborium_value.specs.Sources.{of_length, IsFaultOf}
-use Rattle.ciborium_value.specs.Taken.{Outcome, Taken, gives, nests, outcome, refuses}
+use Rattle.ciborium_value.specs.Given.{Outcome, Given, gives, nests, outcome, refuses}
 use Rattle.ciborium_value.proofs.Sources.Limits.{same-within}
 use Rattle.ciborium_value.specs.declared.kind.Kind.{Kind}
 use Rattle.ciborium_value.specs.declared.error.Error.{Error as TreeError}
@@ -53,7 +53,7 @@ same-kind end o p k of_device h e b = tt
 same-kind end o p k of_end h e b = b
 same-kind end o p k of_length h e b = tt
 
-pub sources_agree : {A : Type 0} (taken : Taken A) → SourcesAgree taken
+pub sources_agree : {A : Type 0} (taken : Given A) → SourcesAgree taken
 sources_agree {A} taken v l after r q proper = by r q
   where
     within : Outcome A

@@ -11,7 +11,7 @@ use Rattle.ciborium_value.specs.Ahead.{bottom, item}
 use Rattle.ciborium_value.specs.Readings.{Reading}
 use Rattle.ciborium_value.specs.Sources.{Fault, IsGrantedFault, RefusesAhead, TakesAhead, TakesItem}
 use Rattle.ciborium_value.specs.View.{read_as}
-use Rattle.ciborium_value.specs.Taken.{Taken}
+use Rattle.ciborium_value.specs.Given.{Given}
 use Rattle.ciborium_value.specs.Tree.{Tree}
 use Rattle.ciborium.specs.declared.de.byte_source.ByteSource.{ByteSource}
 use Rattle.ciborium.specs.declared.de.error.Error.{Error}
@@ -24,7 +24,7 @@ use Rattle.ciborium_value.specs.Spelling.{any}
 use Rattle.ciborium.proofs.Items.TakenOnly.{taken-beginning, taken-name, taken-none}
 use Rattle.ciborium.proofs.Readers.WhateverFollows.{taken-tree}
 
-module _ {S W A : Type 0} (remaining : S → Option (List ℕ)) (old : ByteSource S W) (taken : Taken A) (b : List ℕ)
+module _ {S W A : Type 0} (remaining : S → Option (List ℕ)) (old : ByteSource S W) (taken : Given A) (b : List ℕ)
     (front : IsUnread remaining old b) (p : ℕ) (ends : end_at remaining old ≡ p + length b) where
   -- before an item at the front, at offset p, the source stands
   ahead : (i : Item) (s z : List ℕ) → Spells s i → b ≡ s ++ z → StandsBefore remaining old (Some old.levels)

@@ -14,7 +14,7 @@ use Rattle.ciborium_value.specs.Readings.{Reading}
 use Rattle.ciborium_value.specs.Refuses.{Refuses}
 use Rattle.ciborium_value.specs.Sinks.{Named}
 use Rattle.ciborium_value.specs.Spelling.{deterministic}
-use Rattle.ciborium_value.specs.Taken.{Outcome}
+use Rattle.ciborium_value.specs.Given.{Outcome}
 use Rattle.ciborium_value.specs.Tree.{Tree}
 use Rattle.ciborium_value.specs.declared.key_order.KeyOrder.{KeyOrder}
 use Rattle.ciborium_value.specs.declared.kind.Kind.{Kind}
@@ -85,7 +85,7 @@ pub spelled-refused : {E : Type 0} (o : KeyOrder) (l : ℕ) (b : List ℕ) (k p 
     RefusesSpelling {E = E} o l b k (Semantic (Some p) kind)
 spelled-refused {E} o l b k p kind h = by (refusal_kind_of kind) refl h
   where
-    by : (n : Option refusal.Kind) → refusal_kind_of kind ≡ n →
+    by : (n : Option refusal.SemanticKind) → refusal_kind_of kind ≡ n →
         IsNamed (Some p) n (Refuses (deterministic o) b 0 (Some l)) →
         RefusesSpelling {E = E} o l b k (Semantic (Some p) kind)
     by None e g = absurd g

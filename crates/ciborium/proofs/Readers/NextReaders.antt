@@ -24,7 +24,7 @@ use Rattle.ciborium_value.specs.Readings.{Reading}
 use Rattle.ciborium_value.specs.Refuses.{Refuses}
 use Rattle.ciborium_value.specs.Sources.{IsGrantedFault, IsOutsideFault, TakesOnly}
 use Rattle.ciborium_value.specs.View.{read_as}
-use Rattle.ciborium_value.specs.Taken.{Taken, outcome}
+use Rattle.ciborium_value.specs.Given.{Given, outcome}
 use Rattle.ciborium_value.specs.Tree.{Tree}
 use Rattle.ciborium_value.proofs.GoodItems.Spelled.{spells-pos}
 use Rattle.ciborium_value.proofs.Sources.Sequences.{fault_outside}
@@ -37,7 +37,7 @@ use Rattle.ciborium.specs.inner.ByteSources.{HasTakenSince, IsUnread, ReadsValue
 use Rattle.ciborium.specs.Errors.{fault_of, from_ll}
 use Rattle.ciborium.specs.NextItems.{IfNotEnded, IsReadIo, IsReadFrom, MatchItem, MovesOffset, Otherwise}
 use Rattle.ciborium.specs.NextItems.{ReadsNextAsTypeFrom, ReadsNextAtFrom, TakesTo, TellsEnd, TellsEndAt, behind_head}
-use Rattle.ciborium.specs.TypedAnswers.{IsFaultAhead, RefusesTaken, TakesGiven}
+use Rattle.ciborium.specs.TypedAnswers.{IsFaultAhead, RefusesGiven, TakesGiven}
 use Rattle.ciborium_value.specs.Spelling.{any}
 use Rattle.ciborium.proofs.Items.FrontReads.{ended-ll, failed-fault, granted-head, head-outside}
 use Rattle.ciborium.proofs.Readers.HandedReaders.{handed-denied, handed-given, handed-memory, on-ok, some-map}
@@ -189,11 +189,11 @@ module _ {S W T A : Type 0} (E : Type 0) (can_fail : Bool) (remaining : S →
         (Err e) back reads)
 
     next-refused : (first : Option Header) (r : Result (Option T) (Error E)) → First first → End first r →
-        Behind first r → Otherwise r (λ q. RefusesTaken p (Some s.levels) reading.taken (remaining lent)
+        Behind first r → Otherwise r (λ q. RefusesGiven p (Some s.levels) reading.taken (remaining lent)
         (left_at_failure can_fail (remaining x))
         (read_as reading.content q))
     next-refused None r taken (is, same) item = end-says r
-        (λ q. RefusesTaken p (Some s.levels) reading.taken (remaining lent)
+        (λ q. RefusesGiven p (Some s.levels) reading.taken (remaining lent)
         (left_at_failure can_fail (remaining x))
         (read_as reading.content q)) is
     next-refused (Some h) (Ok None) taken none item = absurd item
@@ -262,7 +262,7 @@ module _ {S W : Type 0} (E : Type 0) (can_fail : Bool) (remaining : S → Option
     (p : ℕ) (begins : HasBegun d lent p) (same : HasSameReader d e) (x : LlError E)
     (ended : HasEnded can_fail (left_of remaining e) x)
     (taken : Takes remaining d e (λ b. IsHeadTaken {E = E} b d.counter.count (Err x))) where
-  first-denied : {A : Type 0} (l : Option ℕ) (given : Taken A) (b : List ℕ) → remaining lent ≡ Some b →
+  first-denied : {A : Type 0} (l : Option ℕ) (given : Given A) (b : List ℕ) → remaining lent ≡ Some b →
       IsFaultAhead p l given b (fault_of (left_at_failure can_fail (remaining e.reader.now)) (from_ll x))
   first-denied l given b known i s left spelled split =
       let (y, c, head, whole) = first-head s i spelled in

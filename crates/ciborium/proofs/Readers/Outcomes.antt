@@ -21,7 +21,7 @@ only-fails left (errors.Io x) P never h = λ end. never refusal.io (h end)
 only-fails left (errors.Syntax p) P never h = never (refusal.syntax p) h
 only-fails left (errors.Semantic p k) P never h = named p (refusal_kind_of k) h
   where
-    named : (p : Option ℕ) (k : Option refusal.Kind) → IsNamed p k P → ⊥
+    named : (p : Option ℕ) (k : Option refusal.SemanticKind) → IsNamed p k P → ⊥
     named (Some p) (Some k) h = never (refusal.semantic p k) h
     named (Some p) None h = h
     named None k h = h

@@ -3,13 +3,13 @@ use Rattle.std.proofs.Common.{◌≡◌, ℕ, List, [], ◌∷◌, ◌++◌, Opt
 use Rattle.std.proofs.KnownBytes.{Consumes-nil, Consumes-trans}
 use Rattle.ciborium_value.specs.Nesting.{Limit}
 use Rattle.ciborium_value.specs.Sources.{IsOutsideFault}
-use Rattle.ciborium_value.specs.Taken.{Taken}
+use Rattle.ciborium_value.specs.Given.{Given}
 use Rattle.ciborium.specs.declared.de.error.Error.{Error}
 use Rattle.ciborium.specs.declared.de.error.Error.TheVariants.{Io, Memory}
 use Rattle.ciborium.specs.Errors.{fault_of}
 use Rattle.ciborium.specs.NextItems.{IsReadIo, TellsEnd}
 use Rattle.ciborium.specs.SequenceReads.{GivesThen, RefusesSequence}
-use Rattle.ciborium.specs.TypedAnswers.{RefusesTaken, TakesBeginning, TakesGiven, TakesGiving}
+use Rattle.ciborium.specs.TypedAnswers.{RefusesGiven, TakesBeginning, TakesGiven, TakesGiving}
 
 -- ---- a beginning was taken, and nothing else
 
@@ -27,7 +27,7 @@ outside-io : {E : Type 0} (e : Error E) → IsReadIo e → IsOutsideFault 0 (fau
 outside-io (Io e) h = tt
 outside-io u h = absurd h
 
-module _ {A : Type 0} (l : Limit) (taken : Taken A) (before : Option (List ℕ)) where
+module _ {A : Type 0} (l : Limit) (taken : Given A) (before : Option (List ℕ)) where
   -- items that give these values stood at the front of the bytes, if they are known, and were taken
   abbrev pub HasRead : Option (List ℕ) → List A → Type 0
   HasRead after cs = (b : List ℕ) → before ≡ Some b → (u : List ℕ) × (after ≡ Some u) × GivesThen l taken b cs u
@@ -50,7 +50,7 @@ module _ {A : Type 0} (l : Limit) (taken : Taken A) (before : Option (List ℕ))
       gives-more b cs u c after all (next u is)
 
   pub refused-behind : (T E : Type 0) (mid after : Option (List ℕ)) (cs : List A) (e : Error E) → HasRead mid cs →
-      RefusesTaken {A = A} {E = E} 0 l taken mid after (Err e) → TellsEnd {A = T} {E = E} mid after (Err e) →
+      RefusesGiven {A = A} {E = E} 0 l taken mid after (Err e) → TellsEnd {A = T} {E = E} mid after (Err e) →
       RefusesSequence {E = E} l taken before after (Err e)
   refused-behind T E mid after cs e read refused end b known =
       let (u, is, all) = read b known in (

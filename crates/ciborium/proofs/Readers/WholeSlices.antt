@@ -7,7 +7,7 @@ use Rattle.ciborium_ll.specs.Spells.{Spells}
 use Rattle.ciborium_ll.proofs.UniqueSpelling.{one_at_front, one_item}
 use Rattle.ciborium_value.specs.Readings.{Reading}
 use Rattle.ciborium_value.specs.Sources.{IsFaultOf, IsOutsideFault}
-use Rattle.ciborium_value.specs.Taken.{outcome}
+use Rattle.ciborium_value.specs.Given.{outcome}
 use Rattle.ciborium_value.specs.declared.kind.Kind.TheVariants.{TrailingData}
 use Rattle.ciborium.specs.Errors.{HasEndedBy, fault_of}
 use Rattle.ciborium.specs.ValueAnswers.{IsRefusedBy, IsFailed}

@@ -13,7 +13,7 @@ use Rattle.ciborium_ll.specs.StringRefusal.{of_bytes, PayloadRefuses}
 use Rattle.ciborium_ll.proofs.Decoders.{unread-left, unread-count}
 use Rattle.ciborium_ll.proofs.OneHeader.{one_header_at_front}
 use Rattle.ciborium_value.specs.declared.kind.Kind.{Kind}
-use Rattle.ciborium_value.specs.declared.stack.Opening.TheVariants as opening
+use Rattle.ciborium_value.specs.declared.stack.NewFrame.TheVariants as new_frames
 use Rattle.ciborium_value.specs.declared.tree.Value.{Value}
 use Rattle.ciborium_value.specs.Refuses.{HasGoodHead, IsTagAt, IsFoldingAt, Refuses}
 use Rattle.ciborium_value.specs.Spelling.{Spelling, any, deterministic, IsUnwanted}
@@ -98,14 +98,14 @@ module _ {S W : Type 0} (remaining : S → Option (List ℕ)) (d : Decoder S W) 
         no-tag-break spelling a,
       )
 
-  pub tag-opened : (spelling : Spelling) (E : Type 0) (e f : Decoder S W) (k : Header) (here : ℕ) →
+  pub tag-begun : (spelling : Spelling) (E : Type 0) (e f : Decoder S W) (k : Header) (here : ℕ) →
       PullsSo {E = E} remaining d e (Ok k) → IsFolding t k None → (l ≡ 0 → ⊥) → here ≡ offset_of d → ReadsNothing e f →
       f.pushed ≡ Some (k, here) → f.head_len ≡ e.head_len → (IsMeasured d →
       e.counter.count ≡ offset_of d + e.head_len) →
       IsHeadAccepted spelling remaining d (header.Tag t) xs p →
-      (zs : List ℕ) × (r : ℕ) × IsFrameBegun spelling l xs p (begun_frame (opening.Tag t)) zs r ×
+      (zs : List ℕ) × (r : ℕ) × IsFrameBegun spelling l xs p (begun_frame (new_frames.Tag t)) zs r ×
       StandsAt spelling remaining f zs r
-  tag-opened spelling E e f k here pull other some same stays back kept size a =
+  tag-begun spelling E e f k here pull other some same stays back kept size a =
       let r : List ℕ = rest spelling a in
       let q : ℕ = next spelling a in
       let b = pull r q (ahead spelling a) in

@@ -71,7 +71,7 @@ got spelling remaining d l xs p t u zs r pushed same item at = (
 -- the fault of a head is that of its bytes
 abbrev IsFaultAt : KeyOrder → List ℕ → Option Kind → Type 0
 IsFaultAt order b None = spelling_fault (deterministic order) b ≡ None
-IsFaultAt order b (Some kind) = (k : refusal.Kind) × (spelling_fault (deterministic order) b ≡ Some k) ×
+IsFaultAt order b (Some kind) = (k : refusal.SemanticKind) × (spelling_fault (deterministic order) b ≡ Some k) ×
     (refusal_kind_of kind ≡ Some k)
 
 module _ (order : KeyOrder) (b r : List ℕ) (size : ℕ) (len : length b ≡ size) where

@@ -21,7 +21,7 @@ use Rattle.ciborium_value.proofs.GoodItems.Introduced.{reads-positive, reads-neg
 use Rattle.ciborium_value.proofs.GoodItems.Introduced.{reads-container}
 use Rattle.ciborium.specs.declared.de.error.Error.{Error}
 use Rattle.ciborium.specs.declared.de.front.Part.{Part}
-use Rattle.ciborium.specs.declared.de.front.Part.TheVariants.{Whole, Opened, Ended}
+use Rattle.ciborium.specs.declared.de.front.Part.TheVariants.{Whole, Begun, Ended}
 use Rattle.ciborium.specs.ValueAnswers.{IsRefusedBy}
 use Rattle.ciborium.specs.inner.Around.{IsOpen}
 use Rattle.ciborium.specs.inner.Parts.{IsHeadAccepted, IsPartRead, RefusesPart, IsContainerBegun, IsBehind}
@@ -147,7 +147,7 @@ module _ {S W : Type 0} (remaining : S → Option (List ℕ)) (d : Decoder S W) 
           (empty-item spelling is_map (l - 1) r q
           (subst (λ c. IsInside spelling xs p (Some (suc (l - 1))) [] r q (due_of is_map c) (Some (l - 1))) none
           (inside (l - 1))))) a.pulled.6
-      by (Ok (Opened f)) (some, behind, same, left) =
+      by (Ok (Begun f)) (some, behind, same, left) =
           let less : l ≡ suc (l - 1) = omega (arith, some) in (
             r,
             q,

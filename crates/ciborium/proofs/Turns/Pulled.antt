@@ -31,7 +31,7 @@ refused-map left (errors.Io x) P Q f a = λ end. f _ (a end)
 refused-map left (errors.Syntax p) P Q f a = f _ a
 refused-map left (errors.Semantic p k) P Q f a = named p (refusal_kind_of k) a
   where
-    named : (p : Option ℕ) (k : Option Rattle.ciborium_ll.specs.Refusal.Kind) → IsNamed p k P → IsNamed p k Q
+    named : (p : Option ℕ) (k : Option Rattle.ciborium_ll.specs.Refusal.SemanticKind) → IsNamed p k P → IsNamed p k Q
     named (Some p) (Some k) a = f _ a
     named (Some p) None a = a
     named None k a = a

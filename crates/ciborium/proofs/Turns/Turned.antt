@@ -7,7 +7,7 @@ use Rattle.ciborium_ll.specs.Decoding.{offset_of, left_of}
 use Rattle.ciborium_ll.specs.Head.{break_byte}
 use Rattle.ciborium_ll.specs.Refusal.{semantic, Break}
 use Rattle.ciborium_value.specs.declared.tree.Value.{Value}
-use Rattle.ciborium_value.specs.declared.stack.Opening.{Opening}
+use Rattle.ciborium_value.specs.declared.stack.NewFrame.{NewFrame}
 use Rattle.ciborium_value.specs.inner.Frames.{TreeFrame, array, map, tag, Placed, more, placed, closed}
 use Rattle.ciborium_value.specs.Refuses.{Refuses}
 use Rattle.ciborium_value.specs.Spelling.{Spelling}
@@ -19,7 +19,7 @@ use Rattle.ciborium_value.specs.View.{tree_of, trees_from, tree_pairs_from}
 use Rattle.ciborium_value.proofs.GoodItems.Steps.{opened-has}
 use Rattle.ciborium.specs.declared.de.error.Error.{Error}
 use Rattle.ciborium.specs.declared.de.front.Part.{Part}
-use Rattle.ciborium.specs.declared.de.front.Part.TheVariants.{Whole, Opened, Ended}
+use Rattle.ciborium.specs.declared.de.front.Part.TheVariants.{Whole, Begun, Ended}
 use Rattle.ciborium.specs.inner.Turns.{IsPlacedInOrder, IsReading, IsTurned}
 use Rattle.ciborium.specs.inner.Around.{IsAround}
 use Rattle.ciborium.specs.ValueAnswers.{IsRefusedBy}
@@ -109,9 +109,9 @@ module _ {S W E : Type 0} (spelling : Spelling) (remaining : S → Option (List 
       turned spelling remaining e os after l xs p s.0 s.1 s.2 (tree_of v) a.0 a.1 end z
       (at ∙ stands-offset spelling remaining e a.1 a.0 a.3) s.3 a.2 a.3 placed
 
-  pub turn-opened : (f : Opening) (after : List TreeFrame) → y ≡ Ok (Opened f) → after ≡ begun_frame f ∷ os →
+  pub turn-begun : (f : NewFrame) (after : List TreeFrame) → y ≡ Ok (Begun f) → after ≡ begun_frame f ∷ os →
       IsReading spelling remaining e after l xs p
-  turn-opened f after is now =
+  turn-begun f after is now =
       let a = subst (λ z. IsPartRead {E = E} spelling remaining e s.0 s.1 s.2 z) is here in
       let (m, more_levels, inside) = a.2 in (
         m,

@@ -6,7 +6,7 @@ use Rattle.std.proofs.lemmas.Grind.{get_or_default_zero}
 use Rattle.std.specs.Borrow.{GName}
 use Rattle.std.specs.Io.KnownBytes.{Appends}
 use mir.Syntax.{w8}
-use mir.Val.{Fits as IsHeld}
+use mir.Val.{Fits as IsValid}
 use Rattle.ciborium_ll.specs.Bytes.{AreBytes}
 use Rattle.ciborium_ll.specs.Head.{shortest_head}
 use Rattle.ciborium_ll.specs.Item.{Item}
@@ -29,7 +29,7 @@ use Rattle.ciborium.proofs.Writing.WrittenPlaces.{written-added, written-contain
 
 -- ---- what a slice of bytes holds
 
-pub fitting_bytes : (xs : List ℕ) → ((i : ℕ) → IsHeld w8 (get_or xs i 0)) → AreBytes xs
+pub fitting_bytes : (xs : List ℕ) → ((i : ℕ) → IsValid w8 (get_or xs i 0)) → AreBytes xs
 fitting_bytes xs h = λ k d lt. subst (λ x. x < 256) (sym (get_or_default_zero xs k d lt)) (h k).fits
 
 pub shortest-is : (n : ℕ) → without_zeros (to_be_bytes w128 n) ≡ shortest_bytes n

@@ -15,14 +15,14 @@ use Rattle.ciborium_ll.specs.Header.{SpellsHeader}
 use Rattle.ciborium_ll.specs.Item.{Item, unsigned}
 use Rattle.ciborium_ll.specs.Refusal.{IsUsable}
 use Rattle.ciborium_ll.specs.Spells.{Spells}
-use Rattle.ciborium_value.specs.Ahead.{Ahead, Rest, Form, bottom, parts, pairs, entry, held, item}
-use Rattle.ciborium_value.specs.Ahead.{after, of_bytes, past, inside, end_of}
+use Rattle.ciborium_value.specs.Ahead.{Ahead, Rest, Span, bottom, parts, pairs, entry, level_due}
+use Rattle.ciborium_value.specs.Ahead.{item, after, of_bytes, past, inside, end_of}
 use Rattle.ciborium_value.specs.Meaning.{meaning}
 use Rattle.ciborium_value.specs.Meaning.{is_bignum_tag}
 use Rattle.ciborium_value.specs.Nesting.{Limit, nesting}
 use Rattle.ciborium_value.specs.Places.{Shape, sequence, dictionary}
 use Rattle.ciborium_value.specs.Sources.{Fault, HasItem, IsFaultOf, IsGrantedFault, TakesOnly}
-use Rattle.ciborium_value.specs.Taken.{Steps, Taken, gives, is_null_simple, outcome}
+use Rattle.ciborium_value.specs.Given.{Steps, Given, gives, is_null_simple, outcome}
 use Rattle.ciborium_value.specs.Tree.{Tree}
 use Rattle.ciborium_value.specs.declared.labels.LabelKind.{LabelKind}
 use Rattle.ciborium_value.specs.declared.labels.LabelKind.TheVariants.{Name, Number, Other}
@@ -38,7 +38,7 @@ use Rattle.ciborium.specs.Errors.{fault_of}
 use Rattle.ciborium.specs.inner.FrontItems.{Denies, Reads}
 use Rattle.ciborium.specs.inner.Skips.{EntersUnread, IsBare}
 use Rattle.ciborium_value.specs.Spelling.{any}
-use Rattle.ciborium.specs.inner.Unread.{SpellsPair, AreSpelled, FitsAhead, ending, form_of}
+use Rattle.ciborium.specs.inner.Unread.{SpellsPair, AreSpelled, FitsAhead, ending, span_of}
 use Rattle.ciborium.specs.inner.Unread.{HasCount}
 
 -- ---- what is unread
@@ -143,27 +143,27 @@ parts_left (Some n) = left.Counted n
 parts_left None = left.Open
 
 -- so many parts are left, or any number up to a break
-abbrev pub HoldsParts : {X : Type 0} → Option ℕ → Form → List X → Type 0
-HoldsParts count form xs = (form ≡ form_of count) × HasCount count xs
+abbrev pub HoldsParts : {X : Type 0} → Option ℕ → Span → List X → Type 0
+HoldsParts count span xs = (span ≡ span_of count) × HasCount count xs
 
 -- what is left of a sequence is these items
-abbrev pub HoldsItems : Left → Form → List Item → Type 0
-HoldsItems (left.Counted n) form is = HoldsParts (Some n) form is
-HoldsItems left.Open form is = HoldsParts None form is
-HoldsItems (left.Bytes v) form is = (form ≡ of_bytes) × (map unsigned (into_iter_items v) ≡ is)
+abbrev pub HoldsItems : Left → Span → List Item → Type 0
+HoldsItems (left.Counted n) span is = HoldsParts (Some n) span is
+HoldsItems left.Open span is = HoldsParts None span is
+HoldsItems (left.Bytes v) span is = (span ≡ of_bytes) × (map unsigned (into_iter_items v) ≡ is)
 
 -- what is left of a map is these pairs
-abbrev pub HoldsPairs : Left → Form → List (Item × Item) → Type 0
-HoldsPairs (left.Counted n) form ps = HoldsParts (Some n) form ps
-HoldsPairs left.Open form ps = HoldsParts None form ps
-HoldsPairs (left.Bytes v) form ps = ⊥
+abbrev pub HoldsPairs : Left → Span → List (Item × Item) → Type 0
+HoldsPairs (left.Counted n) span ps = HoldsParts (Some n) span ps
+HoldsPairs left.Open span ps = HoldsParts None span ps
+HoldsPairs (left.Bytes v) span ps = ⊥
 
 abbrev pub HoldsRest : Left → Rest → Type 0
 HoldsRest q (bottom name b) = ⊥
-HoldsRest q (parts form is f) = HoldsItems q form is
-HoldsRest q (pairs form ps f) = HoldsPairs q form ps
-HoldsRest q (entry v form ps f) = ⊥
-HoldsRest q (held f) = ⊥
+HoldsRest q (parts span is f) = HoldsItems q span is
+HoldsRest q (pairs span ps f) = HoldsPairs q span ps
+HoldsRest q (entry v span ps f) = ⊥
+HoldsRest q (level_due f) = ⊥
 
 abbrev pub SeqStands : ByteSeq → Limit → Rest → Type 0
 SeqStands q l f = (l ≡ Some q.levels) × HoldsRest q.left f
@@ -181,7 +181,7 @@ TakesLevel old new level = (level.levels ≡ old.levels) × (old.levels ≡ new.
 -- b began a container, and so many parts complete it, with a break where one is due
 abbrev pub OwesParts : {X : Type 0} → (List ℕ → X → Type 0) → Option ℕ → List ℕ → List ℕ → Type 0
 OwesParts {X} SpellsPart count b u = (t z : List ℕ) (xs : List X) → AreSpelled SpellsPart t xs →
-    HasCount count xs → u ≡ t ++ (ending (form_of count) ++ z) → HasItem b z
+    HasCount count xs → u ≡ t ++ (ending (span_of count) ++ z) → HasItem b z
 
 -- b began a container of which this is left, and it is read up to u
 abbrev pub LeftOwes : Left → Shape → List ℕ → List ℕ → Type 0
@@ -197,14 +197,14 @@ SeqOwes q s b u = LeftOwes q.left s b u
 
 -- a sequence was entered
 abbrev pub EntersItemsUnread : {S W A : Type 0} → (S → Option (List ℕ)) → ByteSource S W →
-    ByteSource S W → Taken A → (Form → List Item → Steps A) → ByteSeq → Type 0
+    ByteSource S W → Given A → (Span → List Item → Steps A) → ByteSeq → Type 0
 EntersItemsUnread remaining old new taken f q =
     EntersUnread (IsUnread remaining) (λ p. SeqOwes p sequence) Spells (λ p. HoldsItems p.left) old
     new (Some old.levels) (Some new.levels) taken f q
 
 -- a map was entered
 abbrev pub EntersPairsUnread : {S W A : Type 0} → (S → Option (List ℕ)) → ByteSource S W →
-    ByteSource S W → Taken A → (Form → List (Item × Item) → Steps A) → ByteSeq → Type 0
+    ByteSource S W → Given A → (Span → List (Item × Item) → Steps A) → ByteSeq → Type 0
 EntersPairsUnread remaining old new taken f q =
     EntersUnread (IsUnread remaining) (λ p. SeqOwes p dictionary) SpellsPair
     (λ p. HoldsPairs p.left) old new (Some old.levels) (Some new.levels) taken f q
@@ -212,18 +212,18 @@ EntersPairsUnread remaining old new taken f q =
 -- what is left of a sequence was read: f takes this from its items, and the source stands past it
 abbrev pub ReadsRest : {S W A : Type 0} → (S → Option (List ℕ)) → ByteSource S W → ByteSource S W →
     ByteSeq → (List Item → Steps A) → A → Type 0
-ReadsRest remaining old new q f v = (l : Limit) (form : Form) (is : List Item) (r : Rest) →
-    StandsBefore remaining old (inside form l) (after (parts form is r)) →
-    SeqStands q l (parts form is r) →
-    (outcome (inside form l) (f is) ≡ gives v) × StandsBefore remaining new l (past r)
+ReadsRest remaining old new q f v = (l : Limit) (span : Span) (is : List Item) (r : Rest) →
+    StandsBefore remaining old (inside span l) (after (parts span is r)) →
+    SeqStands q l (parts span is r) →
+    (outcome (inside span l) (f is) ≡ gives v) × StandsBefore remaining new l (past r)
 
 -- it is refused only where the items that are left are, and for that
 abbrev pub RefusesRest : {S W A : Type 0} → (S → Option (List ℕ)) → ByteSource S W → ByteSeq →
     (List Item → Steps A) → Fault → Type 0
-RefusesRest remaining old q f fault = (l : Limit) (form : Form) (is : List Item) (r : Rest) →
-    StandsBefore remaining old (inside form l) (after (parts form is r)) →
-    SeqStands q l (parts form is r) →
-    IsFaultOf (end_of r) fault (outcome (inside form l) (f is))
+RefusesRest remaining old q f fault = (l : Limit) (span : Span) (is : List Item) (r : Rest) →
+    StandsBefore remaining old (inside span l) (after (parts span is r)) →
+    SeqStands q l (parts span is r) →
+    IsFaultOf (end_of r) fault (outcome (inside span l) (f is))
 
 -- ---- how much can still be read
 
@@ -296,7 +296,7 @@ pub record ReadsBareHead {S W : Type 0} (can_fail : Bool) (remaining : S → Opt
 -- the item ahead was taken and gives what counts of the answer, or it is refused, and only where
 -- the item is
 abbrev pub AnswersItem : {S W A T : Type 0} → Bool → (S → Option (List ℕ)) → ByteSource S W →
-    ByteSource S W → Limit → Taken A → (T → A) → Result T (Error (Unit {0})) → Type 0
+    ByteSource S W → Limit → Given A → (T → A) → Result T (Error (Unit {0})) → Type 0
 AnswersItem can_fail remaining old new l taken content result =
     MatchResult result (λ v. Reads (IsUnread remaining) old new l taken (content v))
     (λ e. Denies (IsUnread remaining) (end_at remaining) old l taken

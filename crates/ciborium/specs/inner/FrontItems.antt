@@ -6,7 +6,7 @@ use Rattle.ciborium_ll.specs.Item.{Item}
 use Rattle.ciborium_ll.specs.Spells.{Spells}
 use Rattle.ciborium_value.specs.Nesting.{Limit}
 use Rattle.ciborium_value.specs.Sources.{Fault, IsFaultOf, IsOutsideFault}
-use Rattle.ciborium_value.specs.Taken.{Taken, gives, outcome}
+use Rattle.ciborium_value.specs.Given.{Given, gives, outcome}
 
 module _ {S : Type 0} (IsUnread : S → List ℕ → Type 0) where
   -- a head stood there, and was taken
@@ -15,7 +15,7 @@ module _ {S : Type 0} (IsUnread : S → List ℕ → Type 0) where
       SpellsHeader x h × (b ≡ x ++ y) × IsUnread new y
 
   -- an item stood there, was taken and gives this
-  abbrev pub Reads : {A : Type 0} → S → S → Limit → Taken A → A → Type 0
+  abbrev pub Reads : {A : Type 0} → S → S → Limit → Given A → A → Type 0
   Reads old new l taken v = (b : List ℕ) → IsUnread old b → (i : Item) × (s : List ℕ) ×
       (z : List ℕ) × Spells s i × (b ≡ s ++ z) × (outcome l (taken i) ≡ gives v) × IsUnread new z
 
@@ -28,7 +28,7 @@ module _ {S : Type 0} (IsUnread : S → List ℕ → Type 0) (End : S → ℕ) w
       IsOutsideFault end fault
 
   -- where an item stands it is refused only where the item is, and for that
-  abbrev pub Denies : {A : Type 0} → S → Limit → Taken A → Fault → Type 0
+  abbrev pub Denies : {A : Type 0} → S → Limit → Given A → Fault → Type 0
   Denies old l taken fault = (b s z : List ℕ) (i : Item) (end : ℕ) → IsUnread old b → Spells s i →
       b ≡ s ++ z → End old ≤ end + length z → IsFaultOf end fault (outcome l (taken i))
 

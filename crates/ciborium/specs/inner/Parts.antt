@@ -21,7 +21,7 @@ use Rattle.ciborium.specs.declared.de.error.Error.{Error}
 use Rattle.ciborium.specs.declared.de.error.Error.TheVariants.{Semantic, RecursionLimitExceeded}
 use Rattle.ciborium.specs.declared.de.error.Error.TheVariants.{Memory}
 use Rattle.ciborium.specs.declared.de.front.Part.{Part}
-use Rattle.ciborium.specs.declared.de.front.Part.TheVariants.{Whole, Opened, Ended}
+use Rattle.ciborium.specs.declared.de.front.Part.TheVariants.{Whole, Begun, Ended}
 use Rattle.ciborium.specs.inner.Around.{IsOpen}
 use Rattle.ciborium.specs.ValueAnswers.{IsRefusedBy}
 use Rattle.ciborium_value.specs.inner.ReadItems.{ReadsItem}
@@ -54,7 +54,7 @@ begun_container true behind = map [] behind None
 abbrev pub IsContainerBegun : {E : Type 0} → Bool → Option ℕ → ℕ → Result Part (Error E) → Type 0
 IsContainerBegun is_map count l (Ok (Whole v)) = (count ≡ Some 0) × (0 < l) ×
     (tree_of v ≡ empty_container is_map)
-IsContainerBegun is_map count l (Ok (Opened f)) = (0 < l) × (behind : Option ℕ) ×
+IsContainerBegun is_map count l (Ok (Begun f)) = (0 < l) × (behind : Option ℕ) ×
     (begun_frame f ≡ begun_container is_map behind) × IsBehind count behind
 IsContainerBegun is_map count l (Ok Ended) = ⊥
 IsContainerBegun is_map count l (Err e) = (l ≡ 0) × (e ≡ RecursionLimitExceeded)
@@ -97,7 +97,7 @@ abbrev pub IsPartRead : {S W E : Type 0} → Spelling → (S → Option (List �
 IsPartRead spelling remaining d l xs p (Ok (Whole v)) =
     (zs : List ℕ) × (r : ℕ) × ReadsItem spelling (Some l) xs p (tree_of v) zs r ×
     StandsAt spelling remaining d zs r
-IsPartRead spelling remaining d l xs p (Ok (Opened f)) =
+IsPartRead spelling remaining d l xs p (Ok (Begun f)) =
     (zs : List ℕ) × (r : ℕ) × IsFrameBegun spelling l xs p (begun_frame f) zs r ×
     StandsAt spelling remaining d zs r
 IsPartRead spelling remaining d l xs p (Ok Ended) =
@@ -109,13 +109,13 @@ IsPartRead spelling remaining d l xs p (Err e) =
 -- a level is left for what was opened
 abbrev pub HasLevel : Part → ℕ → Type 0
 HasLevel (Whole v) l = Unit {0}
-HasLevel (Opened f) l = 0 < l
+HasLevel (Begun f) l = 0 < l
 HasLevel Ended l = Unit {0}
 
 -- no head is pushed behind a whole value or a break
 abbrev pub IsAtRest : Part → Option (Header × ℕ) → Type 0
 IsAtRest (Whole v) pushed = pushed ≡ None
-IsAtRest (Opened f) pushed = Unit {0}
+IsAtRest (Begun f) pushed = Unit {0}
 IsAtRest Ended pushed = pushed ≡ None
 
 -- what the bytes over which a tag at offset p folds are read as

@@ -6,10 +6,10 @@ use Rattle.ciborium_ll.specs.declared.header.Header.TheVariants as header
 use Rattle.ciborium_ll.specs.Header.{SpellsHeader}
 use Rattle.ciborium_ll.specs.Item.{Item, tag}
 use Rattle.ciborium_ll.specs.Spells.{Spells}
-use Rattle.ciborium_value.specs.Ahead.{Form, inside}
+use Rattle.ciborium_value.specs.Ahead.{Span, inside}
 use Rattle.ciborium_value.specs.Meaning.{is_bignum_tag}
 use Rattle.ciborium_value.specs.Nesting.{Limit}
-use Rattle.ciborium_value.specs.Taken.{Steps, Taken, gives, outcome}
+use Rattle.ciborium_value.specs.Given.{Steps, Given, gives, outcome}
 use Rattle.ciborium.specs.inner.Unread.{AreLeft, ending}
 
 -- an item under tags, the innermost first
@@ -47,7 +47,7 @@ pub record IsTagged (ts b u : List ℕ) : Type 0 where
 -- u stands inside what b begins with: an item at u makes one at b and the other way round, with the
 -- same end, and of that one v and the item
 -- at u are taken
-pub record Leads {A : Type 0} (l : Limit) (taken : Taken (A × Item)) (v : A) (b u : List ℕ) : Type 0
+pub record Leads {A : Type 0} (l : Limit) (taken : Given (A × Item)) (v : A) (b u : List ℕ) : Type 0
   where
     pub outward : (i : Item) (s z : List ℕ) → Spells s i → u ≡ s ++ z → (j : Item) × (t : List ℕ) ×
         Spells t j × (b ≡ t ++ z)
@@ -68,17 +68,17 @@ module _ {S : Type 0} (IsUnread : S → List ℕ → Type 0) where
 
   -- a container was entered: what is owed is known, and which parts it has, of which f is taken
   abbrev pub EntersUnread : {Q X A : Type 0} → (Q → List ℕ → List ℕ → Type 0) →
-      (List ℕ → X → Type 0) → (Q → Form → List X → Type 0) → S → S → Limit → Limit → Taken A →
-      (Form → List X → Steps A) → Q → Type 0
+      (List ℕ → X → Type 0) → (Q → Span → List X → Type 0) → S → S → Limit → Limit → Given A →
+      (Span → List X → Steps A) → Q → Type 0
   EntersUnread {X = X} Owes SpellsPart Holds old new l below taken f q =
       (b : List ℕ) → IsUnread old b → (u : List ℕ) × IsUnread new u × Owes q b u ×
       ((j : Item) (t z : List ℕ) → Spells t j → b ≡ t ++ z →
-      (form : Form) × (xs : List X) × (c : List ℕ) ×
-      (outcome l (taken j) ≡ outcome (inside form l) (f form xs)) ×
-      (inside form l ≡ below) × AreLeft SpellsPart form c xs × (u ≡ c ++ (ending form ++ z)) ×
-      Holds q form xs)
+      (span : Span) × (xs : List X) × (c : List ℕ) ×
+      (outcome l (taken j) ≡ outcome (inside span l) (f span xs)) ×
+      (inside span l ≡ below) × AreLeft SpellsPart span c xs × (u ≡ c ++ (ending span ++ z)) ×
+      Holds q span xs)
 
   -- a tag or a variant was entered, and its content is ahead
-  abbrev pub EntersLevelUnread : {A : Type 0} → S → S → Limit → Taken (A × Item) → A → Type 0
+  abbrev pub EntersLevelUnread : {A : Type 0} → S → S → Limit → Given (A × Item) → A → Type 0
   EntersLevelUnread old new l taken v = (b : List ℕ) → IsUnread old b → (u : List ℕ) ×
       IsUnread new u × Leads l taken v b u

@@ -9,7 +9,7 @@ use Rattle.ciborium_value.specs.Nesting.{nesting}
 use Rattle.ciborium_value.specs.ProperTrees.{IsProperTree}
 use Rattle.ciborium_value.specs.Readings.{Reading}
 use Rattle.ciborium_value.specs.Sinks.{Named}
-use Rattle.ciborium_value.specs.Taken.{Taken, gives, outcome}
+use Rattle.ciborium_value.specs.Given.{Given, gives, outcome}
 use Rattle.ciborium_value.specs.Tree.{Tree}
 use Rattle.ciborium_value.specs.View.{tree_of}
 use Rattle.ciborium_value.specs.declared.key_order.KeyOrder.{KeyOrder}
@@ -51,7 +51,7 @@ IsOwnForm o (Err kind) = ⊥
 
 -- reading takes from the deterministic form of what a value names what it takes from the tree
 -- itself: the order of pairs and folding make no difference to it
-abbrev pub IsFormReadAlike : {C : Type 0} → Taken C → KeyOrder → Named → Type 0
+abbrev pub IsFormReadAlike : {C : Type 0} → Given C → KeyOrder → Named → Type 0
 IsFormReadAlike taken o (Ok i) = (t : Tree) → deterministic_form o (written_tree i) ≡ gives t →
     outcome None (taken (item_of t)) ≡ outcome None (taken (item_of (written_tree i)))
 IsFormReadAlike taken o (Err kind) = ⊥
@@ -61,8 +61,8 @@ IsFormReadAlike taken o (Err kind) = ⊥
 -- named, the contents are equal
 abbrev pub IsFormContentReadBack : {T C : Type 0} → (Named → Type 0) → (T → Type 0) → (T → Named) →
     Reading T C → KeyOrder → ℕ → T → T → List ℕ → List ℕ → Type 0
-IsFormContentReadBack Holds IsHeld written reading o l v again bytes rest =
-    (old new : List ℕ) → IsHeld v → Holds (written v) →
+IsFormContentReadBack Holds IsValid written reading o l v again bytes rest =
+    (old new : List ℕ) → IsValid v → Holds (written v) →
     WritesForm {E = IoError} (Some old) (Some new) (Ok tt) (named_form o (written v)) →
     IsFormWritten (named_form o (written v)) →
     TakesGiven {E = IoError} (Some l) reading.taken (Some bytes) (Some rest)
@@ -73,8 +73,8 @@ IsFormContentReadBack Holds IsHeld written reading o l v again bytes rest =
 -- of what is named
 abbrev pub IsFormContentGiven : {T C : Type 0} → (T → Type 0) → (T → Named) → Reading T C →
     KeyOrder → ℕ → T → T → List ℕ → List ℕ → Type 0
-IsFormContentGiven IsHeld written reading o l v again bytes rest =
-    (old new : List ℕ) → IsHeld v → WritesForm {E = IoError} (Some old) (Some new) (Ok tt)
+IsFormContentGiven IsValid written reading o l v again bytes rest =
+    (old new : List ℕ) → IsValid v → WritesForm {E = IoError} (Some old) (Some new) (Ok tt)
     (named_form o (written v)) → IsFormWritten (named_form o (written v)) →
     TakesGiven {E = IoError} (Some l) reading.taken (Some bytes) (Some rest)
     (Ok (reading.content again)) → old ≡ [] → bytes ≡ new →

@@ -12,9 +12,9 @@ use Rattle.ciborium_value.specs.Nesting.{nesting}
 use Rattle.ciborium_value.specs.Folded.{folded}
 use Rattle.ciborium_value.specs.Places.{dictionary}
 use Rattle.ciborium_value.specs.Readings.{Reading}
-use Rattle.ciborium_value.specs.lemmas.ReadsBackMaps.{IsMapHeld}
+use Rattle.ciborium_value.specs.lemmas.ReadsBackMaps.{IsMapValid}
 use Rattle.ciborium_value.specs.Sinks.{Named, container_of, in_turn, named_value}
-use Rattle.ciborium_value.specs.Taken.{Outcome, Taken, gives, nests, outcome}
+use Rattle.ciborium_value.specs.Given.{Outcome, Given, gives, nests, outcome}
 use Rattle.ciborium_value.specs.Tree as trees
 use Rattle.ciborium_value.specs.Tree.{Tree}
 use Rattle.ciborium_value.specs.TreeAnswers.{value_item}
@@ -27,14 +27,14 @@ use Rattle.ciborium.specs.DeterministicWrites.{IsFormWritten, WritesForm, named_
 use Rattle.ciborium.specs.LoadedAnswers.{LoadsAll}
 use Rattle.ciborium.specs.ValueAnswers.{AnswersGoodItem, IsFailed}
 use Rattle.ciborium.specs.ValueClauses.{ReadsWhole}
-use Rattle.ciborium_value.specs.CanonicalTrees.{IsCanonicalTree}
+use Rattle.ciborium_value.specs.DeterministicTrees.{IsDeterministicTree}
 use Rattle.ciborium_value.specs.Spelling.{deterministic}
 use Rattle.ciborium.specs.declared.ser.error.Error.{Error as WriteError}
 use Rattle.ciborium.specs.Writes.{IsNamedWritten, WritesNamed}
 
 -- just these bytes were taken, and `deserialized` makes the content of what is answered; or the
 -- reader failed, or memory was refused
-abbrev pub IsLoaded : {C E : Type 0} → Taken C → C → List ℕ → Option (List ℕ) →
+abbrev pub IsLoaded : {C E : Type 0} → Given C → C → List ℕ → Option (List ℕ) →
     Result Tree (Error E) → Type 0
 IsLoaded taken c rest after (Ok t) = (after ≡ Some rest) ×
     (outcome None (taken (item_of t)) ≡ gives c)
@@ -43,10 +43,10 @@ IsLoaded taken c rest after (Err e) = IsFailed after e
 -- a value names the item of a tree that the deterministic reader of an order of keys accepts within
 -- l levels: what is read of its bytes, whatever follows them
 abbrev pub LoadedAsSaved : {T C : Type 0} → (T → Type 0) → (T → Named) → Reading T C → Type 0
-LoadedAsSaved {T} IsHeld written reading =
+LoadedAsSaved {T} IsValid written reading =
     (o : KeyOrder) (v : T) (t : Tree) (l : ℕ) (rest : List ℕ) (after : Option (List ℕ))
     (r : Result Tree (Error IoError)) →
-    IsHeld v → written v ≡ Ok (item_of t) → IsCanonicalTree o t → nesting (item_of t) ≤ l →
+    IsValid v → written v ≡ Ok (item_of t) → IsDeterministicTree o t → nesting (item_of t) ≤ l →
     length (encoding t) ≤ greatest_offset →
     AnswersGoodItem (deterministic o) (Some (encoding t ++ rest)) l after r →
     IsLoaded reading.taken (reading.content v) rest after r
@@ -54,10 +54,10 @@ LoadedAsSaved {T} IsHeld written reading =
 -- of bytes that were written into nothing, read so, and made into the type again, the content is
 -- that of the value
 abbrev pub LoadingGivesContent : {T C : Type 0} → (T → Type 0) → (T → Named) → Reading T C → Type 0
-LoadingGivesContent {T} {C} IsHeld written reading =
+LoadingGivesContent {T} {C} IsValid written reading =
     (o : KeyOrder) (v : T) (t w : Tree) (l : ℕ) (old new bytes : List ℕ)
     (after : Option (List ℕ)) (c : C) →
-    IsHeld v → written v ≡ Ok (item_of t) → IsCanonicalTree o t → nesting (item_of t) ≤ l →
+    IsValid v → written v ≡ Ok (item_of t) → IsDeterministicTree o t → nesting (item_of t) ≤ l →
     length bytes ≤ greatest_offset →
     WritesNamed {E = WriteError IoError} (Some old) (Some new) (Ok tt) (written v) →
     AnswersGoodItem {E = IoError} (deterministic o) (Some bytes) l after (Ok w) →
@@ -69,8 +69,8 @@ LoadingGivesContent {T} {C} IsHeld written reading =
 -- was made of w, the contents are equal
 abbrev pub IsContentLoaded : {T C : Type 0} → KeyOrder → (T → Type 0) → (T → Named) → Reading T C →
     ℕ → T → Value → T → List ℕ → List ℕ → Type 0
-IsContentLoaded o IsHeld written reading l v w again bytes rest =
-    (old new : List ℕ) → IsHeld v → WritesNamed {E = WriteError IoError} (Some old) (Some new)
+IsContentLoaded o IsValid written reading l v w again bytes rest =
+    (old new : List ℕ) → IsValid v → WritesNamed {E = WriteError IoError} (Some old) (Some new)
     (Ok tt) (written v) → IsNamedWritten (written v) →
     ReadsWhole {E = IoError} (deterministic o) (Some bytes) l (Some rest) (Ok (tree_of w)) →
     outcome None (reading.taken (value_item w)) ≡ gives (reading.content again) → old ≡ [] → bytes ≡
@@ -101,9 +101,9 @@ IsSavedContent reading form l c (Err e) = (e ≡ Memory) ⊎
 -- where the deterministic form of a value was written into nothing, loading the bytes gives its
 -- content
 abbrev pub SavedIsLoaded : {T C : Type 0} → (T → Type 0) → (T → Named) → Reading T C → Type 0
-SavedIsLoaded {T} IsHeld written reading =
+SavedIsLoaded {T} IsValid written reading =
     (o : KeyOrder) (l : ℕ) (v : T) (old new bytes : List ℕ) (r : Result T (Error IoError)) →
-    IsHeld v → WritesForm {E = IoError} (Some old) (Some new) (Ok tt) (named_form o (written v)) →
+    IsValid v → WritesForm {E = IoError} (Some old) (Some new) (Ok tt) (named_form o (written v)) →
     IsFormWritten (named_form o (written v)) → length bytes ≤ greatest_offset →
     LoadsAll o l reading written bytes r → old ≡ [] → bytes ≡ new →
     IsSavedContent reading (named_form o (written v)) l (reading.content v) r
@@ -111,8 +111,8 @@ SavedIsLoaded {T} IsHeld written reading =
 -- the same of what was loaded, as a caller has it after its calls
 abbrev pub IsSavedLoaded : {T C : Type 0} → (T → Type 0) → (T → Named) → Reading T C → KeyOrder →
     ℕ → T → T → List ℕ → Type 0
-IsSavedLoaded IsHeld written reading o l v again bytes =
-    (old new : List ℕ) → IsHeld v →
+IsSavedLoaded IsValid written reading o l v again bytes =
+    (old new : List ℕ) → IsValid v →
     WritesForm {E = IoError} (Some old) (Some new) (Ok tt) (named_form o (written v)) →
     IsFormWritten (named_form o (written v)) →
     LoadsAll {E = IoError} o l reading written bytes (Ok again) → old ≡ [] → bytes ≡ new →
@@ -129,16 +129,16 @@ abbrev pub entry_trees : List (Value × Value) → List (Tree × Tree)
 entry_trees es = map (λ e. (tree_of e.0, tree_of e.1)) es
 
 -- each key and each value of a store has an accepted spelling of its own
-abbrev pub AreCanonicalParts : KeyOrder → List (Value × Value) → Type 0
-AreCanonicalParts o es = All (λ e. IsCanonicalTree o (tree_of e.0) × IsCanonicalTree o (tree_of
-    e.1)) es
+abbrev pub AreDeterministicParts : KeyOrder → List (Value × Value) → Type 0
+AreDeterministicParts o es = All (λ e. IsDeterministicTree o (tree_of e.0) ×
+    IsDeterministicTree o (tree_of e.1)) es
 
 -- a store names the item of its tree, and that has an accepted spelling
 abbrev pub IsDeterministicStore : KeyOrder → List (Value × Value) → Type 0
 IsDeterministicStore o es = (container_of dictionary (in_turn named_value named_value es) ≡ Ok
-    (item_of (store_tree es))) × IsCanonicalTree o (store_tree es)
+    (item_of (store_tree es))) × IsDeterministicTree o (store_tree es)
 
 -- a store is one of which what is written is read back
-abbrev pub IsStoreHeld : KeyOrder → BTreeMap Value Value → Type 0
-IsStoreHeld o m = IsMapHeld (ordered_value_cmp o)
+abbrev pub IsStoreValid : KeyOrder → BTreeMap Value Value → Type 0
+IsStoreValid o m = IsMapValid (ordered_value_cmp o)
     (λ v. folded (tree_of v) ≡ Some (tree_of v)) (λ v. folded (tree_of v) ≡ Some (tree_of v)) m

@@ -8,7 +8,7 @@ use Rattle.ciborium_value.specs.Nesting.{IsWithin}
 use Rattle.ciborium_value.specs.Readings.{Reading}
 use Rattle.ciborium_value.specs.Sinks.{Named}
 use Rattle.ciborium_value.specs.Sources.{IsOutsideFault}
-use Rattle.ciborium_value.specs.Taken.{gives, outcome}
+use Rattle.ciborium_value.specs.Given.{gives, outcome}
 use Rattle.ciborium_value.specs.TreeAnswers.{IsTreeOf, value_item}
 use Rattle.ciborium_value.specs.WrittenItems.{IsWritten}
 use Rattle.ciborium_value.specs.declared.kind.Kind.{Kind}
@@ -30,10 +30,10 @@ IsGivenBack c rest end after (Err e) = IsOutsideFault end (fault_of after e)
 -- reading the bytes of what a value names, where so many levels are left, whatever follows them
 abbrev pub BytesReadBack : {T C : Type 0} → (T → Type 0) → (T → Named) → Reading T C → (T → ℕ) →
     Type 0
-BytesReadBack {T} {C} IsHeld written reading levels =
+BytesReadBack {T} {C} IsValid written reading levels =
     (v : T) (i : Item) (l : ℕ) (rest : List ℕ) (after : Option (List ℕ))
     (r : Result C (Error IoError)) →
-    IsHeld v → written v ≡ Ok i → IsWritten i → IsWithin (Some l) (levels v) →
+    IsValid v → written v ≡ Ok i → IsWritten i → IsWithin (Some l) (levels v) →
     AnswersBytes reading.taken l (written_bytes i ++ rest) after r →
     IsGivenBack (reading.content v) rest (length (written_bytes i)) after r
 
@@ -41,8 +41,8 @@ BytesReadBack {T} {C} IsHeld written reading levels =
 -- within l levels, the contents are equal
 abbrev pub IsContentReadBack : {T C : Type 0} → (T → Type 0) → (T → Named) → Reading T C → (T → ℕ) →
     ℕ → T → T → List ℕ → List ℕ → Type 0
-IsContentReadBack IsHeld written reading levels l v again bytes rest =
-    (old new : List ℕ) → IsHeld v → levels v ≤ l →
+IsContentReadBack IsValid written reading levels l v again bytes rest =
+    (old new : List ℕ) → IsValid v → levels v ≤ l →
     WritesNamed {E = WriteError IoError} (Some old) (Some new) (Ok tt) (written v) →
     IsNamedWritten (written v) →
     TakesGiven {E = IoError} (Some l) reading.taken (Some bytes) (Some rest)
@@ -58,14 +58,14 @@ IsMadeAgain c (Err e) = e ≡ of_tree.Memory
 
 -- reading the tree that is made of what a value names, without a limit
 abbrev pub TreeReadBack : {T C : Type 0} → (T → Type 0) → (T → Named) → Reading T C → Type 0
-TreeReadBack {T} {C} IsHeld written reading =
-    (v : T) (made : Value) (r : Result C TreeError) → IsHeld v → IsTreeOf (written v) made →
+TreeReadBack {T} {C} IsValid written reading =
+    (v : T) (made : Value) (r : Result C TreeError) → IsValid v → IsTreeOf (written v) made →
     AnswersTree reading.taken (value_item made) r → IsMadeAgain (reading.content v) r
 
 -- of a tree that was made and read again, the content is that of the value
 abbrev pub TreeGivesContent : {T C : Type 0} → (T → Type 0) → (T → Named) → Reading T C → Type 0
-TreeGivesContent {T} {C} IsHeld written reading =
-    (v : T) (made : Value) (c : C) → IsHeld v → IsTreeOf (written v) made →
+TreeGivesContent {T} {C} IsValid written reading =
+    (v : T) (made : Value) (c : C) → IsValid v → IsTreeOf (written v) made →
     outcome None (reading.taken (value_item made)) ≡ gives c → c ≡ reading.content v
 
 -- ---- equal contents
@@ -91,15 +91,15 @@ LeaveSameBytes {T} {C} written content =
 -- whatever has the content that reading the bytes of a value gives is written as its item again
 abbrev pub BytesWrittenAgain : {T C : Type 0} → (T → Type 0) → (T → Named) → Reading T C → (T → ℕ) →
     Type 0
-BytesWrittenAgain {T} {C} IsHeld written reading levels =
+BytesWrittenAgain {T} {C} IsValid written reading levels =
     (v w : T) (i : Item) (l : ℕ) (rest : List ℕ) (after : Option (List ℕ)) →
-    IsHeld v → written v ≡ Ok i → IsWritten i → IsWithin (Some l) (levels v) →
+    IsValid v → written v ≡ Ok i → IsWritten i → IsWithin (Some l) (levels v) →
     TakesGiving (Some l) reading.taken (written_bytes i ++ rest) (reading.content w) after →
     written w ≡ Ok i
 
 -- the same of the content that reading its tree gives
 abbrev pub TreeWrittenAgain : {T C : Type 0} → (T → Type 0) → (T → Named) → Reading T C → Type 0
-TreeWrittenAgain {T} {C} IsHeld written reading =
-    (v w : T) (made : Value) → IsHeld v → IsTreeOf (written v) made →
+TreeWrittenAgain {T} {C} IsValid written reading =
+    (v w : T) (made : Value) → IsValid v → IsTreeOf (written v) made →
     outcome None (reading.taken (value_item made)) ≡ gives (reading.content w) → written w ≡
     written v

@@ -9,7 +9,7 @@ use Rattle.ciborium_value.specs.Places.{items_from}
 use Rattle.ciborium_value.specs.Readings.{Reading}
 use Rattle.ciborium_value.specs.Sinks.{Named, all_named}
 use Rattle.ciborium_value.specs.Sources.{IsOutsideFault}
-use Rattle.ciborium_value.specs.Taken.{Taken}
+use Rattle.ciborium_value.specs.Given.{Given}
 use Rattle.ciborium_value.specs.WrittenItems.{AreWritten}
 use Rattle.ciborium.specs.declared.de.error.Error.{Error}
 use Rattle.ciborium.specs.Errors.{fault_of}
@@ -18,7 +18,7 @@ use Rattle.ciborium.specs.SequenceWrites.{AreNamedWritten, WritesInTurn}
 use Rattle.ciborium.specs.declared.ser.error.Error.{Error as WriteError}
 
 -- the answer of a reader over these bytes within a limit, as a sequence
-abbrev pub AnswersSequence : {A E : Type 0} → Taken A → ℕ → List ℕ → Option (List ℕ) →
+abbrev pub AnswersSequence : {A E : Type 0} → Given A → ℕ → List ℕ → Option (List ℕ) →
     Result (List A) (Error E) → Type 0
 AnswersSequence taken l b after r = TakesSequence (Some l) taken (Some b) after r ×
     RefusesSequence (Some l) taken (Some b) after r
@@ -39,10 +39,10 @@ longest (i ∷ is) = max (length (written_bytes i)) (longest is)
 -- item decides
 abbrev pub SequenceReadsBack : {T C : Type 0} → (T → Type 0) → (T → Named) → Reading T C → (T → ℕ) →
     Type 0
-SequenceReadsBack {T} {C} IsHeld written reading levels =
+SequenceReadsBack {T} {C} IsValid written reading levels =
     (vs : List T) (is : List Item) (l : ℕ) (after : Option (List ℕ))
     (r : Result (List C) (Error IoError)) →
-    All IsHeld vs → all_named (map written vs) ≡ Ok is → AreWritten (items_from is) →
+    All IsValid vs → all_named (map written vs) ≡ Ok is → AreWritten (items_from is) →
     All (λ v. IsWithin (Some l) (levels v)) vs →
     AnswersSequence reading.taken l (items_bytes (items_from is)) after r →
     AreGivenBack (map reading.content vs) (longest is) after r
@@ -51,8 +51,8 @@ SequenceReadsBack {T} {C} IsHeld written reading levels =
 -- of them, the contents are equal
 abbrev pub AreContentsReadBack : {T C : Type 0} → (T → Type 0) → (T → Named) → Reading T C →
     (T → ℕ) → List T → List T → List ℕ → List ℕ → Type 0
-AreContentsReadBack IsHeld written reading levels vs again bytes rest =
-    (old new : List ℕ) → All IsHeld vs → All (λ v. levels v ≤ 256) vs →
+AreContentsReadBack IsValid written reading levels vs again bytes rest =
+    (old new : List ℕ) → All IsValid vs → All (λ v. levels v ≤ 256) vs →
     WritesInTurn {E = WriteError IoError} (Some old) (Some new) (Ok tt)
     (all_named (map written vs)) → AreNamedWritten (all_named (map written vs)) →
     TakesSequence {E = IoError} (Some 256) reading.taken (Some bytes) (Some rest)

@@ -15,9 +15,9 @@ use Rattle.ciborium_value.specs.Meaning.{is_bignum_tag}
 use Rattle.ciborium_value.specs.NeverWritten.{IsNever, byte_strings}
 use Rattle.ciborium_value.specs.ReadsBack.{by_bytes, by_tree, of_ok}
 use Rattle.ciborium_value.specs.Sinks.{Named, tag_of}
-use Rattle.ciborium_value.specs.TagReadings.{if_tag, is_no_other_tag, is_tag, taken_with_tag}
-use Rattle.ciborium_value.specs.Taken.{Taken, gives, outcome, outcome_map, outer_tag, then_take}
-use Rattle.ciborium_value.specs.TakenParts.{taken_then}
+use Rattle.ciborium_value.specs.TagReadings.{if_tag, is_no_other_tag, is_tag, given_with_tag}
+use Rattle.ciborium_value.specs.Given.{Given, gives, outcome, outcome_map, outer_tag, then_take}
+use Rattle.ciborium_value.specs.GivenParts.{given_then}
 use Rattle.ciborium_value.specs.Tree as trees
 use Rattle.ciborium_value.specs.Tree.{Tree}
 use Rattle.ciborium_value.specs.declared.key_order.KeyOrder.{KeyOrder}
@@ -73,22 +73,22 @@ under_form : (o : KeyOrder) (t : ℕ) (v u : Tree) → tree_folding_bytes t v �
 under_form o t v u h form = mapped_gives (trees.tag t) (deterministic_form o v) u
     (sym (ap (λ b. tag_form t b (deterministic_form o v)) h) ∙ form)
 
-read-tagged : {C : Type 0} (taken : Taken C) (c : C) (o : KeyOrder) (t : ℕ) (j : Item) →
+read-tagged : {C : Type 0} (taken : Given C) (c : C) (o : KeyOrder) (t : ℕ) (j : Item) →
     tree_folding_bytes t (written_tree j) ≡ None →
     ((u : Tree) → deterministic_form o (written_tree j) ≡ gives u →
     outcome None (taken (item_of u)) ≡ gives c) →
     (u : Tree) → deterministic_form o (trees.tag t (written_tree j)) ≡ gives u →
-    outcome None (taken_with_tag taken (item_of u)) ≡ gives (Some t, c)
+    outcome None (given_with_tag taken (item_of u)) ≡ gives (Some t, c)
 read-tagged taken c o t j none h u form =
     let (w, is, same) = under_form o t (written_tree j) u none form in
-    subst (λ x. outcome None (taken_with_tag taken (item_of x)) ≡ gives (Some t, c)) same
+    subst (λ x. outcome None (given_with_tag taken (item_of x)) ≡ gives (Some t, c)) same
     (ap (outcome_map (λ v. (Some t, v))) (h w is))
 
-module _ {C : Type 0} {taken : Taken C} {c : C} (o : KeyOrder) where
+module _ {C : Type 0} {taken : Given C} {c : C} (o : KeyOrder) where
   read-captured : (m : Option ℕ) (r : Named) → IsToldApart m r → IfSome m (IsNeverFolded r) →
       IsFormRead o r taken c →
       IfOk (captured_of m r) (λ i. (u : Tree) → deterministic_form o (written_tree i) ≡ gives u →
-      outcome None (taken_with_tag taken (item_of u)) ≡ gives (m, c))
+      outcome None (given_with_tag taken (item_of u)) ≡ gives (m, c))
   read-captured (Some t) (Ok j) told never h =
       read-tagged taken c o t j (never j refl) (h.back j refl)
   read-captured None (Ok i) told never h = λ u form.
@@ -98,16 +98,16 @@ module _ {C : Type 0} {taken : Taken C} {c : C} (o : KeyOrder) where
   read-captured u v told never h = tt
 
   pub captured-form : (m : Option ℕ) {r : Named} → IsToldApart m r → IfSome m (IsNeverFolded r) →
-      IsFormRead o r taken c → IsFormRead o (captured_of m r) (taken_with_tag taken) (m, c)
+      IsFormRead o r taken c → IsFormRead o (captured_of m r) (given_with_tag taken) (m, c)
   captured-form m {r = r} told never h = record {
     back = of_ok (captured_of m r) (λ i. (u : Tree) →
         deterministic_form o (written_tree i) ≡ gives u →
-        outcome None (taken_with_tag taken (item_of u)) ≡ gives (m, c))
+        outcome None (given_with_tag taken (item_of u)) ≡ gives (m, c))
         (read-captured m r told never h);
   }
 
   pub required-form : (t : ℕ) {r : Named} → IsNeverFolded r t → IsFormRead o r taken c →
-      IsFormRead o (tag_of t r) (taken_then (taken_with_tag taken) (if_tag (is_tag t))) c
+      IsFormRead o (tag_of t r) (given_then (given_with_tag taken) (if_tag (is_tag t))) c
   required-form t never h = record {
     back = λ i e u form. ap (λ p. then_take p (λ q. outcome None (if_tag (is_tag t) q)))
         ((captured-form (Some t) tt never h).back i e u form) ∙ same t;
@@ -117,7 +117,7 @@ module _ {C : Type 0} {taken : Taken C} {c : C} (o : KeyOrder) where
       same t = grind (arith, nat_tests)
 
   pub accepted-form : (t : ℕ) {r : Named} → IsNeverFolded r t → IsFormRead o r taken c →
-      IsFormRead o (tag_of t r) (taken_then (taken_with_tag taken) (if_tag (is_no_other_tag t))) c
+      IsFormRead o (tag_of t r) (given_then (given_with_tag taken) (if_tag (is_no_other_tag t))) c
   accepted-form t never h = record {
     back = λ i e u form. ap
         (λ p. then_take p (λ q. outcome None (if_tag (is_no_other_tag t) q)))

@@ -10,10 +10,10 @@ use Rattle.ciborium_value.specs.Nesting.{Limit, IsWithin}
 use Rattle.ciborium_value.specs.NeverWritten.{Avoided, IsNever, IsOther, byte_strings, nulls}
 use Rattle.ciborium_value.specs.ReadsBack.{IsNameRead, Way, by_bytes, by_tree, met, met-tag, of_ok}
 use Rattle.ciborium_value.specs.Sinks.{Named, tag_of}
-use Rattle.ciborium_value.specs.TagReadings.{if_tag, is_no_other_tag, is_tag, taken_with_tag}
-use Rattle.ciborium_value.specs.Taken.{Taken, gives, is_null, outcome, outcome_map, outer_tag}
-use Rattle.ciborium_value.specs.Taken.{then_take}
-use Rattle.ciborium_value.specs.TakenParts.{taken_then}
+use Rattle.ciborium_value.specs.TagReadings.{if_tag, is_no_other_tag, is_tag, given_with_tag}
+use Rattle.ciborium_value.specs.Given.{Given, gives, is_null, outcome, outcome_map, outer_tag}
+use Rattle.ciborium_value.specs.Given.{then_take}
+use Rattle.ciborium_value.specs.GivenParts.{given_then}
 use Rattle.ciborium_value.specs.Tree as tree
 use Rattle.ciborium_value.specs.Tree.{Tree}
 use Rattle.ciborium.specs.Tags.{captured_of}
@@ -41,9 +41,9 @@ met-untagged by_tree (items.simple n) e =
 met-untagged by_tree _ e = refl
 
 -- an item is read with its outermost tag, where what is under it is read with a level less
-under : {C : Type 0} (taken : Taken C) (o : Option ℕ) (i j : Item) (c : C) (n : ℕ) →
+under : {C : Type 0} (taken : Given C) (o : Option ℕ) (i j : Item) (c : C) (n : ℕ) →
     outer_tag i ≡ (o, j) → ((l : Limit) → IsWithin l n → outcome l (taken j) ≡ gives c) →
-    (l : Limit) → IsWithin l (suc n) → outcome l (taken_with_tag taken i) ≡ gives (o, c)
+    (l : Limit) → IsWithin l (suc n) → outcome l (given_with_tag taken i) ≡ gives (o, c)
 under taken o i j c n e h None fits =
     ap (λ p. outcome_map (λ v. (p.0, v)) (outcome None (taken p.1))) e ∙
     ap (outcome_map (λ v. (o, v))) (h None tt)
@@ -52,11 +52,11 @@ under taken o i j c n e h (Some (suc m)) fits =
     ap (λ p. outcome_map (λ v. (p.0, v)) (outcome (Some m) (taken p.1))) e ∙
     ap (outcome_map (λ v. (o, v))) (h (Some m) (omega (arith, fits)))
 
-module _ {C : Type 0} {taken : Taken C} {c : C} {n : ℕ} where
+module _ {C : Type 0} {taken : Given C} {c : C} {n : ℕ} where
   named : (o : Option ℕ) (r : Named) → IsToldApart o r → IsNameRead r taken c n →
       (way : Way) (l : Limit) → IsWithin l (suc n) →
-      IfOk (captured_of o r) (λ i. outcome l (taken_with_tag taken (met way i)) ≡ gives (o, c))
-  named (Some t) (Ok j) told h way l fits = ap (λ k. outcome l (taken_with_tag taken k))
+      IfOk (captured_of o r) (λ i. outcome l (given_with_tag taken (met way i)) ≡ gives (o, c))
+  named (Some t) (Ok j) told h way l fits = ap (λ k. outcome l (given_with_tag taken k))
       (met-tag way t j) ∙
       under taken (Some t) (items.tag t (met way j)) (met way j) c n refl (h.back way j refl) l fits
   named None (Ok i) told h way l fits = under taken None (met way i) (met way i) c n
@@ -64,15 +64,15 @@ module _ {C : Type 0} {taken : Taken C} {c : C} {n : ℕ} where
   named u v told h way l fits = tt
 
   pub captured-back : (o : Option ℕ) {r : Named} → IsToldApart o r → IsNameRead r taken c n →
-      IsNameRead (captured_of o r) (taken_with_tag taken) (o, c) (suc n)
+      IsNameRead (captured_of o r) (given_with_tag taken) (o, c) (suc n)
   captured-back o {r = r} told h = record {
     back = λ way i e l fits. of_ok (captured_of o r)
-        (λ j. outcome l (taken_with_tag taken (met way j)) ≡ gives (o, c))
+        (λ j. outcome l (given_with_tag taken (met way j)) ≡ gives (o, c))
         (named o r told h way l fits) i e;
   }
 
   pub required-back : (t : ℕ) {r : Named} → IsNameRead r taken c n →
-      IsNameRead (tag_of t r) (taken_then (taken_with_tag taken) (if_tag (is_tag t))) c (suc n)
+      IsNameRead (tag_of t r) (given_then (given_with_tag taken) (if_tag (is_tag t))) c (suc n)
   required-back t h = record {
     back = λ way i e l fits. ap (λ o. then_take o (λ p. outcome l (if_tag (is_tag t) p)))
         ((captured-back (Some t) tt h).back way i e l fits) ∙ same l t;
@@ -82,7 +82,7 @@ module _ {C : Type 0} {taken : Taken C} {c : C} {n : ℕ} where
       same l t = grind (arith, nat_tests)
 
   pub accepted-back : (t : ℕ) {r : Named} → IsNameRead r taken c n →
-      IsNameRead (tag_of t r) (taken_then (taken_with_tag taken) (if_tag (is_no_other_tag t))) c
+      IsNameRead (tag_of t r) (given_then (given_with_tag taken) (if_tag (is_no_other_tag t))) c
       (suc n)
   accepted-back t h = record {
     back = λ way i e l fits. ap (λ o. then_take o (λ p. outcome l (if_tag (is_no_other_tag t) p)))

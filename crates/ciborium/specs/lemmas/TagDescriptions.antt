@@ -33,16 +33,16 @@ under_tag t part d = record {
   Content = d.Content;
   reading = tag_required t part d.reading;
   written = λ v. tag_of t (d.written (part v));
-  is_held = λ v. d.is_held (part v);
+  is_valid = λ v. d.is_valid (part v);
   levels = λ v. suc (d.levels (part v));
   avoids = λ a. true;
   is_sound = folds_nothing t d && d.is_sound;
-  reads_back = λ sound v held. required-back t
-      (d.reads_back (both (folds_nothing t d) d.is_sound sound).1 (part v) held);
-  form_reads_back = λ sound o v held.
+  reads_back = λ sound v valid. required-back t
+      (d.reads_back (both (folds_nothing t d) d.is_sound sound).1 (part v) valid);
+  form_reads_back = λ sound o v valid.
       let s = both (folds_nothing t d) d.is_sound sound in
       required-form o t (never-folded d t s.0 (part v))
-      (d.form_reads_back s.1 o (part v) held);
+      (d.form_reads_back s.1 o (part v) valid);
   writes_content = λ v w same. tagged-alike d.writes_content t (part v) (part w) same;
   never = λ a h v. tag-never a t (d.written (part v));
 }
@@ -53,16 +53,16 @@ under_tag_or_none t part d = record {
   Content = d.Content;
   reading = tag_accepted t part d.reading;
   written = λ v. tag_of t (d.written (part v));
-  is_held = λ v. d.is_held (part v);
+  is_valid = λ v. d.is_valid (part v);
   levels = λ v. suc (d.levels (part v));
   avoids = λ a. true;
   is_sound = folds_nothing t d && d.is_sound;
-  reads_back = λ sound v held. accepted-back t
-      (d.reads_back (both (folds_nothing t d) d.is_sound sound).1 (part v) held);
-  form_reads_back = λ sound o v held.
+  reads_back = λ sound v valid. accepted-back t
+      (d.reads_back (both (folds_nothing t d) d.is_sound sound).1 (part v) valid);
+  form_reads_back = λ sound o v valid.
       let s = both (folds_nothing t d) d.is_sound sound in
       accepted-form o t (never-folded d t s.0 (part v))
-      (d.form_reads_back s.1 o (part v) held);
+      (d.form_reads_back s.1 o (part v) valid);
   writes_content = λ v w same. tagged-alike d.writes_content t (part v) (part w) same;
   never = λ a h v. tag-never a t (d.written (part v));
 }
@@ -74,16 +74,16 @@ under_any_tag tag part d = record {
   Content = Option ℕ × d.Content;
   reading = with_tag tag part d.reading;
   written = λ v. captured_of (tag v) (d.written (part v));
-  is_held = λ v. IsToldApart (tag v) (d.written (part v)) × d.is_held (part v);
+  is_valid = λ v. IsToldApart (tag v) (d.written (part v)) × d.is_valid (part v);
   levels = λ v. suc (d.levels (part v));
   avoids = d.avoids;
   is_sound = d.avoids byte_strings && d.is_sound;
-  reads_back = λ sound v held. captured-back (tag v) held.0
-      (d.reads_back (both (d.avoids byte_strings) d.is_sound sound).1 (part v) held.1);
-  form_reads_back = λ sound o v held.
+  reads_back = λ sound v valid. captured-back (tag v) valid.0
+      (d.reads_back (both (d.avoids byte_strings) d.is_sound sound).1 (part v) valid.1);
+  form_reads_back = λ sound o v valid.
       let s = both (d.avoids byte_strings) d.is_sound sound in
-      captured-form o (tag v) held.0 (whatever_tag (d.never byte_strings s.0 (part v)) (tag v))
-      (d.form_reads_back s.1 o (part v) held.1);
+      captured-form o (tag v) valid.0 (whatever_tag (d.never byte_strings s.0 (part v)) (tag v))
+      (d.form_reads_back s.1 o (part v) valid.1);
   writes_content = λ v w same.
       captured-alike d.writes_content (tag v) (tag w) (part v) (part w) same;
   never = λ a h v. captured-never a (tag v) (d.never a h (part v));

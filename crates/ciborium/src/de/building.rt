@@ -8,7 +8,7 @@ ghost use Rattle.ciborium_value.specs.View.{tree_of};
 ghost use Rattle.ciborium.specs.inner.Turns.{IsPlacedInOrder, IsReading, IsTurned, IsValueRead};
 ghost use Rattle.ciborium.specs.inner.ValuesInBytes.{HasEndedAfter, StandsAt, heads_left};
 
-use crate::de::error::{Error, Refusal};
+use crate::de::error::{BareReadError, Error};
 use crate::de::front::Part;
 use crate::de::parts::next;
 use crate::de::spelling::Rules;
@@ -20,7 +20,11 @@ use std::io;
 
 // Places a value whose last byte stands before offset `end`, and refuses a key out of order.
 #[inline(always)]
-fn place<S: Rules>(stack: &mut Stack, value: Value, end: usize) -> Result<Option<Value>, Refusal>
+fn place<S: Rules>(
+    stack: &mut Stack,
+    value: Value,
+    end: usize,
+) -> Result<Option<Value>, BareReadError>
     ensures { IsPlacedInOrder S.spelling (frames_of stack.old) (tree_of value) end
         (frames_of stack.new) result }
 {
@@ -45,7 +49,7 @@ fn turn<S: Rules, R, A: Access<R>>(
     stack: &mut Stack,
     levels: usize,
     failure: &mut Option<io::Error>,
-) -> Result<Option<Value>, Refusal>
+) -> Result<Option<Value>, BareReadError>
     requires { length (frames_of stack.old) ≤ levels }
     ensures same_reader { HasSameReader decoder.old decoder.new }
     ensures fewer { OnOk result (heads_left decoder.new < heads_left decoder.old) }
@@ -62,7 +66,7 @@ fn turn<S: Rules, R, A: Access<R>>(
 {
     match next::<S, R, A>(alloc, decoder, scratch, levels - stack.depth(), failure)? {
         Part::Whole(value) => place::<S>(stack, value, decoder.offset()),
-        Part::Opened(opening) => match stack.open(opening) {
+        Part::Begun(frame) => match stack.begin_frame(frame) {
             Ok(()) => Ok(None),
             Err(_) => Err(Error::Memory),
         },
@@ -84,7 +88,7 @@ pub(crate) fn read_value<S: Rules, R, A: Access<R>>(
     scratch: &mut [u8],
     levels: usize,
     failure: &mut Option<io::Error>,
-) -> Result<Value, Refusal>
+) -> Result<Value, BareReadError>
     ensures same_reader { HasSameReader decoder.old decoder.new }
     ensures rests { pushed_of decoder.new ≡ None }
     ensures fewer { OnOk result (heads_left decoder.new < heads_left decoder.old) }

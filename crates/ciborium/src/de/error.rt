@@ -128,11 +128,11 @@ impl<T: fmt::Debug + fmt::Display + Drop> error::Error for Error<T> {}
 
 /// Why a call was refused, without the reader's error, which is kept aside: it is large, and a
 /// result that held it would be moved at every level.
-pub(crate) type Refusal = Error<()>;
+pub(crate) type BareReadError = Error<()>;
 
 /// Puts back the error that was kept aside. There is one wherever a call was refused as `Io`.
 #[inline(never)]
-pub(crate) fn put_back(refusal: Refusal, failure: Option<io::Error>) -> Error<io::Error>
+pub(crate) fn put_back(refusal: BareReadError, failure: Option<io::Error>) -> Error<io::Error>
     ensures refusal { refusal ≡ without_reader_error result }
     ensures given { IfSome failure (λ e. refusal ≡ Error.Io tt → result ≡ Error.Io e) }
 {

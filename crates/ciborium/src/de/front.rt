@@ -10,7 +10,7 @@ ghost use Rattle.ciborium.specs.inner.ValuesInBytes.{heads_left};
 use crate::de::error::Error;
 use ciborium_ll::{Access, Decoder, Header, Keep};
 use ciborium_value::Value;
-use ciborium_value::stack::Opening;
+use ciborium_value::stack::NewFrame;
 
 /// A part of what is read.
 #[derive(Drop)]
@@ -18,7 +18,7 @@ pub(crate) enum Part {
     /// A value that is whole.
     Whole(Value),
     /// The beginning of an array, a map or a tag.
-    Opened(Opening),
+    Begun(NewFrame),
     /// A break.
     Ended,
 }

@@ -5,7 +5,7 @@ ghost use Rattle.ciborium_ll.specs.Decoding.{HasSameReader, TakesBeforeAny, last
 ghost use Rattle.ciborium.specs.inner.StringAnswers.{IsCopied, IsHeldRead, string_kind};
 ghost use Rattle.ciborium.specs.inner.ValuesInBytes.{HasEndedAfter, IsAt, heads_left};
 
-use crate::de::error::{Error, Refusal};
+use crate::de::error::{BareReadError, Error};
 use ciborium_ll::{Access, Decoder, Visitor};
 use ciborium_value::Value;
 use std::alloc::Global;
@@ -61,7 +61,7 @@ pub(super) fn copy_held<R, A: Access<R>>(
     is_text: bool,
     len: usize,
     failure: &mut Option<io::Error>,
-) -> Result<Option<Value>, Refusal>
+) -> Result<Option<Value>, BareReadError>
     requires { pushed_of decoder.old ≡ None }
     ensures same_reader { HasSameReader decoder.old decoder.new }
     ensures pushed { pushed_of decoder.new ≡ None }

@@ -9,13 +9,13 @@ ghost use Rattle.ciborium.specs.inner.Parts.{IsAtRest, IsSimpleRead};
 ghost use Rattle.ciborium.specs.inner.ValuesInBytes.{IsAt, StandsAt, heads_left};
 ghost use Rattle.ciborium.specs.inner.StringAnswers.{IsStringRead, string_kind};
 
-use crate::de::error::{Error, Refusal};
+use crate::de::error::{BareReadError, Error};
 use crate::de::front::{Part, pull};
 use crate::de::held::copy_held;
 use crate::de::spelling::Rules;
 use crate::de::tags::read_tag;
 use ciborium_ll::{Access, Decoder, Header, simple};
-use ciborium_value::stack::Opening;
+use ciborium_value::stack::NewFrame;
 use ciborium_value::{Integer, Kind, Value};
 use std::alloc::Global;
 use std::io;
@@ -44,10 +44,10 @@ fn begin_container<E>(
         Some(n) => Some(n - 1),
         None => None,
     };
-    Ok(Part::Opened(if is_map {
-        Opening::Map { behind }
+    Ok(Part::Begun(if is_map {
+        NewFrame::Map { behind }
     } else {
-        Opening::Array { behind }
+        NewFrame::Array { behind }
     }))
 }
 
@@ -72,7 +72,7 @@ fn read_string<R, A: Access<R>>(
     is_text: bool,
     len: Option<usize>,
     failure: &mut Option<io::Error>,
-) -> Result<Value, Refusal>
+) -> Result<Value, BareReadError>
     requires { pushed_of decoder.old ≡ None }
     ensures same_reader { HasSameReader decoder.old decoder.new }
     ensures pushed { pushed_of decoder.new ≡ None }
@@ -100,7 +100,7 @@ fn append_string<R, A: Access<R>>(
     is_text: bool,
     len: Option<usize>,
     failure: &mut Option<io::Error>,
-) -> Result<Value, Refusal>
+) -> Result<Value, BareReadError>
     requires { pushed_of decoder.old ≡ None }
     ensures same_reader { HasSameReader decoder.old decoder.new }
     ensures pushed { pushed_of decoder.new ≡ None }
@@ -129,7 +129,7 @@ pub(crate) fn next<S: Rules, R, A: Access<R>>(
     scratch: &mut [u8],
     levels: usize,
     failure: &mut Option<io::Error>,
-) -> Result<Part, Refusal>
+) -> Result<Part, BareReadError>
     ensures same_reader { HasSameReader decoder.old decoder.new }
     ensures fewer { OnOk result (heads_left decoder.new < heads_left decoder.old) }
     ensures rests { IfOk result (λ part. IsAtRest part (pushed_of decoder.new)) }

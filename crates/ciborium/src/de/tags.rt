@@ -9,13 +9,13 @@ ghost use Rattle.ciborium.specs.inner.Parts.{HasLevel, IsAtRest, IsBignumRead, I
 ghost use Rattle.ciborium.specs.inner.Parts.{IsHeadAccepted, IsPartRead};
 ghost use Rattle.ciborium.specs.inner.ValuesInBytes.{IsAt, heads_left};
 
-use crate::de::error::{Error, Refusal};
+use crate::de::error::{BareReadError, Error};
 use crate::de::front::{Part, pull};
 use crate::de::spelling::Rules;
 use ciborium_ll::tag::{BIGNEG, BIGPOS};
 use ciborium_ll::{Access, Decoder, Header};
 use ciborium_value::bignum::{self, FoldError, GREATEST_FOLDED_SIZE};
-use ciborium_value::stack::Opening;
+use ciborium_value::stack::NewFrame;
 use ciborium_value::{Kind, Value};
 use std::alloc::Global;
 use std::io;
@@ -57,7 +57,7 @@ fn read_bignum<S: Rules, R, A: Access<R>>(
     n: usize,
     offset: usize,
     failure: &mut Option<io::Error>,
-) -> Result<Value, Refusal>
+) -> Result<Value, BareReadError>
     requires tag { is_bignum_tag tag ≡ true }
     requires short { n ≤ 16 }
     requires pushed { pushed_of decoder.old ≡ None }
@@ -70,8 +70,8 @@ fn read_bignum<S: Rules, R, A: Access<R>>(
         (λ d e. (xs : List ℕ) (p : ℕ) → IsAt Some d xs p →
         IsBignumRead S.spelling Some e tag n offset xs p result) }
 {
-    let mut room = [0u8; GREATEST_FOLDED_SIZE];
-    let payload = &mut room[..n];
+    let mut buffer = [0u8; GREATEST_FOLDED_SIZE];
+    let payload = &mut buffer[..n];
     decoder.read_exact_keeping(payload, failure)?;
     if S::refuses_bignum(payload) {
         return Err(Error::Semantic(Some(offset), Kind::NotFolded));
@@ -88,7 +88,7 @@ pub(crate) fn read_tag<S: Rules, R, A: Access<R>>(
     offset: usize,
     levels: usize,
     failure: &mut Option<io::Error>,
-) -> Result<Part, Refusal>
+) -> Result<Part, BareReadError>
     requires { pushed_of decoder.old ≡ None }
     ensures same_reader { HasSameReader decoder.old decoder.new }
     ensures fewer { OnOk result (heads_left decoder.new ≤ heads_left decoder.old) }
@@ -114,5 +114,5 @@ pub(crate) fn read_tag<S: Rules, R, A: Access<R>>(
         return Err(Error::RecursionLimitExceeded);
     }
     decoder.push(next, at);
-    Ok(Part::Opened(Opening::Tag(tag)))
+    Ok(Part::Begun(NewFrame::Tag(tag)))
 }

@@ -8,7 +8,7 @@ ghost use Rattle.ciborium_value.specs.Encoding.{boolean_item, integer_item, writ
 ghost use Rattle.ciborium_value.specs.Sinks.{bignum_item};
 ghost use Rattle.ciborium_value.specs.WrittenItems.{IsWritten};
 ghost use Rattle.ciborium.specs.Writes.{IsOutFor, PutsOut, out_of, refusal_cause};
-ghost use Rattle.ciborium.specs.declared.ser.byte_sink.Refusal.TheVariants.{Io};
+ghost use Rattle.ciborium.specs.declared.ser.byte_sink.BareWriteError.TheVariants.{Io};
 
 use ciborium_ll::tag::{BIGNEG, BIGPOS};
 use ciborium_ll::{Encoder, Failed, Header, simple};
@@ -20,7 +20,7 @@ use std::io::{self, ErrorKind, Write};
 // Why a call was refused. The writer's error is kept aside in the sink: it is large, and a result
 // that held it would be moved at every level.
 #[derive(Clone, Copy, Drop)]
-pub(super) enum Refusal {
+pub(super) enum BareWriteError {
     Io,
     Value(Kind),
     Memory,
@@ -57,7 +57,7 @@ impl<'a, W: Write> ByteSink<'a, W> {
 
     // Writes a head.
     #[inline(always)]
-    fn push(&mut self, header: Header) -> Result<(), Refusal>
+    fn push(&mut self, header: Header) -> Result<(), BareWriteError>
         requires { IsWritable header }
         ensures same_writer { self.new.writer.ghost_name ≡ self.old.writer.ghost_name }
         ensures bytes { PutsOut W.contents self.old self.new result
@@ -66,26 +66,26 @@ impl<'a, W: Write> ByteSink<'a, W> {
     {
         match Encoder::new(self.writer).push_keeping(header, &mut self.failure) {
             Ok(()) => Ok(()),
-            Err(Failed) => Err(Refusal::Io),
+            Err(Failed) => Err(BareWriteError::Io),
         }
     }
 
     // Writes bytes as they are.
     #[inline(always)]
-    fn write_all(&mut self, bytes: &[u8]) -> Result<(), Refusal>
+    fn write_all(&mut self, bytes: &[u8]) -> Result<(), BareWriteError>
         ensures same_writer { self.new.writer.ghost_name ≡ self.old.writer.ghost_name }
         ensures bytes { PutsOut W.contents self.old self.new result bytes.now }
         ensures io { IfErr result (λ e. e ≡ Io) }
     {
         match Encoder::new(self.writer).write_all_keeping(bytes, &mut self.failure) {
             Ok(()) => Ok(()),
-            Err(Failed) => Err(Refusal::Io),
+            Err(Failed) => Err(BareWriteError::Io),
         }
     }
 
     // Writes the head of a string and its payload.
     #[inline(always)]
-    fn write_string(&mut self, header: Header, payload: &[u8]) -> Result<(), Refusal>
+    fn write_string(&mut self, header: Header, payload: &[u8]) -> Result<(), BareWriteError>
         requires { IsWritable header }
         ensures same_writer { self.new.writer.ghost_name ≡ self.old.writer.ghost_name }
         ensures bytes { PutsOut W.contents self.old self.new result
@@ -99,7 +99,7 @@ impl<'a, W: Write> ByteSink<'a, W> {
 
     // Writes a number that one head holds.
     #[inline(always)]
-    fn write_integer(&mut self, number: Integer) -> Result<(), Refusal>
+    fn write_integer(&mut self, number: Integer) -> Result<(), BareWriteError>
         ensures same_writer { self.new.writer.ghost_name ≡ self.old.writer.ghost_name }
         ensures bytes { PutsOut W.contents self.old self.new result
             (written_bytes (integer_item number)) }
@@ -111,7 +111,7 @@ impl<'a, W: Write> ByteSink<'a, W> {
     }
 
     // Writes a bignum: the tag over the bytes of the number, without leading zeros.
-    fn write_bignum(&mut self, tag: u64, number: u128) -> Result<(), Refusal>
+    fn write_bignum(&mut self, tag: u64, number: u128) -> Result<(), BareWriteError>
         ensures same_writer { self.new.writer.ghost_name ≡ self.old.writer.ghost_name }
         ensures bytes { PutsOut W.contents self.old self.new result
             (written_bytes (bignum_item tag number)) }
@@ -153,7 +153,7 @@ fn boolean_head(boolean: bool) -> Header
 }
 
 impl<W: Write> Sink for ByteSink<'_, W> {
-    type Error = Refusal;
+    type Error = BareWriteError;
 
     ghost stands_at = { IsOutFor W.contents };
 
@@ -166,7 +166,7 @@ impl<W: Write> Sink for ByteSink<'_, W> {
     ghost shows = { λ s p at. at.0 };
 
     #[inline(always)]
-    fn integer(&mut self, number: i128) -> Result<(), Refusal> {
+    fn integer(&mut self, number: i128) -> Result<(), BareWriteError> {
         match Integer::try_from(number) {
             Ok(number) => self.write_integer(number),
             Err(_) if number < 0 => self.write_bignum(BIGNEG, (-1 - number) as u128),
@@ -175,7 +175,7 @@ impl<W: Write> Sink for ByteSink<'_, W> {
     }
 
     #[inline(always)]
-    fn unsigned(&mut self, number: u128) -> Result<(), Refusal> {
+    fn unsigned(&mut self, number: u128) -> Result<(), BareWriteError> {
         match Integer::try_from(number) {
             Ok(number) => self.write_integer(number),
             Err(_) => self.write_bignum(BIGPOS, number),
@@ -183,42 +183,42 @@ impl<W: Write> Sink for ByteSink<'_, W> {
     }
 
     #[inline(always)]
-    fn boolean(&mut self, boolean: bool) -> Result<(), Refusal> {
+    fn boolean(&mut self, boolean: bool) -> Result<(), BareWriteError> {
         self.push(boolean_head(boolean))
     }
 
     #[inline(always)]
-    fn null(&mut self) -> Result<(), Refusal> {
+    fn null(&mut self) -> Result<(), BareWriteError> {
         self.push(Header::Simple(simple::NULL))
     }
 
     #[inline(always)]
-    fn text(&mut self, text: &str) -> Result<(), Refusal> {
+    fn text(&mut self, text: &str) -> Result<(), BareWriteError> {
         self.write_string(Header::Text(Some(text.len())), text.as_bytes())
     }
 
     #[inline(always)]
-    fn bytes(&mut self, bytes: &[u8]) -> Result<(), Refusal> {
+    fn bytes(&mut self, bytes: &[u8]) -> Result<(), BareWriteError> {
         self.write_string(Header::Bytes(Some(bytes.len())), bytes)
     }
 
     #[inline(always)]
-    fn tag(&mut self, tag: u64) -> Result<(), Refusal> {
+    fn tag(&mut self, tag: u64) -> Result<(), BareWriteError> {
         self.push(Header::Tag(tag))
     }
 
     #[inline(always)]
-    fn begin_array(&mut self, items: Option<usize>) -> Result<(), Refusal> {
+    fn begin_array(&mut self, items: Option<usize>) -> Result<(), BareWriteError> {
         self.push(Header::Array(items))
     }
 
     #[inline(always)]
-    fn begin_map(&mut self, pairs: Option<usize>) -> Result<(), Refusal> {
+    fn begin_map(&mut self, pairs: Option<usize>) -> Result<(), BareWriteError> {
         self.push(Header::Map(pairs))
     }
 
     #[inline(always)]
-    fn end(&mut self, count: Option<usize>) -> Result<(), Refusal> {
+    fn end(&mut self, count: Option<usize>) -> Result<(), BareWriteError> {
         match count {
             Some(_) => Ok(()),
             None => self.push(Header::Break),
@@ -226,12 +226,12 @@ impl<W: Write> Sink for ByteSink<'_, W> {
     }
 
     #[inline(always)]
-    fn refuse(&self, kind: Kind) -> Refusal {
-        Refusal::Value(kind)
+    fn refuse(&self, kind: Kind) -> BareWriteError {
+        BareWriteError::Value(kind)
     }
 
     #[inline(always)]
-    fn memory(&self) -> Refusal {
-        Refusal::Memory
+    fn memory(&self) -> BareWriteError {
+        BareWriteError::Memory
     }
 }

@@ -2,7 +2,7 @@
 
 ghost use Rattle.std.specs.Prelude.{◌≡◌, IfErr, IfOk, IsTrue, OnOk};
 ghost use Rattle.ciborium_value.specs.Sinks.{named_value};
-ghost use Rattle.ciborium_value.specs.Taken.{gives};
+ghost use Rattle.ciborium_value.specs.Given.{gives};
 ghost use Rattle.ciborium_value.specs.View.{tree_of};
 ghost use Rattle.ciborium.specs.DeterministicWrites.{IsFormOwed, IsFormWritten, WritesForm};
 ghost use Rattle.ciborium.specs.DeterministicWrites.{named_form};

@@ -163,11 +163,11 @@ impl<O: EncodingOrder> Deserialize for OrderedValue<O> {
 
 /// For a value in which folding changes nothing, as for `Value`.
 impl<O: EncodingOrder> ReadsBack for OrderedValue<O> {
-    ghost is_held = { λ c. folded (tree_of c) ≡ Some (tree_of c) };
+    ghost is_valid = { λ c. folded (tree_of c) ≡ Some (tree_of c) };
 
     ghost levels = { λ c. nesting (item_of (tree_of c)) };
 
-    ghost reads_back = { λ c held. value-back (tree_of c) held };
+    ghost reads_back = { λ c valid. value-back (tree_of c) valid };
 }
 
 impl<O: EncodingOrder> WritesContent for OrderedValue<O> {

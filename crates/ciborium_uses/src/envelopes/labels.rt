@@ -3,7 +3,7 @@
 ghost use Rattle.std.specs.Prelude.{◌≡◌, IfErr, IfOk, List};
 ghost use Rattle.std.specs.Option.{option_copied, option_map};
 ghost use Rattle.ciborium.specs.Order.{tree_cmp};
-ghost use Rattle.ciborium.specs.TakenParts.{has_key};
+ghost use Rattle.ciborium.specs.GivenParts.{has_key};
 ghost use Rattle.ciborium.specs.Tree.{Tree};
 ghost use Rattle.ciborium.specs.View.{tree_of, tree_pairs_of};
 ghost use Rattle.ciborium_uses.specs.Envelopes.{AreKept, AreLabelBytes, AreLabels, IsHeader};

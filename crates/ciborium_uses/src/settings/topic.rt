@@ -73,7 +73,7 @@ impl Key for Topic {
 }
 
 impl ReadsBack for Topic {
-    ghost is_held = { λ topic. Unit {0} };
+    ghost is_valid = { λ topic. Unit {0} };
 
     ghost levels = { λ topic. 1 };
 

@@ -13,8 +13,8 @@ use Rattle.ciborium_value.specs.inner.FoldedCopies.{IsUnfolded, path_trees, comi
 use Rattle.ciborium_value.specs.declared.deserialized.folding.Coming.{Coming}
 use Rattle.ciborium_value.specs.Sources.{Fault, of_kind, of_nesting, of_syntax, of_memory, of_device, of_end, of_length}
 use Rattle.ciborium_value.specs.Sources.{IsFaultOf}
-use Rattle.ciborium_value.specs.Taken.{Steps, gives, refuses, of_meaning, outcome, outcome_map}
-use Rattle.ciborium_value.specs.Taken.{taken_tag, taken_value, taken_items, taken_tree_pairs}
+use Rattle.ciborium_value.specs.Given.{Steps, gives, refuses, of_meaning, outcome, outcome_map}
+use Rattle.ciborium_value.specs.Given.{given_tag, given_value, given_items, given_tree_pairs}
 use Rattle.ciborium_value.specs.Tree as trees
 use Rattle.ciborium_value.specs.Tree.{Tree, Trees, TreePairs}
 use Rattle.ciborium_value.specs.View.{tree_of, trees_of, tree_pairs_of, trees_from, tree_pairs_from}
@@ -48,43 +48,43 @@ map-meaning k f (Some v) = refl
 
 tag-meaning : (t : ℕ) (b : Option (List ℕ)) (s : Steps Tree) (o : Option Tree) →
     outcome None s ≡ of_meaning kinds.TooLarge o →
-    outcome None (taken_tag t b s) ≡ of_meaning kinds.TooLarge (tag_meaning t b o)
+    outcome None (given_tag t b s) ≡ of_meaning kinds.TooLarge (tag_meaning t b o)
 tag-meaning t (Some b) s o e = refl
 tag-meaning t None s o e = ap (outcome_map (trees.tag t)) e ∙ map-meaning kinds.TooLarge (trees.tag t) o
 
 mutual
   unfolding simple_meaning
 
-  pub taken-folded : (t : Tree) → outcome None (taken_value (item_of t)) ≡ of_meaning kinds.TooLarge (folded t)
-  taken-folded (trees.integer (pos n)) = refl
-  taken-folded (trees.integer (negsuc n)) = refl
-  taken-folded (trees.boolean false) = refl
-  taken-folded (trees.boolean true) = refl
-  taken-folded (trees.tag t v) =
-      ap (λ o. outcome None (taken_tag t (cond (is_bignum_tag t) o None) (taken_value (item_of v))))
+  pub given-folded : (t : Tree) → outcome None (given_value (item_of t)) ≡ of_meaning kinds.TooLarge (folded t)
+  given-folded (trees.integer (pos n)) = refl
+  given-folded (trees.integer (negsuc n)) = refl
+  given-folded (trees.boolean false) = refl
+  given-folded (trees.boolean true) = refl
+  given-folded (trees.tag t v) =
+      ap (λ o. outcome None (given_tag t (cond (is_bignum_tag t) o None) (given_value (item_of v))))
       (short_string-item_of v) ∙
-      tag-meaning t (tree_folding_bytes t v) (taken_value (item_of v)) (folded v) (taken-folded v)
-  taken-folded (trees.array vs) = ap (outcome_map trees.array) (items-folded vs) ∙
+      tag-meaning t (tree_folding_bytes t v) (given_value (item_of v)) (folded v) (given-folded v)
+  given-folded (trees.array vs) = ap (outcome_map trees.array) (items-folded vs) ∙
       map-meaning kinds.TooLarge trees.array (trees_folded vs)
-  taken-folded (trees.map ps) = ap (outcome_map trees.map) (pairs-folded ps) ∙
+  given-folded (trees.map ps) = ap (outcome_map trees.map) (pairs-folded ps) ∙
       map-meaning kinds.TooLarge trees.map (tree_pairs_folded ps)
-  taken-folded _ = refl
+  given-folded _ = refl
 
-  items-folded : (vs : Trees) → outcome None (taken_items (items_of vs)) ≡ of_meaning kinds.TooLarge (trees_folded vs)
+  items-folded : (vs : Trees) → outcome None (given_items (items_of vs)) ≡ of_meaning kinds.TooLarge (trees_folded vs)
   items-folded trees.no_trees = refl
   items-folded (trees.tree v vs) =
-      ap (λ o. tree_first o (outcome None (taken_items (items_of vs)))) (taken-folded v) ∙
+      ap (λ o. tree_first o (outcome None (given_items (items_of vs)))) (given-folded v) ∙
       (ap (tree_first (of_meaning kinds.TooLarge (folded v))) (items-folded vs) ∙
       more-meaning kinds.TooLarge (folded v) (trees_folded vs))
 
-  pairs-folded : (ps : TreePairs) → outcome None (taken_tree_pairs (pairs_of ps)) ≡ of_meaning kinds.TooLarge
+  pairs-folded : (ps : TreePairs) → outcome None (given_tree_pairs (pairs_of ps)) ≡ of_meaning kinds.TooLarge
       (tree_pairs_folded ps)
   pairs-folded trees.no_tree_pairs = refl
   pairs-folded (trees.tree_pair k v ps) =
-      ap (λ o. pair_first o (outcome None (taken_value (item_of v))) (outcome None (taken_tree_pairs (pairs_of ps))))
-      (taken-folded k) ∙
-      (ap (λ o. pair_first (of_meaning kinds.TooLarge (folded k)) o (outcome None (taken_tree_pairs (pairs_of ps))))
-      (taken-folded v) ∙
+      ap (λ o. pair_first o (outcome None (given_value (item_of v))) (outcome None (given_tree_pairs (pairs_of ps))))
+      (given-folded k) ∙
+      (ap (λ o. pair_first (of_meaning kinds.TooLarge (folded k)) o (outcome None (given_tree_pairs (pairs_of ps))))
+      (given-folded v) ∙
       (ap (pair_first (of_meaning kinds.TooLarge (folded k)) (of_meaning kinds.TooLarge (folded v)))
       (pairs-folded ps) ∙ pair-meaning kinds.TooLarge (folded k) (folded v) (tree_pairs_folded ps)))
 
@@ -95,18 +95,18 @@ whole-none : (o : Option Tree) → where_folded o (λ v. Some (done v)) ≡ None
 whole-none None h = refl
 whole-none (Some v) h = cc
 
-pub copied-none : (t : Tree) → copied (more []) (t ∷ []) ≡ None → outcome None (taken_value (item_of t)) ≡
+pub copied-none : (t : Tree) → copied (more []) (t ∷ []) ≡ None → outcome None (given_value (item_of t)) ≡
     refuses kinds.TooLarge
-copied-none t h = taken-folded t ∙ whole-none (folded t) h
+copied-none t h = given-folded t ∙ whole-none (folded t) h
 
 whole-some : (o : Option Tree) (w : Tree) → where_folded o (λ v. Some (done v)) ≡ Some (done w) →
     of_meaning kinds.TooLarge o ≡ gives w
 whole-some None w h = cc
 whole-some (Some v) w h = cc
 
-pub copied-done : (t w : Tree) → copied (more []) (t ∷ []) ≡ Some (done w) → outcome None (taken_value (item_of t)) ≡
+pub copied-done : (t w : Tree) → copied (more []) (t ∷ []) ≡ Some (done w) → outcome None (given_value (item_of t)) ≡
     gives w
-copied-done t w h = taken-folded t ∙ whole-some (folded t) w h
+copied-done t w h = given-folded t ∙ whole-some (folded t) w h
 
 -- ---- containers
 
@@ -309,7 +309,7 @@ nodes-append (x ∷ xs) ys = let h = nodes-append xs ys in omega (arith, h)
 
 -- a part that does not fold, and so the whole
 pub refused_as : (end : ℕ) (f : Fault) (o : Option Tree) (t : Tree) → IsUnfolded f o →
-    (o ≡ None → copied (more []) (t ∷ []) ≡ None) → IsFaultOf end f (outcome None (taken_value (item_of t)))
+    (o ≡ None → copied (more []) (t ∷ []) ≡ None) → IsFaultOf end f (outcome None (given_value (item_of t)))
 refused_as end (of_kind k) o t h none = copied-none t (none h.1) ∙ ap refuses (sym h.0)
 refused_as end of_nesting o t h none = elim h [ ]
 refused_as end of_syntax o t h none = elim h [ ]

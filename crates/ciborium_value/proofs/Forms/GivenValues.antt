@@ -2,7 +2,7 @@
 use Rattle.std.proofs.Common.{◌≡◌, Option, Some, None, refl, ap, option_map}
 use Rattle.std.specs.Option.{option_and_then}
 use Rattle.ciborium_value.specs.Meaning.{trees_more}
-use Rattle.ciborium_value.specs.Taken.{Outcome, gives, refuses, nests, then_take, outcome_map}
+use Rattle.ciborium_value.specs.Given.{Outcome, gives, refuses, nests, then_take, outcome_map}
 use Rattle.ciborium_value.specs.DeterministicForms.{one_more}
 use Rattle.ciborium_value.specs.Tree.{Tree, Trees}
 

@@ -9,7 +9,7 @@ use Rattle.ciborium_value.specs.Folded.{tree_folding_bytes}
 use Rattle.ciborium_value.specs.Meaning.{bignum_meaning}
 use Rattle.ciborium_value.specs.SameContents as same
 use Rattle.ciborium_value.specs.SameContents.{IsAlike, AreAlike, PairsAreAlike}
-use Rattle.ciborium_value.specs.Taken.{Outcome, gives, refuses, then_take, outcome_map, of_meaning}
+use Rattle.ciborium_value.specs.Given.{Outcome, gives, refuses, then_take, outcome_map, of_meaning}
 use Rattle.ciborium_value.specs.Tree as trees
 use Rattle.ciborium_value.specs.Tree.{Tree, Trees, TreePairs}
 use Rattle.ciborium_value.specs.View.{tree_of, trees_of, tree_pairs_of}

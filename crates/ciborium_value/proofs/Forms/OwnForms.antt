@@ -3,19 +3,19 @@ use Rattle.std.proofs.Common.{◌≡◌, ℕ, cond, List, Option, Some, None, Ma
 use Rattle.ciborium_value.specs.Encoding.{encoding}
 use Rattle.std.proofs.Common.{option_map, ◌↔◌}
 use Rattle.ciborium_value.specs.Deterministic.{HasRisingKeys, HaveRisingKeys, PairsHaveRisingKeys}
-use Rattle.ciborium_value.specs.CanonicalTrees.{IsCanonicalTree}
+use Rattle.ciborium_value.specs.DeterministicTrees.{IsDeterministicTree}
 use Rattle.ciborium_value.specs.DeterministicForms.{sorted_pairs, tag_form, deterministic_form, deterministic_forms}
 use Rattle.ciborium_value.specs.DeterministicForms.{one_more, one_pair_more, pair_forms}
 use Rattle.ciborium_value.specs.Folded.{short_bytes, tree_folding_bytes, folded, trees_folded, tree_pairs_folded}
 use Rattle.ciborium_value.specs.laws.FormLaws.{FormIsItsOwn, AcceptedWhereOwnForm}
 use Rattle.ciborium_value.specs.inner.OwnForms.{IsFormed, AreFormed, PairsAreFormed}
 use Rattle.ciborium_value.specs.Meaning.{is_bignum_tag, bignum_meaning, tag_meaning, trees_more, tree_pairs_more}
-use Rattle.ciborium_value.specs.Taken.{gives, then_take, outcome_map, of_meaning}
+use Rattle.ciborium_value.specs.Given.{gives, then_take, outcome_map, of_meaning}
 use Rattle.ciborium_value.specs.Tree.{Tree, integer, bytes, text, boolean, null, tag, array, map, Trees, no_trees, tree}
 use Rattle.ciborium_value.specs.Tree.{TreePairs, no_tree_pairs, tree_pair}
 use Rattle.ciborium_value.specs.declared.key_order.KeyOrder.{KeyOrder}
 use Rattle.ciborium_value.specs.declared.kind.Kind.TheVariants as kinds
-use Rattle.ciborium_value.proofs.GoodItems.Accepted.{accepted, canonical}
+use Rattle.ciborium_value.proofs.GoodItems.Accepted.{accepted, deterministic_tree}
 use Rattle.ciborium_value.proofs.Forms.BignumShapes.{rises_where_short, short_where_folding, bignum-no_bytes}
 use Rattle.ciborium_value.proofs.Forms.BignumShapes.{bignum-rises}
 use Rattle.ciborium_value.proofs.FoldedTrees.Folding.{folds_once}
@@ -92,38 +92,39 @@ pairs_folded k v ps u w x e = absurd cc
 
 mutual
   -- a tree that is what it folds to, and whose keys rise, is formed
-  pub formed_where_canonical : (o : KeyOrder) (t : Tree) → folded t ≡ Some t → HasRisingKeys o t → IsFormed o t
-  formed_where_canonical o (tag t v) e h = by (λ f. formed_where_canonical o v f h) (tree_folding_bytes t v) e
+  pub formed_where_deterministic : (o : KeyOrder) (t : Tree) → folded t ≡ Some t → HasRisingKeys o t → IsFormed o t
+  formed_where_deterministic o (tag t v) e h = by (λ f. formed_where_deterministic o v f h) (tree_folding_bytes t v) e
     where
       by : (folded v ≡ Some v → IsFormed o v) → (m : Option (List ℕ)) → tag_meaning t m (folded v) ≡ Some (tag t v) →
           MatchOption m (IsFormed o v) (λ b. bignum_meaning t b ≡ Some (tag t v))
       by inner (Some b) f = f
       by inner None f = inner (content_folded t v (folded v) f)
-  formed_where_canonical o (array vs) e h = all_formed_where_canonical o vs (trees_given vs (trees_folded vs) e) h
-  formed_where_canonical o (map ps) e h = (
+  formed_where_deterministic o (array vs) e h =
+      all_formed_where_deterministic o vs (trees_given vs (trees_folded vs) e) h
+  formed_where_deterministic o (map ps) e h = (
     h.0,
-    pairs_formed_where_canonical o ps
+    pairs_formed_where_deterministic o ps
         (pairs_given ps (tree_pairs_folded ps) e) h.1,
   )
-  formed_where_canonical o _ e h = tt
+  formed_where_deterministic o _ e h = tt
 
   -- so is each of a list
-  all_formed_where_canonical : (o : KeyOrder) (vs : Trees) → trees_folded vs ≡ Some vs → HaveRisingKeys o vs →
+  all_formed_where_deterministic : (o : KeyOrder) (vs : Trees) → trees_folded vs ≡ Some vs → HaveRisingKeys o vs →
       AreFormed o vs
-  all_formed_where_canonical o no_trees e h = tt
-  all_formed_where_canonical o (tree v vs) e h =
+  all_formed_where_deterministic o no_trees e h = tt
+  all_formed_where_deterministic o (tree v vs) e h =
       let both = more_folded v vs (folded v) (trees_folded vs) e in
-      (formed_where_canonical o v both.0 h.0, all_formed_where_canonical o vs both.1 h.1)
+      (formed_where_deterministic o v both.0 h.0, all_formed_where_deterministic o vs both.1 h.1)
 
   -- and each key and value of pairs
-  pairs_formed_where_canonical : (o : KeyOrder) (ps : TreePairs) → tree_pairs_folded ps ≡ Some ps →
+  pairs_formed_where_deterministic : (o : KeyOrder) (ps : TreePairs) → tree_pairs_folded ps ≡ Some ps →
       PairsHaveRisingKeys o ps → PairsAreFormed o ps
-  pairs_formed_where_canonical o no_tree_pairs e h = tt
-  pairs_formed_where_canonical o (tree_pair k v ps) e h =
+  pairs_formed_where_deterministic o no_tree_pairs e h = tt
+  pairs_formed_where_deterministic o (tree_pair k v ps) e h =
       let each = pairs_folded k v ps (folded k) (folded v) (tree_pairs_folded ps) e in (
-        formed_where_canonical o k each.0 h.0,
-        formed_where_canonical o v each.1 h.1,
-        pairs_formed_where_canonical o ps each.2 h.2,
+        formed_where_deterministic o k each.0 h.0,
+        formed_where_deterministic o v each.1 h.1,
+        pairs_formed_where_deterministic o ps each.2 h.2,
       )
 
 mutual
@@ -186,7 +187,7 @@ mutual
 -- what a tag that folds means is formed
 pub bignum-formed : (o : KeyOrder) (t : ℕ) (v : Tree) (b : List ℕ) (u : Tree) → tree_folding_bytes t v ≡ Some b →
     bignum_meaning t b ≡ Some u → IsFormed o u
-bignum-formed o t v b u is e = formed_where_canonical o u
+bignum-formed o t v b u is e = formed_where_deterministic o u
     (folds_once (tag t v) u (ap (λ m. tag_meaning t m (folded v)) is ∙ e)) (bignum-rises o t b u e)
 
 -- a form is a byte string only of that byte string
@@ -270,8 +271,9 @@ own_where_formed o t = (own_form o t, formed o t t)
 pub accepted_where_own_form : AcceptedWhereOwnForm
 accepted_where_own_form o v p l proper = (
   (λ h.
-      let a = canonical o (encoding v) p (Some l) v h in
-      let c : IsCanonicalTree o v = a.0.1 in (own_form o v (formed_where_canonical o v c.folds c.rises), a.1, a.2)),
+      let a = deterministic_tree o (encoding v) p (Some l) v h in
+      let c : IsDeterministicTree o v = a.0.1 in
+      (own_form o v (formed_where_deterministic o v c.folds c.rises), a.1, a.2)),
   (λ h.
       let f : IsFormed o v = formed o v v h.0 in
       accepted o (encoding v) p (Some l) v

@@ -9,7 +9,7 @@ use Rattle.ciborium_value.specs.Folded.{short_bytes, tree_folding_bytes}
 use Rattle.ciborium_value.specs.laws.FormLaws.{FormIsProper}
 use Rattle.ciborium_value.specs.Meaning.{bignum_meaning}
 use Rattle.ciborium_value.specs.ProperTrees.{IsProperTree, AreProperTrees, AreProperTreePairs}
-use Rattle.ciborium_value.specs.Taken.{gives, then_take}
+use Rattle.ciborium_value.specs.Given.{gives, then_take}
 use Rattle.ciborium_value.specs.Tree.{Tree, integer, bytes, text, boolean, null, tag, array, map, Trees, no_trees, tree}
 use Rattle.ciborium_value.specs.Tree.{trees_count, TreePairs, no_tree_pairs, tree_pair, tree_pairs_count}
 use Rattle.ciborium_value.specs.declared.key_order.KeyOrder.{KeyOrder}

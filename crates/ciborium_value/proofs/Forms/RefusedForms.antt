@@ -6,7 +6,7 @@ use Rattle.ciborium_value.specs.DeterministicForms.{one_more, one_pair_more, tag
 use Rattle.ciborium_value.specs.Folded.{folded, trees_folded, tree_pairs_folded, tree_folding_bytes}
 use Rattle.ciborium_value.specs.laws.FormLaws.{FormOrRefused, RefusedByDuplicates}
 use Rattle.ciborium_value.specs.Meaning.{bignum_meaning, tag_meaning, trees_more, tree_pairs_more}
-use Rattle.ciborium_value.specs.Taken.{Outcome, gives, refuses, nests, then_take, outcome_map, of_meaning}
+use Rattle.ciborium_value.specs.Given.{Outcome, gives, refuses, nests, then_take, outcome_map, of_meaning}
 use Rattle.ciborium_value.specs.Tree.{Tree, tag, array, map, Trees, no_trees, tree}
 use Rattle.ciborium_value.specs.Tree.{TreePairs, no_tree_pairs, tree_pair}
 use Rattle.ciborium_value.specs.declared.key_order.KeyOrder.{KeyOrder}

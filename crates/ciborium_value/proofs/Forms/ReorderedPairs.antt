@@ -11,7 +11,7 @@ use Rattle.ciborium_value.specs.DeterministicForms.{inserted, sorted_pairs}
 use Rattle.ciborium_value.specs.SameContents.{IsAlike, PairsAreAlike, no_pairs, more_pairs, exchanged}
 use Rattle.ciborium_value.specs.SameContents.{one_after_another}
 use Rattle.ciborium_value.specs.SameContents as same
-use Rattle.ciborium_value.specs.Taken.{gives, then_take}
+use Rattle.ciborium_value.specs.Given.{gives, then_take}
 use Rattle.ciborium_value.specs.Tree.{Tree, TreePairs, no_tree_pairs, tree_pair}
 use Rattle.ciborium_value.specs.View.{tree_of, tree_pairs_of}
 use Rattle.ciborium_value.specs.declared.key_order.KeyOrder.{KeyOrder}

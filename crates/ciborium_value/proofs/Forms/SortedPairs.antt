@@ -11,7 +11,7 @@ use Rattle.ciborium_value.specs.DeterministicForms.{placed_pair, inserted, sorte
 use Rattle.ciborium_value.specs.Encoding.{encoded_size, encoding}
 use Rattle.ciborium_value.specs.Visits.{saturated}
 use Rattle.ciborium_value.specs.declared.key_order.KeyOrder.TheVariants.{LengthFirst, Bytewise}
-use Rattle.ciborium_value.specs.Taken.{Outcome, gives, refuses, nests, then_take, outcome_map}
+use Rattle.ciborium_value.specs.Given.{Outcome, gives, refuses, nests, then_take, outcome_map}
 use Rattle.ciborium_value.specs.Tree.{Tree, TreePairs, no_tree_pairs, tree_pair}
 use Rattle.ciborium_value.specs.declared.key_order.KeyOrder.{KeyOrder}
 use Rattle.ciborium_value.specs.declared.kind.Kind.TheVariants as kinds

@@ -1,9 +1,9 @@
--- What the deterministic spelling accepts: the encoding of a canonical tree.
+-- What the deterministic spelling accepts: the encoding of a deterministic tree.
 use Rattle.std.proofs.Common.{◌≡◌, ℕ, ◌+◌, ◌≤◌, List, length, is_some, sym, ap, ◌∙◌, subst, arith}
 use Rattle.ciborium_ll.specs.Bytes.{greatest_offset}
 use Rattle.ciborium_ll.specs.Spells.{Spells}
 use Rattle.ciborium_ll.proofs.UniqueSpelling.{one_item}
-use Rattle.ciborium_value.specs.CanonicalTrees.{IsDeterministic}
+use Rattle.ciborium_value.specs.DeterministicTrees.{IsDeterministic}
 use Rattle.ciborium_value.specs.Encoding.{item_of}
 use Rattle.ciborium_value.specs.Meaning.{meaning}
 use Rattle.ciborium_value.specs.Nesting.{nesting, Limit, IsWithin}
@@ -32,9 +32,10 @@ accepted order s p l v (bytes, tree) nests fits = (
   (bytes, tree.rises),
 )
 
-pub canonical : (order : KeyOrder) (s : List ℕ) (p : ℕ) (l : Limit) (v : Tree) → IsReadAs (deterministic order) s p l v
+pub deterministic_tree : (order : KeyOrder) (s : List ℕ) (p : ℕ) (l : Limit) (v : Tree) →
+    IsReadAs (deterministic order) s p l v
     → IsDeterministic order s v × IsWithin l (nesting (item_of v)) × (p + length s ≤ greatest_offset)
-canonical order s p l v (i, spelled, means, nests, fits, (bytes, rises)) =
+deterministic_tree order s p l v (i, spelled, means, nests, fits, (bytes, rises)) =
     let proper = proper_meaning i s v spelled (item_bytes i s spelled (ap is_some means)) (omega (arith, fits)) means in
     let same : i ≡ item_of v = one_item s i (item_of v) spelled
     (subst (λ b. Spells b (item_of v)) (sym bytes) (written_spells (item_of v) (IsProperItem-item_of v proper))) in (
@@ -50,8 +51,8 @@ canonical order s p l v (i, spelled, means, nests, fits, (bytes, rises)) =
 pub written-item : (order : KeyOrder) (s : List ℕ) (p : ℕ) (l : Limit) (v : Tree) →
     IsReadAs (deterministic order) s p l v → Spells s (item_of v)
 written-item order s p l v h =
-    let c = canonical order s p l v h in
+    let c = deterministic_tree order s p l v h in
     subst (λ b. Spells b (item_of v)) (sym c.0.0) (written_spells (item_of v) (IsProperItem-item_of v c.0.1.proper))
 
 pub deterministic_reading : DeterministicReading
-deterministic_reading order s p l v = (canonical order s p l v, λ h. accepted order s p l v h.0 h.1 h.2)
+deterministic_reading order s p l v = (deterministic_tree order s p l v, λ h. accepted order s p l v h.0 h.1 h.2)

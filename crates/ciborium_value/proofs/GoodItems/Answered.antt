@@ -8,8 +8,8 @@ use Rattle.std.proofs.lemmas.List.{length-take-le}
 use Rattle.std.proofs.lemmas.Str.{IsUtf8-from_is_utf8}
 use Rattle.ciborium_ll.specs.Bytes.{greatest_offset}
 use Rattle.ciborium_ll.specs.Head.{IsHead}
-use Rattle.ciborium_ll.specs.Refusal.{Kind, Refusal, syntax, semantic, recursion_limit_exceeded, Float, Simple, Break}
-use Rattle.ciborium_ll.specs.Refusal.{TooLarge, IsUsable, HasHead, head_refusal, IsAtFront}
+use Rattle.ciborium_ll.specs.Refusal.{SemanticKind, Refusal, syntax, semantic, recursion_limit_exceeded, Float, Simple}
+use Rattle.ciborium_ll.specs.Refusal.{Break, TooLarge, IsUsable, HasHead, head_refusal, IsAtFront}
 use Rattle.ciborium_ll.specs.Spells.{IsDefiniteString, AreChunks, joined}
 use Rattle.ciborium_ll.specs.StringRefusal.{StringKind, of_bytes, of_text, string_major, IsAllowed, PayloadRefuses}
 use Rattle.ciborium_ll.specs.StringRefusal.{StringRefuses, ChunkRefuses, HasStringHead}
@@ -453,7 +453,7 @@ module _ (spelling : Spelling) where
         (Refuses.float (subst (λ c. IsUsable c p) f.3 good.0) f.1 f.2)
 
   judged-meets : (d : ℕ) → ReadMeets d → PartsMeet d → (b : List ℕ) (p : ℕ) (l : Limit) → IsUsable b p →
-      EachIsByte b → 2 * length b ≤ d → (o : Option Kind) → spelling_fault spelling b ≡ o → Meets b p l
+      EachIsByte b → 2 * length b ≤ d → (o : Option SemanticKind) → spelling_fault spelling b ≡ o → Meets b p l
       (checked (option_map (semantic p) o) (item_at spelling (read spelling d) (λ w. parts spelling d w (Some w) [])
       (pieces d) b p l (front b)))
   judged-meets d rec recs b p l h bytes fuel (Some kind) e = Refuses.bad_head kind h e

@@ -5,7 +5,7 @@ use Rattle.std.proofs.Common.{lt-ltb, le-ltb, ltb-false, ne_eqb, inl, inr}
 use Rattle.std.proofs.lemmas.Nat.{div-mul-add, mod-mul-add}
 use Rattle.std.proofs.lemmas.Bool.Decides.{nat_tests}
 use Rattle.ciborium_ll.specs.Head.{IsSimple, information, argument_bytes, shortest_head}
-use Rattle.ciborium_ll.specs.Refusal.{Kind, NotShortest, Open, argument, argument_length, HasHead}
+use Rattle.ciborium_ll.specs.Refusal.{SemanticKind, NotShortest, Open, argument, argument_length, HasHead}
 use Rattle.ciborium_ll.proofs.ShortestHead.{no_other_is_as_short}
 use Rattle.ciborium_ll.proofs.UsableHeads.{argument-information, argument_length-information, information-below, pass}
 use Rattle.ciborium_ll.proofs.UsableHeads.{and_false}
@@ -13,7 +13,7 @@ use Rattle.ciborium_value.specs.Spelling.{Spelling, any, deterministic, determin
 use Rattle.ciborium_value.specs.declared.key_order.KeyOrder.{KeyOrder}
 
 -- what is wrong with a head of this major type and argument that has so many bytes
-abbrev pub long_fault : ℕ → ℕ → ℕ → Option Kind
+abbrev pub long_fault : ℕ → ℕ → ℕ → Option SemanticKind
 long_fault m n size = cond (ltb (length (shortest_head m n)) size) (Some NotShortest) None
 
 fault-number : (m a n k : ℕ) (b : List ℕ) → m < 7 → a < 28 → argument a b ≡ n → 1 + argument_length a ≡ k →
@@ -64,7 +64,7 @@ fault-short order b m n k r lt s none =
     let len = s.2 in
     no_other_is_as_short s.0 m n s.1 (omega (arith, few, len))
   where
-    short : (t : Bool) → ◌≡◌ {A = Option Kind} (cond t (Some NotShortest) None) None → t ≡ false
+    short : (t : Bool) → ◌≡◌ {A = Option SemanticKind} (cond t (Some NotShortest) None) None → t ≡ false
     short true e = absurd cc
     short false e = refl
 

@@ -15,7 +15,7 @@ use Rattle.ciborium_ll.specs.StringRefusal.{StringKind, of_bytes, of_text, strin
 use Rattle.ciborium_ll.proofs.FrontHeads.{plain, front, front-simple}
 use Rattle.ciborium_ll.proofs.UsableHeads.{stands-usable, stands-length, IsStringMajor, pass}
 use Rattle.ciborium_value.specs.Deterministic.{AreRising}
-use Rattle.ciborium_value.specs.CanonicalTrees.{IsCanonicalTree}
+use Rattle.ciborium_value.specs.DeterministicTrees.{IsDeterministicTree}
 use Rattle.ciborium_value.specs.ProperTrees.{IsProperTree}
 use Rattle.ciborium_value.specs.lemmas.ItemsOfTrees.{short_string-item_of, tree_is_written_as_itself}
 use Rattle.ciborium_ll.specs.ProperItems.{IsArgument}
@@ -39,7 +39,7 @@ use Rattle.ciborium_value.specs.inner.ReadItems.{string_tree, IsComplete, pairs_
 use Rattle.ciborium_value.specs.declared.key_order.KeyOrder.{KeyOrder}
 use Rattle.ciborium_value.proofs.GoodItems.Bignums.{foldable-is, kept-whole}
 use Rattle.ciborium_value.proofs.GoodItems.Faults.{short-fault, fault-simple}
-use Rattle.ciborium_value.proofs.GoodItems.Accepted.{anyway, accepted, canonical}
+use Rattle.ciborium_value.proofs.GoodItems.Accepted.{anyway, accepted, deterministic_tree}
 use Rattle.ciborium_value.proofs.GoodItems.Parts.{within-zero, lower, levels-below, due-first, is-in_order}
 use Rattle.ciborium_value.proofs.GoodItems.Parts.{order-before, elements, turns, elements-in, turns-in, elements-due}
 use Rattle.ciborium_value.proofs.GoodItems.Parts.{turns-due, open-elements-due, open-turns-due, keys-turns, read-items}
@@ -539,7 +539,8 @@ module _ (order : KeyOrder) (d : ℕ) (rd : ReadsAt (deterministic order) d) (ru
       ) in
       (st, short-fault det b m n (length (shortest_head m n)) r lt st (omega arith))
 
-  det-array : (ts : Trees) → IsCanonicalTree order (trees.array ts) → IsWithin l (nesting (item_of (trees.array ts))) →
+  det-array : (ts : Trees) → IsDeterministicTree order (trees.array ts) →
+      IsWithin l (nesting (item_of (trees.array ts))) →
       b ≡ encoding (trees.array ts) ++ x → q ≡ p + length (encoding (trees.array ts)) → q ≤ greatest_offset →
       2 * length b < suc d → read det (suc d) b p l ≡ ends (trees.array ts) x q
   det-array ts c nests f k room fuel =
@@ -561,7 +562,8 @@ module _ (order : KeyOrder) (d : ℕ) (rd : ReadsAt (deterministic order) d) (ru
       array-some None us e = absurd cc
       array-some (Some ws) us e = cc
 
-  det-map : (ps : TreePairs) → IsCanonicalTree order (trees.map ps) → IsWithin l (nesting (item_of (trees.map ps))) →
+  det-map : (ps : TreePairs) → IsDeterministicTree order (trees.map ps) →
+      IsWithin l (nesting (item_of (trees.map ps))) →
       b ≡ encoding (trees.map ps) ++ x → q ≡ p + length (encoding (trees.map ps)) → q ≤ greatest_offset →
       2 * length b < suc d → read det (suc d) b p l ≡ ends (trees.map ps) x q
   det-map ps c nests f k room fuel =
@@ -601,7 +603,7 @@ module _ (order : KeyOrder) (d : ℕ) (rd : ReadsAt (deterministic order) d) (ru
       simple-read det d p q n ((224 + n) ∷ []) x b l v is means
       (ap (spelling_fault det) f ∙ fault-simple det ((224 + n) ∷ []) n x is (λ e. omega (arith, lt, e))) f k room
 
-  det-tag : (t : ℕ) (w : Tree) → IsCanonicalTree order (trees.tag t w) →
+  det-tag : (t : ℕ) (w : Tree) → IsDeterministicTree order (trees.tag t w) →
       IsWithin l (nesting (item_of (trees.tag t w))) → b ≡ encoding (trees.tag t w) ++ x →
       q ≡ p + length (encoding (trees.tag t w)) → q ≤ greatest_offset → 2 * length b < suc d →
       read det (suc d) b p l ≡ ends (trees.tag t w) x q
@@ -658,7 +660,7 @@ module _ (order : KeyOrder) (d : ℕ) (rd : ReadsAt (deterministic order) d) (ru
             },
           ) below.1 (omega (arith, k, len, room)))
 
-  det-tree : (v : Tree) → IsCanonicalTree order v → IsWithin l (nesting (item_of v)) → b ≡ encoding v ++ x →
+  det-tree : (v : Tree) → IsDeterministicTree order v → IsWithin l (nesting (item_of v)) → b ≡ encoding v ++ x →
       q ≡ p + length (encoding v) → q ≤ greatest_offset → 2 * length b < suc d →
       read det (suc d) b p l ≡ ends v x q
   unfolding simple_meaning
@@ -684,7 +686,7 @@ front-read : (spelling : Spelling) (d : ℕ) → ReadsAt spelling d → RunsAt s
 front-read any d rd run v s x b p q l (i, spelled, means, nests, fits, so) e k fuel =
     any-item d rd run x b p q l i v s spelled means nests e k (omega (arith, k, fits)) fuel
 front-read (deterministic order) d rd run v s x b p q l h e k fuel =
-    let ((bytes, c), nests, fits) = canonical order s p l v h in
+    let ((bytes, c), nests, fits) = deterministic_tree order s p l v h in
     det-tree order d rd run x b p q l v c nests (e ∙ ap (λ (z : List ℕ). z ++ x) bytes)
     (k ∙ ap (λ (z : List ℕ). p + length z) bytes) (omega (arith, k, fits)) fuel
 

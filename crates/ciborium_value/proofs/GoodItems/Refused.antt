@@ -5,8 +5,8 @@ use Rattle.std.proofs.Common.{arith, length-append, lt-ltb, le-ltb, eq-eqb, eqb-
 use Rattle.std.proofs.Math.Seq.{take-append_seam}
 use Rattle.ciborium_ll.specs.Bytes.{AreBytes, greatest_offset}
 use Rattle.ciborium_ll.specs.Head.{IsSimple}
-use Rattle.ciborium_ll.specs.Refusal.{Kind, Refusal, syntax, semantic, Float, Simple, Break, TooLarge, NotFolded}
-use Rattle.ciborium_ll.specs.Refusal.{recursion_limit_exceeded, IsUsable, HeadRefuses, HasHead, IsAtFront}
+use Rattle.ciborium_ll.specs.Refusal.{SemanticKind, Refusal, syntax, semantic, Float, Simple, Break, TooLarge}
+use Rattle.ciborium_ll.specs.Refusal.{NotFolded, recursion_limit_exceeded, IsUsable, HeadRefuses, HasHead, IsAtFront}
 use Rattle.ciborium_ll.specs.Refusal as refusal
 use Rattle.ciborium_ll.specs.StringRefusal.{StringKind, of_bytes, of_text, string_major, IsAllowed, PayloadRefuses}
 use Rattle.ciborium_ll.specs.StringRefusal.{StringRefuses, ChunkRefuses, OpenStringRefuses, HasStringHead}

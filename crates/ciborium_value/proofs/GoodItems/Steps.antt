@@ -7,7 +7,7 @@ use Rattle.std.proofs.lemmas.Nat.{div-mul-add, mod-mul-add}
 use Rattle.std.proofs.lemmas.Bool.Decides.{nat_tests}
 use Rattle.std.proofs.lemmas.Bool.{cond-true}
 use Rattle.ciborium_ll.specs.Spells.{AreChunks, joined}
-use Rattle.ciborium_ll.specs.Refusal.{Kind, Refusal, semantic, head_refusal, IsUsable, HeadRefuses, HasHead}
+use Rattle.ciborium_ll.specs.Refusal.{SemanticKind, Refusal, semantic, head_refusal, IsUsable, HeadRefuses, HasHead}
 use Rattle.ciborium_ll.specs.Refusal.{argument_length, is_reserved, is_low_simple, payload_length}
 use Rattle.ciborium_ll.specs.Bytes.{greatest_offset}
 use Rattle.ciborium_ll.proofs.FrontHeads.{Front, counted, opened, front, front_open}
@@ -80,7 +80,7 @@ module _ (spelling : Spelling) where
       ap (item_at spelling (read spelling d) (λ w. parts spelling d w (Some w) []) (pieces d) b p l) e
 
   -- a head that the spelling does not accept
-  pub read-fault : (d p : ℕ) (b : List ℕ) (l : Limit) (kind : Kind) → IsUsable b p →
+  pub read-fault : (d p : ℕ) (b : List ℕ) (l : Limit) (kind : SemanticKind) → IsUsable b p →
       spelling_fault spelling b ≡ Some kind → read spelling (suc d) b p l ≡ refused (semantic p kind)
   read-fault d p b l kind h e =
       checked-none b p _ h ∙
@@ -112,7 +112,7 @@ module _ (spelling : Spelling) where
       has None a h = (refl, h)
       has (Some f) a h = absurd cc
 
-      fine : (o : Option Kind) (a : Answer Tree) → checked (option_map (semantic p) o) a ≡ ends v r q → o ≡ None
+      fine : (o : Option SemanticKind) (a : Answer Tree) → checked (option_map (semantic p) o) a ≡ ends v r q → o ≡ None
       fine None a h = refl
       fine (Some f) a h = absurd cc
 

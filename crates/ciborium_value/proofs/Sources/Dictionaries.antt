@@ -3,21 +3,21 @@ use Rattle.std.proofs.Common.{◌≡◌, ℕ, Bool, true, false, if◌then◌els
 use Rattle.std.proofs.Common.{subst}
 use Rattle.std.specs.BTreeMap.{insert_entry}
 use Rattle.ciborium_ll.specs.Item.{Item}
-use Rattle.ciborium_value.specs.Ahead.{Ahead, Rest, Form, item, after, pairs, entry, inside, end_of}
+use Rattle.ciborium_value.specs.Ahead.{Ahead, Rest, Span, item, after, pairs, entry, inside, end_of}
 use Rattle.ciborium_value.specs.Nesting.{Limit}
 use Rattle.ciborium_value.specs.Places.{Shape, dictionary}
 use Rattle.ciborium_value.specs.Sources.{Fault, of_kind, IsFaultOf, TakesAhead, RefusesAhead, EntersMap, GoesOn, Leaves}
 use Rattle.ciborium_value.specs.Sources.{RefusesNext, TakesTo, TakesItem, OwesLess, OwesNothing}
-use Rattle.ciborium_value.specs.Taken.{Outcome, Steps, Taken, chosen, deeper_if, outcome, refuse, refuses, then_read}
-use Rattle.ciborium_value.specs.Taken.{then_take}
-use Rattle.ciborium_value.specs.TakenParts.{has_key, put_each, taken_map}
+use Rattle.ciborium_value.specs.Given.{Outcome, Steps, Given, chosen, deeper_if, outcome, refuse, refuses, then_read}
+use Rattle.ciborium_value.specs.Given.{then_take}
+use Rattle.ciborium_value.specs.GivenParts.{has_key, put_each, given_map}
 use Rattle.ciborium_value.specs.declared.kind.Kind.TheVariants as kinds
 use Rattle.ciborium_value.proofs.Sources.Sequences.{fault_then, fault_outside, Follows, so, IsBlamed, IsBefore, IsPast}
 
 -- ---- from one place to the next
 
 module _ {S Q : Type 0} (StandsBefore : S → Limit → Ahead → Type 0) (SeqStands : Q → Limit → Rest → Type 0)
-    {A B : Type 0} (once : Bool) (order : A → A → Ordering) (key : Taken A) (value : Taken B) where
+    {A B : Type 0} (once : Bool) (order : A → A → Ordering) (key : Given A) (value : Given B) where
   -- what follows a value, and what follows a key
   abbrev after_value : List (A × B) → A → List (Item × Item) → B → Steps (List (A × B))
   after_value es a ps b = put_each once order key value (insert_entry order es a b) ps
@@ -28,22 +28,22 @@ module _ {S Q : Type 0} (StandsBefore : S → Limit → Ahead → Type 0) (SeqSt
 
   -- pairs of a map are left, which go to these entries
   abbrev pub IsInsideMap : S → Q → List (A × B) → Limit → Rest → Outcome (List (A × B)) → Type 0
-  IsInsideMap now q es l f o = (form : Form) × (ps : List (Item × Item)) ×
-      StandsBefore now (inside form l) (after (pairs form ps f)) × SeqStands q l (pairs form ps f) ×
-      (o ≡ outcome (inside form l) (put_each once order key value es ps))
+  IsInsideMap now q es l f o = (span : Span) × (ps : List (Item × Item)) ×
+      StandsBefore now (inside span l) (after (pairs span ps f)) × SeqStands q l (pairs span ps f) ×
+      (o ≡ outcome (inside span l) (put_each once order key value es ps))
 
   -- a key is ahead
   abbrev IsAtKey : S → Q → List (A × B) → Limit → Rest → Outcome (List (A × B)) → Type 0
-  IsAtKey now q es l f o = (form : Form) × (k : Item) × (v : Item) × (ps : List (Item × Item)) ×
-      StandsBefore now (inside form l) (item k (entry v form ps f)) × SeqStands q l (pairs form ps f) ×
-      (o ≡ outcome (inside form l) (put_each once order key value es ((k, v) ∷ ps)))
+  IsAtKey now q es l f o = (span : Span) × (k : Item) × (v : Item) × (ps : List (Item × Item)) ×
+      StandsBefore now (inside span l) (item k (entry v span ps f)) × SeqStands q l (pairs span ps f) ×
+      (o ≡ outcome (inside span l) (put_each once order key value es ((k, v) ∷ ps)))
 
   -- its value is ahead, and so much of it is to be read
   abbrev IsAtValue : S → Q → (Item → List (Item × Item) → Steps (List (A × B))) → Limit → Rest →
       Outcome (List (A × B)) → Type 0
-  IsAtValue now q steps l f o = (form : Form) × (v : Item) × (ps : List (Item × Item)) ×
-      StandsBefore now (inside form l) (item v (pairs form ps f)) × SeqStands q l (pairs form ps f) ×
-      (o ≡ outcome (inside form l) (steps v ps))
+  IsAtValue now q steps l f o = (span : Span) × (v : Item) × (ps : List (Item × Item)) ×
+      StandsBefore now (inside span l) (item v (pairs span ps f)) × SeqStands q l (pairs span ps f) ×
+      (o ≡ outcome (inside span l) (steps v ps))
 
   abbrev IsAfterKey : S → Q → List (A × B) → A → Limit → Rest → Outcome (List (A × B)) → Type 0
   IsAfterKey now q es a = IsAtValue now q (λ v ps. after_key es v ps a)
@@ -52,7 +52,7 @@ module _ {S Q : Type 0} (StandsBefore : S → Limit → Ahead → Type 0) (SeqSt
   IsAfterNewKey now q es a = IsAtValue now q (λ v ps. then_read (value v) (after_value es a ps))
 
   pub map_begins : {old new : S} {q : Q} (es : List (A × B)) → es ≡ [] → EntersMap StandsBefore SeqStands old new q →
-      Follows (IsBefore StandsBefore old (taken_map once order key value)) (IsInsideMap new q es)
+      Follows (IsBefore StandsBefore old (given_map once order key value)) (IsInsideMap new q es)
   map_begins es none h = record {
     at = λ l f o w.
         let n = h l w.0 f w.1 in (

@@ -1,7 +1,7 @@
 -- A limit decides nothing but nesting: what is read, or refused, does not depend on it.
 use Rattle.std.proofs.Common.{◌≡◌, ℕ, zero, suc, Bool, true, false, Some, None, refl, sym, ap, subst, ◌⊎◌, inl, inr}
-use Rattle.ciborium_value.specs.Taken.{Outcome, gives, nests, Steps, decided, leveled, mapped, chosen}
-use Rattle.ciborium_value.specs.Taken.{deeper_if, outcome, outcome_map, then_inside, then_read, then_take}
+use Rattle.ciborium_value.specs.Given.{Outcome, gives, nests, Steps, decided, leveled, mapped, chosen}
+use Rattle.ciborium_value.specs.Given.{deeper_if, outcome, outcome_map, then_inside, then_read, then_take}
 
 -- an outcome within a limit is nesting, or the outcome without one
 abbrev IsSame : {A : Type 0} → Outcome A → Outcome A → Type 0

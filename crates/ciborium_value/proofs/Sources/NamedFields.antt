@@ -1,13 +1,13 @@
 -- What is read of a map by the labels of fields, pair by pair, from any source.
 use Rattle.std.proofs.Common.{◌≡◌, ℕ, Bool, true, false, if◌then◌else◌, List, ◌∷◌, refl, sym, ◌∙◌, ap, subst}
 use Rattle.ciborium_ll.specs.Item.{Item}
-use Rattle.ciborium_value.specs.Ahead.{Ahead, Rest, Form, item, after, pairs, entry, inside, end_of}
+use Rattle.ciborium_value.specs.Ahead.{Ahead, Rest, Span, item, after, pairs, entry, inside, end_of}
 use Rattle.ciborium_value.specs.Nesting.{Limit}
 use Rattle.ciborium_value.specs.Sources.{Fault, IsFaultOf, TakesAhead, RefusesAhead, GoesOn, Leaves, RefusesNext}
-use Rattle.ciborium_value.specs.StructReadings.{FieldsTaken, take_fields, take_named}
-use Rattle.ciborium_value.specs.Labels.{Label, label_kind, label_place, placed, taken_label}
-use Rattle.ciborium_value.specs.Taken.{Outcome, gives, nests, outcome, outcome_map, refuses, taken_integer, taken_name}
-use Rattle.ciborium_value.specs.Taken.{taken_skip, then_read, then_take}
+use Rattle.ciborium_value.specs.StructReadings.{FieldsGiven, take_fields, take_named}
+use Rattle.ciborium_value.specs.Labels.{Label, label_kind, label_place, placed, given_label}
+use Rattle.ciborium_value.specs.Given.{Outcome, gives, nests, outcome, outcome_map, refuses, given_integer, given_name}
+use Rattle.ciborium_value.specs.Given.{given_skip, then_read, then_take}
 use Rattle.ciborium_value.specs.declared.labels.LabelKind.{LabelKind}
 use Rattle.ciborium_value.specs.declared.labels.LabelKind.TheVariants as kind
 use Rattle.ciborium_value.specs.declared.wanted.FieldPlace.TheVariants.{First, Behind}
@@ -23,13 +23,13 @@ map-twice f g nests = refl
 
 -- the place of a key is that of its label
 label-placed : {P : Type 0} (place : Label → P) (l : Limit) (i : Item) →
-    outcome l (label_place place i) ≡ outcome_map place (outcome l (taken_label i))
+    outcome l (label_place place i) ≡ outcome_map place (outcome l (given_label i))
 label-placed place l i = by (label_kind i)
   where
     by : (k : LabelKind) → outcome l (placed place k i) ≡ outcome_map place (outcome l (placed (λ x. x) k i))
-    by kind.Name = map-twice _ place (outcome l (taken_name i))
-    by kind.Number = map-twice _ place (outcome l (taken_integer i))
-    by kind.Other = map-twice _ place (outcome l (taken_skip i))
+    by kind.Name = map-twice _ place (outcome l (given_name i))
+    by kind.Number = map-twice _ place (outcome l (given_integer i))
+    by kind.Other = map-twice _ place (outcome l (given_skip i))
 
 -- what has a place is a label with this place
 name_at : {A P : Type 0} (place : A → P) {p : P} (o : Outcome A) → outcome_map place o ≡ gives p →
@@ -53,18 +53,18 @@ behind_first false q p h = (refl, cc)
 -- ---- a map
 
 module _ {S Q : Type 0} (StandsBefore : S → Limit → Ahead → Type 0) (SeqStands : Q → Limit → Rest → Type 0) {C : Type 0}
-    (fields : FieldsTaken C) where
+    (fields : FieldsGiven C) where
   -- pairs of a map are left, which are read onto this
   abbrev pub IsInsideFields : S → Q → C → Limit → Rest → Outcome C → Type 0
-  IsInsideFields now q c l f o = (form : Form) × (ps : List (Item × Item)) ×
-      StandsBefore now (inside form l) (after (pairs form ps f)) × SeqStands q l (pairs form ps f) ×
-      (o ≡ outcome (inside form l) (take_fields fields c ps))
+  IsInsideFields now q c l f o = (span : Span) × (ps : List (Item × Item)) ×
+      StandsBefore now (inside span l) (after (pairs span ps f)) × SeqStands q l (pairs span ps f) ×
+      (o ≡ outcome (inside span l) (take_fields fields c ps))
 
   -- a key is ahead
   abbrev IsAtName : S → Q → C → Limit → Rest → Outcome C → Type 0
-  IsAtName now q c l f o = (form : Form) × (k : Item) × (v : Item) × (ps : List (Item × Item)) ×
-      StandsBefore now (inside form l) (item k (entry v form ps f)) × SeqStands q l (pairs form ps f) ×
-      (o ≡ outcome (inside form l) (take_fields fields c ((k, v) ∷ ps)))
+  IsAtName now q c l f o = (span : Span) × (k : Item) × (v : Item) × (ps : List (Item × Item)) ×
+      StandsBefore now (inside span l) (item k (entry v span ps f)) × SeqStands q l (pairs span ps f) ×
+      (o ≡ outcome (inside span l) (take_fields fields c ((k, v) ∷ ps)))
 
   pub fields_blame_next : {old : S} {q : Q} (c : C) (fault : Fault) → RefusesNext StandsBefore SeqStands old q fault →
       Follows (IsInsideFields old q c) (IsBlamed fault)
@@ -89,10 +89,10 @@ module _ {S Q : Type 0} (StandsBefore : S → Limit → Ahead → Type 0) (SeqSt
   module _ {P : Type 0} (place : Label → P) where
     -- the key was read as a label with this place, and its value is ahead
     abbrev IsAtField : S → Q → C → P → Limit → Rest → Outcome C → Type 0
-    IsAtField now q c p l f o = (form : Form) × (v : Item) × (ps : List (Item × Item)) ×
-        StandsBefore now (inside form l) (item v (pairs form ps f)) × SeqStands q l (pairs form ps f) ×
+    IsAtField now q c p l f o = (span : Span) × (v : Item) × (ps : List (Item × Item)) ×
+        StandsBefore now (inside span l) (item v (pairs span ps f)) × SeqStands q l (pairs span ps f) ×
         (name : Label) × (place name ≡ p) ×
-        (o ≡ outcome (inside form l) (then_read (fields name c v) (λ d. take_fields fields d ps)))
+        (o ≡ outcome (inside span l) (then_read (fields name c v) (λ d. take_fields fields d ps)))
 
     name_blames : {old : S} {q : Q} (c : C) (fault : Fault) → RefusesAhead StandsBefore old (label_place place) fault →
         Follows (IsAtName old q c) (IsBlamed fault)
@@ -101,7 +101,7 @@ module _ {S Q : Type 0} (StandsBefore : S → Limit → Ahead → Type 0) (SeqSt
           let m = inside w.0 l in
           subst (IsFaultOf (end_of f) fault) (sym w.6)
           (fault_then _ fault (outcome m (take_named fields c (w.1, w.2))) (λ d. outcome m (take_fields fields d w.3))
-          (fault_place _ fault place (outcome m (taken_label w.1)) (λ name. outcome m (fields name c w.2))
+          (fault_place _ fault place (outcome m (given_label w.1)) (λ name. outcome m (fields name c w.2))
           (subst (IsFaultOf (end_of f) fault) (label-placed place m w.1) (h m w.1 (entry w.2 w.0 w.3 f) w.4))));
     }
 
@@ -111,7 +111,7 @@ module _ {S Q : Type 0} (StandsBefore : S → Limit → Ahead → Type 0) (SeqSt
       at = λ l f o w.
           let m = inside w.0 l in
           let n = h m w.1 (entry w.2 w.0 w.3 f) w.4 in
-          let named = name_at place (outcome m (taken_label w.1)) (sym (label-placed place m w.1) ∙ n.0) in (
+          let named = name_at place (outcome m (given_label w.1)) (sym (label-placed place m w.1) ∙ n.0) in (
             w.0,
             w.2,
             w.3,

@@ -2,7 +2,7 @@
 use Rattle.std.proofs.Common.{◌≡◌, ℕ, ◌≤◌, List, [], ◌∷◌, ◌++◌, refl, sym, ◌∙◌, ap, subst, append_assoc}
 use Rattle.std.proofs.Common.{append-nil, Result, Ok, Err, IsErrAnd}
 use Rattle.ciborium_ll.specs.Item.{Item}
-use Rattle.ciborium_value.specs.Ahead.{Ahead, Rest, Form, item, after, parts, past, inside, end_of}
+use Rattle.ciborium_value.specs.Ahead.{Ahead, Rest, Span, item, after, parts, past, inside, end_of}
 use Rattle.ciborium_value.specs.Nesting.{Limit}
 use Rattle.ciborium_value.specs.Places.{Shape, sequence}
 use Rattle.ciborium_value.specs.EnteredSequences.{RefusesInTurn, TakesRest, TakesInTurn}
@@ -11,9 +11,9 @@ use Rattle.ciborium_value.specs.Sources.{IsFaultOf, IsOutsideFault, TakesAhead, 
 use Rattle.ciborium_value.specs.Sources.{RefusesNext, TakesTo, TakesItem, OwesLess, OwesNothing, TakesOnly}
 use Rattle.ciborium_value.specs.Sources.{TakesOneItem}
 use Rattle.ciborium_value.specs.lemmas.GivenOutcomes.{and_take}
-use Rattle.ciborium_value.specs.Taken.{Outcome, Steps, Taken, deeper_if, gives, mapped, nests, outcome, outcome_map}
-use Rattle.ciborium_value.specs.Taken.{refuses, take_each, taken_value, then_take}
-use Rattle.ciborium_value.specs.TakenParts.{taken_list, no_part_taken}
+use Rattle.ciborium_value.specs.Given.{Outcome, Steps, Given, deeper_if, gives, mapped, nests, outcome, outcome_map}
+use Rattle.ciborium_value.specs.Given.{refuses, take_each, given_value, then_take}
+use Rattle.ciborium_value.specs.GivenParts.{given_list, no_part_given}
 use Rattle.ciborium_value.specs.Tree.{Tree}
 
 -- ---- who is to blame
@@ -63,24 +63,24 @@ IsBlamed fault l f o = IsFaultOf (end_of f) fault o
 
 module _ {S : Type 0} (StandsBefore : S → Limit → Ahead → Type 0) where
   -- an item is ahead, which gives the outcome
-  abbrev pub IsBefore : {C : Type 0} → S → Taken C → Limit → Rest → Outcome C → Type 0
+  abbrev pub IsBefore : {C : Type 0} → S → Given C → Limit → Rest → Outcome C → Type 0
   IsBefore now taken l f o = (i : Item) × StandsBefore now l (item i f) × (o ≡ outcome l (taken i))
 
   -- the outcome is this, and the item was taken
   abbrev pub IsPast : {C : Type 0} → S → C → Limit → Rest → Outcome C → Type 0
   IsPast now v l f o = (o ≡ gives v) × StandsBefore now l (past f)
 
-  pub takes : {C : Type 0} {old new : S} (taken : Taken C) {v : C} → Follows (IsBefore old taken) (IsPast new v) →
+  pub takes : {C : Type 0} {old new : S} (taken : Given C) {v : C} → Follows (IsBefore old taken) (IsPast new v) →
       TakesAhead StandsBefore old new taken v
   takes taken h l i f st = h.at l f _ (i, st, refl)
 
-  pub blames : {C : Type 0} {old : S} (taken : Taken C) (fault : Fault) →
+  pub blames : {C : Type 0} {old : S} (taken : Given C) (fault : Fault) →
       Follows (IsBefore old taken) (IsBlamed fault) → RefusesAhead StandsBefore old taken fault
   blames taken fault h l i f st = h.at l f _ (i, st, refl)
 
 -- what is said of a call for one item that passes an error on
 pub passes_on : {S A V E : Type 0} {StandsBefore : S → Limit → Ahead → Type 0} {IsUnread : S → List ℕ → Type 0}
-    {HasTaken : S → S → Type 0} {left : S → ℕ} {cause : S → E → Fault} {old new : S} {taken : Taken A}
+    {HasTaken : S → S → Type 0} {left : S → ℕ} {cause : S → E → Fault} {old new : S} {taken : Given A}
     {content : V → A} (r : Result V E) (e : E) → IsErrAnd r (λ y. y ≡ e) →
     RefusesAhead StandsBefore old taken (cause new e) → TakesOnly HasTaken old new → left new ≤ left old →
     TakesOneItem StandsBefore IsUnread HasTaken left cause old new taken content r
@@ -98,15 +98,15 @@ passes_on {StandsBefore = StandsBefore} {cause = cause} {old = old} {new = new} 
 module _ {S Q : Type 0} (StandsBefore : S → Limit → Ahead → Type 0) (SeqStands : Q → Limit → Rest → Type 0) where
   -- items of a sequence are left, of which k makes the outcome
   abbrev pub IsInside : {C : Type 0} → S → Q → (List Item → Steps C) → Limit → Rest → Outcome C → Type 0
-  IsInside now q k l f o = (form : Form) × (is : List Item) ×
-      StandsBefore now (inside form l) (after (parts form is f)) × SeqStands q l (parts form is f) ×
-      (o ≡ outcome (inside form l) (k is))
+  IsInside now q k l f o = (span : Span) × (is : List Item) ×
+      StandsBefore now (inside span l) (after (parts span is f)) × SeqStands q l (parts span is f) ×
+      (o ≡ outcome (inside span l) (k is))
 
   -- one of them is ahead
   abbrev pub IsAtPart : {C : Type 0} → S → Q → (List Item → Steps C) → Limit → Rest → Outcome C → Type 0
-  IsAtPart now q k l f o = (form : Form) × (i : Item) × (is : List Item) ×
-      StandsBefore now (inside form l) (item i (parts form is f)) × SeqStands q l (parts form is f) ×
-      (o ≡ outcome (inside form l) (k (i ∷ is)))
+  IsAtPart now q k l f o = (span : Span) × (i : Item) × (is : List Item) ×
+      StandsBefore now (inside span l) (item i (parts span is f)) × SeqStands q l (parts span is f) ×
+      (o ≡ outcome (inside span l) (k (i ∷ is)))
 
   module _ {C : Type 0} (k : List Item → Steps C) where
     pub goes_on : {old new : S} {q q' : Q} → GoesOn StandsBefore SeqStands old new q q' →
@@ -122,7 +122,7 @@ module _ {S Q : Type 0} (StandsBefore : S → Limit → Ahead → Type 0) (SeqSt
     blames_next fault h = record { at = λ l f o w. fault_outside _ fault o (h.0 l w.0 w.1 f w.2 w.3) }
 
     -- the part gives v, and k makes of it what k' makes of the rest
-    pub reads : {A : Type 0} {old new : S} {q : Q} (first : Taken A) {v : A} (k' : List Item → Steps C) →
+    pub reads : {A : Type 0} {old new : S} {q : Q} (first : Given A) {v : A} (k' : List Item → Steps C) →
         TakesAhead StandsBefore old new first v → ((m : Limit) (i : Item) (is : List Item) →
         outcome m (first i) ≡ gives v → outcome m (k (i ∷ is)) ≡ outcome m (k' is)) →
         Follows (IsAtPart old q k) (IsInside new q k')
@@ -132,7 +132,7 @@ module _ {S Q : Type 0} (StandsBefore : S → Limit → Ahead → Type 0) (SeqSt
           (w.0, w.2, n.1, w.4, w.5 ∙ step (inside w.0 l) w.1 w.2 n.0);
     }
 
-    pub blames_part : {A : Type 0} {old : S} {q : Q} (first : Taken A) (fault : Fault) →
+    pub blames_part : {A : Type 0} {old : S} {q : Q} (first : Given A) (fault : Fault) →
         RefusesAhead StandsBefore old first fault → ((end : ℕ) (m : Limit) (i : Item) (is : List Item) →
         IsFaultOf end fault (outcome m (first i)) → IsFaultOf end fault (outcome m (k (i ∷ is)))) →
         Follows (IsAtPart old q k) (IsBlamed fault)
@@ -152,7 +152,7 @@ module _ {S Q : Type 0} (StandsBefore : S → Limit → Ahead → Type 0) (SeqSt
 -- ---- lists
 
 -- what a list becomes of which these items were read
-abbrev pub list_from : {A : Type 0} → Taken A → List A → List Item → Steps (List A)
+abbrev pub list_from : {A : Type 0} → Given A → List A → List Item → Steps (List A)
 list_from taken vs is = mapped (λ ws. vs ++ ws) (take_each taken is)
 
 none_listed : {A : Type 0} (o : Outcome (List A)) → o ≡ outcome_map (λ ws. [] ++ ws) o
@@ -172,9 +172,9 @@ one_more_dropped v (refuses k) = refl
 one_more_dropped v nests = refl
 
 module _ {S Q : Type 0} (StandsBefore : S → Limit → Ahead → Type 0) (SeqStands : Q → Limit → Rest → Type 0) {A : Type 0}
-    (taken : Taken A) where
+    (taken : Given A) where
   pub list_begins : {old new : S} {q : Q} (vs : List A) → vs ≡ [] → Enters StandsBefore SeqStands old new q →
-      Follows (IsBefore StandsBefore old (taken_list taken))
+      Follows (IsBefore StandsBefore old (given_list taken))
       (IsInside StandsBefore SeqStands new q (list_from taken vs))
   list_begins vs none h = record {
     at = λ l f o w.
@@ -214,32 +214,32 @@ module _ {S Q : Type 0} (StandsBefore : S → Limit → Ahead → Type 0) (SeqSt
   pub takes_parts : {C : Type 0} {old new : S} {q : Q} (taken : List Item → Steps C) {c : C} →
       Follows (IsInside StandsBefore SeqStands old q taken) (IsPast StandsBefore new c) →
       TakesInTurn StandsBefore SeqStands old new q taken c
-  takes_parts taken h l form is f st sq = h.at l f _ (form, is, st, sq, refl)
+  takes_parts taken h l span is f st sq = h.at l f _ (span, is, st, sq, refl)
 
   pub refuses_parts : {C : Type 0} {old : S} {q : Q} (taken : List Item → Steps C) (fault : Fault) →
       Follows (IsInside StandsBefore SeqStands old q taken) (IsBlamed fault) →
       RefusesInTurn StandsBefore SeqStands old q taken fault
-  refuses_parts taken fault h l form is f st sq = h.at l f _ (form, is, st, sq, refl)
+  refuses_parts taken fault h l span is f st sq = h.at l f _ (span, is, st, sq, refl)
 
   -- no part more: each item that is left is dropped
   pub drop_more : {old ahead new : S} {q q' : Q} {v : Tree} → GoesOn StandsBefore SeqStands old ahead q q' →
-      TakesAhead StandsBefore ahead new taken_value v → Follows (IsInside StandsBefore SeqStands old q no_part_taken)
-      (IsInside StandsBefore SeqStands new q' no_part_taken)
-  drop_more {v = v} h t = so (goes_on StandsBefore SeqStands no_part_taken h)
-      (reads StandsBefore SeqStands no_part_taken taken_value no_part_taken t (λ m i is e. ap
-      (λ o. then_take (and_take o (outcome m (take_each taken_value is))) (λ _. gives tt)) e ∙
-      one_more_dropped v (outcome m (take_each taken_value is))))
+      TakesAhead StandsBefore ahead new given_value v → Follows (IsInside StandsBefore SeqStands old q no_part_given)
+      (IsInside StandsBefore SeqStands new q' no_part_given)
+  drop_more {v = v} h t = so (goes_on StandsBefore SeqStands no_part_given h)
+      (reads StandsBefore SeqStands no_part_given given_value no_part_given t (λ m i is e. ap
+      (λ o. then_take (and_take o (outcome m (take_each given_value is))) (λ _. gives tt)) e ∙
+      one_more_dropped v (outcome m (take_each given_value is))))
 
   pub drop_blames : {old ahead : S} {q q' : Q} (fault : Fault) → GoesOn StandsBefore SeqStands old ahead q q' →
-      RefusesAhead StandsBefore ahead taken_value fault →
-      Follows (IsInside StandsBefore SeqStands old q no_part_taken) (IsBlamed fault)
-  drop_blames fault h t = so (goes_on StandsBefore SeqStands no_part_taken h)
-      (blames_part StandsBefore SeqStands no_part_taken taken_value fault t
-      (λ end m i is e. fault_then _ fault _ (λ _. gives tt) (fault_then _ fault (outcome m (taken_value i)) _ e)))
+      RefusesAhead StandsBefore ahead given_value fault →
+      Follows (IsInside StandsBefore SeqStands old q no_part_given) (IsBlamed fault)
+  drop_blames fault h t = so (goes_on StandsBefore SeqStands no_part_given h)
+      (blames_part StandsBefore SeqStands no_part_given given_value fault t
+      (λ end m i is e. fault_then _ fault _ (λ _. gives tt) (fault_then _ fault (outcome m (given_value i)) _ e)))
 
   pub drop_ends : {old new : S} {q : Q} → Leaves StandsBefore SeqStands old new q →
-      Follows (IsInside StandsBefore SeqStands old q no_part_taken) (IsPast StandsBefore new tt)
-  drop_ends h = leaves StandsBefore SeqStands no_part_taken tt h (λ m. refl)
+      Follows (IsInside StandsBefore SeqStands old q no_part_given) (IsPast StandsBefore new tt)
+  drop_ends h = leaves StandsBefore SeqStands no_part_given tt h (λ m. refl)
 
 -- ---- known bytes
 

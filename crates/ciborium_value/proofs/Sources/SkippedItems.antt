@@ -3,7 +3,7 @@ use Rattle.std.proofs.Common.{◌≡◌, ℕ, zero, suc, ◌<◌, Some, None, re
 use Rattle.ciborium_ll.specs.Item.{Item}
 use Rattle.ciborium_value.specs.Labels.{Label, label_kind, label_place, other}
 use Rattle.ciborium_value.specs.Nesting.{Limit, IsWithin, nesting}
-use Rattle.ciborium_value.specs.Taken.{gives, nests, outcome, outcome_map, give, within_levels, taken_skip}
+use Rattle.ciborium_value.specs.Given.{gives, nests, outcome, outcome_map, give, within_levels, given_skip}
 use Rattle.ciborium_value.specs.declared.labels.LabelKind.TheVariants as kind
 
 levels-gives : (n : ℕ) (l : Limit) → IsWithin l n → outcome l (within_levels n (give (tt {0}))) ≡ gives (tt {0})
@@ -17,10 +17,10 @@ levels-nests zero m h = absurd (omega (arith, h))
 levels-nests (suc n) zero h = refl
 levels-nests (suc n) (suc m) h = levels-nests n m (omega (arith, h))
 
-pub skip-gives : (l : Limit) (i : Item) → IsWithin l (nesting i) → outcome l (taken_skip i) ≡ gives (tt {0})
+pub skip-gives : (l : Limit) (i : Item) → IsWithin l (nesting i) → outcome l (given_skip i) ≡ gives (tt {0})
 skip-gives l i h = levels-gives (nesting i) l h
 
-pub skip-nests : (m : ℕ) (i : Item) → m < nesting i → outcome (Some m) (taken_skip i) ≡ nests
+pub skip-nests : (m : ℕ) (i : Item) → m < nesting i → outcome (Some m) (given_skip i) ≡ nests
 skip-nests m i h = levels-nests (nesting i) m h
 
 -- a key that is neither a name nor a number

@@ -3,7 +3,7 @@ use Rattle.std.proofs.Common.{◌≡◌, ◌<◌, ℕ, None, Result, Ok, Err, If
 use Rattle.std.specs.Borrow.{Bor}
 use Rattle.ciborium_ll.specs.Item.{Item}
 use Rattle.ciborium_value.specs.Sources.{IsFaultOf, TakesOneItem}
-use Rattle.ciborium_value.specs.Taken.{Outcome, Taken, gives, outcome}
+use Rattle.ciborium_value.specs.Given.{Outcome, Given, gives, outcome}
 use Rattle.ciborium_value.specs.Ahead.{end_of}
 use Rattle.ciborium_value.specs.TreeAnswers.{IsErrorOf, tree_fault, value_item}
 use Rattle.ciborium_value.specs.declared.deserialized.Pending.{Pending}
@@ -24,7 +24,7 @@ fault_of_error end (Custom k) o h = h
 fault_of_error end Memory o h = tt
 
 -- what was ahead was taken, and the value that is due comes next
-module _ {A V : Type 0} (taken : Taken A) (content : V → A) (old new : TreeSource)
+module _ {A V : Type 0} (taken : Given A) (content : V → A) (old new : TreeSource)
     (next : new.ahead ≡ pending_due old.due) (none : new.due ≡ None) where
   abbrev pub TakesOneOfTree : Result V Error → Type 0
   TakesOneOfTree = TakesOneItem IsTreeAt (λ source b. ⊥) (λ first now. Unit {0}) source_weight (λ _ e. tree_fault e) old

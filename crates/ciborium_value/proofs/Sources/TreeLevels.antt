@@ -5,8 +5,8 @@ use Rattle.std.specs.Str.{is_utf8, IsUtf8}
 use Rattle.std.proofs.lemmas.Str.{IsUtf8-from_is_utf8, is_utf8-from_IsUtf8}
 use Rattle.ciborium_ll.specs.Item.{Item}
 use Rattle.ciborium_value.specs.Encoding.{item_of, pairs_of}
-use Rattle.ciborium_value.specs.Taken.{gives, refuses, taken_name, bare_name, lone_pair, taken_variant, bare_variant}
-use Rattle.ciborium_value.specs.Taken.{outcome, settled, untagged}
+use Rattle.ciborium_value.specs.Given.{gives, refuses, given_name, bare_name, lone_pair, given_variant, bare_variant}
+use Rattle.ciborium_value.specs.Given.{outcome, settled, untagged}
 use Rattle.std.specs.Borrow.{Bor}
 use Rattle.ciborium_value.specs.Ahead.{Rest, entry, past}
 use Rattle.ciborium_value.specs.inner.TreeSources.{IsTreeAhead, IsDueValue, IsPending, pending_due}
@@ -22,7 +22,7 @@ use Rattle.ciborium_value.proofs.Trees.Views.{tree_of-Bytes, tree_of-Map}
 
 -- the name that a byte string is, behind the tags of an item
 pub name_of_bytes : (v : Value) (bs : Vec ℕ Global) (i : Item) (b : List ℕ) → v ≡ value.Bytes bs →
-    value_item v ≡ untagged i → b ≡ bs.items → IsUtf8 b → outcome None (taken_name i) ≡ gives b
+    value_item v ≡ untagged i → b ≡ bs.items → IsUtf8 b → outcome None (given_name i) ≡ gives b
 name_of_bytes v bs i b is h e u =
     let t = is_utf8-from_IsUtf8 b u in
     ap (λ j. settled (bare_name j)) (sym h ∙ ap item_of (ap tree_of is ∙ tree_of-Bytes bs)) ∙ (rw (sym e, t) refl)
@@ -32,7 +32,7 @@ utf8_not b n true e = absurd (n (IsUtf8-from_is_utf8 b e))
 utf8_not b n false e = e
 
 pub no_name_of_bytes : (v : Value) (bs : Vec ℕ Global) (i : Item) (b : List ℕ) → v ≡ value.Bytes bs →
-    value_item v ≡ untagged i → b ≡ bs.items → (IsUtf8 b → ⊥) → outcome None (taken_name i) ≡ refuses kinds.Name
+    value_item v ≡ untagged i → b ≡ bs.items → (IsUtf8 b → ⊥) → outcome None (given_name i) ≡ refuses kinds.Name
 no_name_of_bytes v bs i b is h e n =
     let t = utf8_not b n (is_utf8 b) refl in
     ap (λ j. settled (bare_name j)) (sym h ∙ ap item_of (ap tree_of is ∙ tree_of-Bytes bs)) ∙ (rw (sym e, t) refl)
@@ -47,7 +47,7 @@ more_pairs ps p (q ∷ qs) e n = rw e refl
 -- a map, behind the tags of an item, is a variant as its lone pair is
 pub variant_of_map : (v : Value) (ps : Vec (Value × Value) Global) (qs : List (Value × Value)) (i : Item) →
     v ≡ value.Map ps → value_item v ≡ untagged i → qs ≡ ps.items →
-    outcome None (taken_variant i) ≡ outcome None (lone_pair (pairs_of (tree_pairs_of qs)))
+    outcome None (given_variant i) ≡ outcome None (lone_pair (pairs_of (tree_pairs_of qs)))
 variant_of_map v ps qs i is h e =
     ap (λ j. outcome None (bare_variant j)) (sym h ∙ ap item_of (ap tree_of is ∙ tree_of-Map ps)) ∙
     (rw (sym e) refl)
@@ -56,6 +56,6 @@ variant_of_map v ps qs i is h e =
 
 pub due_is_ahead : (new : TreeSource) (due : Option (Bor Value)) (f : Rest) → IsDueValue due f →
     new.ahead ≡ pending_due due → IsTreeAhead new (past f)
-due_is_ahead new None (entry v form ps f) h e = elim h [ ]
-due_is_ahead new (Some w) (entry v form ps f) h e = subst (λ o. IsPending o v × Unit {0}) (sym e) (h, tt)
+due_is_ahead new None (entry v span ps f) h e = elim h [ ]
+due_is_ahead new (Some w) (entry v span ps f) h e = subst (λ o. IsPending o v × Unit {0}) (sym e) (h, tt)
 due_is_ahead new due u h e = tt

@@ -5,12 +5,12 @@ use Rattle.std.proofs.Common.{Bool, true, false, ap, ◌∙◌, arith, subst}
 use Rattle.std.proofs.lemmas.Str.{chars_past_char, chars-nil}
 use Rattle.std.proofs.lemmas.List.{nil_from_length}
 use Rattle.ciborium_ll.specs.Item.{Item, unsigned}
-use Rattle.ciborium_value.specs.Ahead.{Form, Rest, counted, inside, of_bytes, takes_level, until_break}
+use Rattle.ciborium_value.specs.Ahead.{Span, Rest, counted, inside, of_bytes, takes_level, until_break}
 use Rattle.ciborium_value.specs.Encoding.{item_of, items_of, pairs_of}
 use Rattle.ciborium_value.specs.Nesting.{Limit}
-use Rattle.ciborium_value.specs.Taken.{Outcome, Taken, gives, outcome, outcome_map, unpack, unpack_pairs}
-use Rattle.ciborium_value.specs.Taken.{taken_seq, taken_pairs, bare_seq, bare_pairs, untagged, lone_character}
-use Rattle.ciborium_value.specs.Taken.{bare_bytes, taken_bytes, taken_byte, take_each}
+use Rattle.ciborium_value.specs.Given.{Outcome, Given, gives, outcome, outcome_map, unpack, unpack_pairs}
+use Rattle.ciborium_value.specs.Given.{given_seq, given_pairs, bare_seq, bare_pairs, untagged, lone_character}
+use Rattle.ciborium_value.specs.Given.{bare_bytes, given_bytes, given_byte, take_each}
 use Rattle.std.specs.Borrow.{Bor}
 use Rattle.ciborium_value.specs.inner.TreeSources.{IsDueValue, pair_items, value_weight, pending_due}
 use Rattle.ciborium_value.specs.inner.TreeSources.{pending_tree_weight, due_weight}
@@ -37,37 +37,37 @@ unpack-tree_pairs (p ∷ ps) = ap (λ qs. pair_items p ∷ qs) (unpack-tree_pair
 
 -- a value, behind the tags of an item, is an array
 pub seq_of : (v : Value) (vs : Vec Value Global) (i : Item) → v ≡ value.Array vs → value_item v ≡ untagged i →
-    outcome None (taken_seq i) ≡ gives (true, map value_item vs.items)
+    outcome None (given_seq i) ≡ gives (true, map value_item vs.items)
 seq_of v vs i is h = ap (λ j. outcome None (bare_seq j)) (sym h ∙ ap item_of (ap tree_of is ∙ tree_of-Array vs)) ∙
     ap (λ js. gives (true, js)) (unpack-trees vs.items)
 
 -- a byte string
 pub bytes_of : (v : Value) (bs : Vec ℕ Global) (i : Item) → v ≡ value.Bytes bs → value_item v ≡ untagged i →
-    outcome None (taken_seq i) ≡ gives (false, map unsigned bs.items)
+    outcome None (given_seq i) ≡ gives (false, map unsigned bs.items)
 bytes_of v bs i is h = ap (λ j. outcome None (bare_seq j)) (sym h ∙ ap item_of (ap tree_of is ∙ tree_of-Bytes bs))
 
 -- a map
 pub map_of : (v : Value) (ps : Vec (Value × Value) Global) (i : Item) → v ≡ value.Map ps → value_item v ≡ untagged i →
-    outcome None (taken_pairs i) ≡ gives (true, map pair_items ps.items)
+    outcome None (given_pairs i) ≡ gives (true, map pair_items ps.items)
 map_of v ps i is h = ap (λ j. outcome None (bare_pairs j)) (sym h ∙ ap item_of (ap tree_of is ∙ tree_of-Map ps)) ∙
     ap (λ qs. gives (true, qs)) (unpack-tree_pairs ps.items)
 
-no_limit : (form : Form) → inside form None ≡ None
+no_limit : (span : Span) → inside span None ≡ None
 no_limit counted = refl
 no_limit until_break = refl
 no_limit of_bytes = refl
 
 -- a source that stood before a container stands before its parts, and what is due behind it is kept
-pub opened : {V X : Type 0} (taken : Taken (Bool × List X)) (form : Form) (part : V → X) (all left : List V) →
+pub begun : {V X : Type 0} (taken : Given (Bool × List X)) (span : Span) (part : V → X) (all left : List V) →
     left ≡ all → (old new : Option (Bor Value)) → new ≡ old → (l : Limit) (i : Item) (f : Rest) → l ≡ None →
-    IsDueValue old f → outcome None (taken i) ≡ gives (takes_level form, map part all) →
-    (form : Form) × (xs : List X) × (outcome l (taken i) ≡ gives (takes_level form, xs)) ×
-    ((inside form l ≡ None) × Unit {0}) × ((l ≡ None) × (map part left ≡ xs) × IsDueValue new f)
-opened taken form part all left same old new due l i f none at give = (
-  form,
+    IsDueValue old f → outcome None (taken i) ≡ gives (takes_level span, map part all) →
+    (span : Span) × (xs : List X) × (outcome l (taken i) ≡ gives (takes_level span, xs)) ×
+    ((inside span l ≡ None) × Unit {0}) × ((l ≡ None) × (map part left ≡ xs) × IsDueValue new f)
+begun taken span part all left same old new due l i f none at give = (
+  span,
   map part all,
   ap (λ k. outcome k (taken i)) none ∙ give,
-  (ap (inside form) none ∙ no_limit form, tt),
+  (ap (inside span) none ∙ no_limit span, tt),
   (none, ap (map part) same, subst (λ o. IsDueValue o f) (sym due) at),
 )
 
@@ -102,10 +102,10 @@ behind_these done o = outcome_map (λ vs. done ++ vs) o
 
 -- the numbers of an array
 pub numbers_of : (v : Value) (vs : Vec Value Global) (i : Item) → v ≡ value.Array vs → value_item v ≡ untagged i →
-    outcome None (taken_bytes i) ≡ outcome None (take_each taken_byte (map value_item vs.items))
+    outcome None (given_bytes i) ≡ outcome None (take_each given_byte (map value_item vs.items))
 numbers_of v vs i is h =
     ap (λ j. outcome None (bare_bytes j)) (sym h ∙ ap item_of (ap tree_of is ∙ tree_of-Array vs)) ∙
-    ap (λ js. outcome None (take_each taken_byte js)) (unpack-trees vs.items)
+    ap (λ js. outcome None (take_each given_byte js)) (unpack-trees vs.items)
 
 -- ---- answers
 

@@ -54,7 +54,7 @@ nodes_of (t ∷ ts) = node_count t + nodes_of ts
 -- what a tree begins with: it is whole, or it opens and its parts come
 abbrev pub IsCopyBegun : Tree → Part → Type 0
 IsCopyBegun t (part.Whole v) = folded t ≡ Some (tree_of v)
-IsCopyBegun t (part.Opened o c) =
+IsCopyBegun t (part.Begun o c) =
     ((os : List TreeFrame) (ts : List Tree) →
     copied (more os) (t ∷ ts) ≡ copied (more (begun_frame o ∷ os)) (coming_trees c ++ ts)) ×
     (nodes_of (coming_trees c) < node_count t)

@@ -7,8 +7,8 @@ use Rattle.ciborium_value.specs.View.{tree_of, pair_trees}
 use Rattle.ciborium_value.specs.declared.tree.Value.{Value}
 use Rattle.ciborium_value.specs.declared.stack.Frame.{Frame}
 use Rattle.ciborium_value.specs.declared.stack.Frame.TheVariants as frame
-use Rattle.ciborium_value.specs.declared.stack.Opening.{Opening}
-use Rattle.ciborium_value.specs.declared.stack.Opening.TheVariants as opening
+use Rattle.ciborium_value.specs.declared.stack.NewFrame.{NewFrame}
+use Rattle.ciborium_value.specs.declared.stack.NewFrame.TheVariants as new_frames
 use Rattle.ciborium_value.specs.declared.stack.Stack.{Stack}
 
 -- a map whose last pair holds the key that waits, from these pairs, the last first
@@ -36,10 +36,10 @@ abbrev pub frames_of : Stack → List TreeFrame
 frames_of stack = tree_frames stack.frames.items
 
 -- the frame with which a container or tag begins
-abbrev pub begun_frame : Opening → TreeFrame
-begun_frame (opening.Array behind) = frames.array [] behind
-begun_frame (opening.Map behind) = frames.map [] behind None
-begun_frame (opening.Tag n) = frames.tag n
+abbrev pub begun_frame : NewFrame → TreeFrame
+begun_frame (new_frames.Array behind) = frames.array [] behind
+begun_frame (new_frames.Map behind) = frames.map [] behind None
+begun_frame (new_frames.Tag n) = frames.tag n
 
 -- the answer of a call that fills a frame, with what it then is
 abbrev pub filled_of : Option Value → TreeFrame → Filled

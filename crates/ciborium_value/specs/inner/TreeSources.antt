@@ -2,7 +2,8 @@
 use Rattle.std.specs.Prelude.{◌≡◌, ℕ, ◌+◌, List, map, length, Option, Some, None}
 use Rattle.std.specs.Borrow.{Bor}
 use Rattle.ciborium_ll.specs.Item.{Item, simple, unsigned}
-use Rattle.ciborium_value.specs.Ahead.{Ahead, Rest, item, after, bottom, parts, pairs, entry, held}
+use Rattle.ciborium_value.specs.Ahead.{Ahead, Rest, item, after, bottom, parts, pairs, entry}
+use Rattle.ciborium_value.specs.Ahead.{level_due}
 use Rattle.ciborium_value.specs.Counts.{node_count, payload_size, trees_node_count}
 use Rattle.ciborium_value.specs.Counts.{trees_payload_size, tree_pairs_node_count}
 use Rattle.ciborium_value.specs.Counts.{tree_pairs_payload_size}
@@ -40,10 +41,10 @@ pending_due (Some v) = pending.Whole v
 -- the value of a map that is due behind what is read next, if one is
 abbrev pub IsDueValue : Option (Bor Value) → Rest → Type 0
 IsDueValue due (bottom reader b) = Unit {0}
-IsDueValue due (parts form is f) = Unit {0}
-IsDueValue due (pairs form ps f) = Unit {0}
-IsDueValue due (entry v form ps f) = IsValue due v
-IsDueValue due (held f) = Unit {0}
+IsDueValue due (parts span is f) = Unit {0}
+IsDueValue due (pairs span ps f) = Unit {0}
+IsDueValue due (entry v span ps f) = IsValue due v
+IsDueValue due (level_due f) = Unit {0}
 
 abbrev pub IsTreeAhead : TreeSource → Ahead → Type 0
 IsTreeAhead s (item i f) = IsPending s.ahead i × IsDueValue s.due f
@@ -55,24 +56,24 @@ IsTreeAt s l a = (l ≡ None) × IsTreeAhead s a
 
 abbrev pub AreItems : List Value → Rest → Type 0
 AreItems vs (bottom reader b) = ⊥
-AreItems vs (parts form is f) = map value_item vs ≡ is
-AreItems vs (pairs form ps f) = ⊥
-AreItems vs (entry v form ps f) = ⊥
-AreItems vs (held f) = ⊥
+AreItems vs (parts span is f) = map value_item vs ≡ is
+AreItems vs (pairs span ps f) = ⊥
+AreItems vs (entry v span ps f) = ⊥
+AreItems vs (level_due f) = ⊥
 
 abbrev pub AreBytesOf : List ℕ → Rest → Type 0
 AreBytesOf bs (bottom reader b) = ⊥
-AreBytesOf bs (parts form is f) = map unsigned bs ≡ is
-AreBytesOf bs (pairs form ps f) = ⊥
-AreBytesOf bs (entry v form ps f) = ⊥
-AreBytesOf bs (held f) = ⊥
+AreBytesOf bs (parts span is f) = map unsigned bs ≡ is
+AreBytesOf bs (pairs span ps f) = ⊥
+AreBytesOf bs (entry v span ps f) = ⊥
+AreBytesOf bs (level_due f) = ⊥
 
 abbrev pub ArePairs : List (Value × Value) → Rest → Type 0
 ArePairs qs (bottom reader b) = ⊥
-ArePairs qs (parts form is f) = ⊥
-ArePairs qs (pairs form ps f) = map pair_items qs ≡ ps
-ArePairs qs (entry v form ps f) = ⊥
-ArePairs qs (held f) = ⊥
+ArePairs qs (parts span is f) = ⊥
+ArePairs qs (pairs span ps f) = map pair_items qs ≡ ps
+ArePairs qs (entry v span ps f) = ⊥
+ArePairs qs (level_due f) = ⊥
 
 -- what is left of a container
 abbrev pub IsLeftOf : Left → Rest → Type 0
@@ -83,10 +84,10 @@ IsLeftOf (left.Pairs qs) f = ArePairs qs.now f
 -- what follows a container
 abbrev pub behind_container : Rest → Rest
 behind_container (bottom reader b) = bottom reader b
-behind_container (parts form is f) = f
-behind_container (pairs form ps f) = f
-behind_container (entry v form ps f) = f
-behind_container (held f) = f
+behind_container (parts span is f) = f
+behind_container (pairs span ps f) = f
+behind_container (entry v span ps f) = f
+behind_container (level_due f) = f
 
 abbrev pub IsTreeSeqAt : TreeSeq → Limit → Rest → Type 0
 IsTreeSeqAt q l f = (l ≡ None) × IsLeftOf q.left f × IsDueValue q.due (behind_container f)

@@ -8,7 +8,7 @@ use Rattle.ciborium_value.specs.Nesting.{nesting}
 use Rattle.ciborium_value.specs.ProperTrees.{IsProperTree}
 use Rattle.ciborium_value.specs.SameContents.{IsAlike}
 use Rattle.ciborium_value.specs.Spelling.{deterministic, IsReadAs}
-use Rattle.ciborium_value.specs.Taken.{gives, refuses}
+use Rattle.ciborium_value.specs.Given.{gives, refuses}
 use Rattle.ciborium_value.specs.Tree.{Tree}
 use Rattle.ciborium_value.specs.declared.key_order.KeyOrder.{KeyOrder}
 use Rattle.ciborium_value.specs.declared.kind.Kind.{Kind}

@@ -2,7 +2,7 @@
 use Rattle.std.specs.Prelude.{◌≡◌, ◌↔◌, ℕ, ◌+◌, ◌≤◌, ◌⊎◌, List, ◌++◌, length}
 use Rattle.ciborium_ll.specs.Bytes.{AreBytes, greatest_offset}
 use Rattle.ciborium_ll.specs.Refusal.{Refusal}
-use Rattle.ciborium_value.specs.CanonicalTrees.{IsDeterministic}
+use Rattle.ciborium_value.specs.DeterministicTrees.{IsDeterministic}
 use Rattle.ciborium_value.specs.Encoding.{item_of}
 use Rattle.ciborium_value.specs.Nesting.{Limit, IsWithin, nesting}
 use Rattle.ciborium_value.specs.Refuses.{Refuses}

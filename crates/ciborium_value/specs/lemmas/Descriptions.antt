@@ -20,10 +20,10 @@ use Rattle.ciborium_value.specs.Readings.{tuple3_of}
 use Rattle.ciborium_value.specs.Readings.{tuple4_of}
 use Rattle.ciborium_value.specs.ReadsBack.{IsNameRead, IsReadBack}
 use Rattle.ciborium_value.specs.Sinks.{Named, container_of, number_item, or_null}
-use Rattle.ciborium_value.specs.StructReadings.{Fields, FieldsTaken, end_of_fields, field, field_or}
-use Rattle.ciborium_value.specs.StructReadings.{no_field_taken, no_other_taken, optional_field}
-use Rattle.ciborium_value.specs.StructReadings.{struct_of, taken_struct}
-use Rattle.ciborium_value.specs.Taken.{Taken}
+use Rattle.ciborium_value.specs.StructReadings.{Fields, FieldsGiven, end_of_fields, field, field_or}
+use Rattle.ciborium_value.specs.StructReadings.{no_field_given, no_other_given, optional_field}
+use Rattle.ciborium_value.specs.StructReadings.{struct_of, given_struct}
+use Rattle.ciborium_value.specs.Given.{Given}
 use Rattle.ciborium_value.specs.WrittenContents.{AreFieldsAlike, IsWrittenByContent, field_alike}
 use Rattle.ciborium_value.specs.WrittenContents.{list-alike, no_field_alike, option-alike}
 use Rattle.ciborium_value.specs.WrittenContents.{signed-alike, tuple1-alike, tuple2-alike}
@@ -97,16 +97,16 @@ as-never_byte_string never nulls h v = cc
 as-never_byte_string never byte_strings h v = never v
 
 -- a type by its laws
-abbrev pub scalar : {T C : Type 0} (r : Reading T C) (written : T → Named) (IsHeld : T → Type 0)
-    (avoids : Avoided → Bool) → IsReadBack IsHeld written r.taken r.content (λ v. 0) →
-    ((o : KeyOrder) → IsReadFromForm o IsHeld written r.taken r.content) →
+abbrev pub scalar : {T C : Type 0} (r : Reading T C) (written : T → Named) (IsValid : T → Type 0)
+    (avoids : Avoided → Bool) → IsReadBack IsValid written r.taken r.content (λ v. 0) →
+    ((o : KeyOrder) → IsReadFromForm o IsValid written r.taken r.content) →
     IsWrittenByContent written r.content →
     ((a : Avoided) → avoids a ≡ true → (v : T) → IsNever a (written v)) → Description T
-scalar {C = C} r written IsHeld avoids back form alike never = record {
+scalar {C = C} r written IsValid avoids back form alike never = record {
   Content = C;
   reading = r;
   written = written;
-  is_held = IsHeld;
+  is_valid = IsValid;
   levels = λ v. 0;
   avoids = avoids;
   is_sound = true;
@@ -134,12 +134,12 @@ written_as part d = record {
   Content = d.Content;
   reading = read_as part d.reading;
   written = λ v. d.written (part v);
-  is_held = λ v. d.is_held (part v);
+  is_valid = λ v. d.is_valid (part v);
   levels = λ v. d.levels (part v);
   avoids = d.avoids;
   is_sound = d.is_sound;
-  reads_back = λ sound v held. d.reads_back sound (part v) held;
-  form_reads_back = λ sound o v held. d.form_reads_back sound o (part v) held;
+  reads_back = λ sound v valid. d.reads_back sound (part v) valid;
+  form_reads_back = λ sound o v valid. d.form_reads_back sound o (part v) valid;
   writes_content = λ v w same. d.writes_content (part v) (part w) same;
   never = λ a h v. d.never a h (part v);
 }
@@ -151,13 +151,14 @@ tested part d test kind = record {
   Content = d.Content;
   reading = such_that (λ v. d.reading.content (part v)) d.reading test kind;
   written = λ v. d.written (part v);
-  is_held = λ v. d.is_held (part v) × (test (d.reading.content (part v)) ≡ true);
+  is_valid = λ v. d.is_valid (part v) × (test (d.reading.content (part v)) ≡ true);
   levels = λ v. d.levels (part v);
   avoids = d.avoids;
   is_sound = d.is_sound;
-  reads_back = λ sound v held. such_that_back test kind (d.reads_back sound (part v) held.0) held.1;
-  form_reads_back = λ sound o v held.
-      such_that_form o test kind (d.form_reads_back sound o (part v) held.0) held.1;
+  reads_back = λ sound v valid. such_that_back test kind
+      (d.reads_back sound (part v) valid.0) valid.1;
+  form_reads_back = λ sound o v valid.
+      such_that_form o test kind (d.form_reads_back sound o (part v) valid.0) valid.1;
   writes_content = λ v w same. d.writes_content (part v) (part w) same;
   never = λ a h v. d.never a h (part v);
 }
@@ -169,7 +170,7 @@ ordered_as d order = record {
   Content = d.Content;
   reading = ordered_by order d.reading;
   written = d.written;
-  is_held = d.is_held;
+  is_valid = d.is_valid;
   levels = d.levels;
   avoids = d.avoids;
   is_sound = d.is_sound;
@@ -196,7 +197,7 @@ option_description d = record {
   Content = Option d.Content;
   reading = option_of d.reading;
   written = or_null d.written;
-  is_held = λ v. IfSome v d.is_held;
+  is_valid = λ v. IfSome v d.is_valid;
   levels = option_levels d.levels;
   avoids = option_avoids d.avoids;
   is_sound = d.avoids nulls && d.is_sound;
@@ -215,12 +216,12 @@ list_description items d = record {
   Content = List d.Content;
   reading = list_of items d.reading;
   written = λ v. container_of sequence (map d.written (items v));
-  is_held = λ v. All d.is_held (items v);
+  is_valid = λ v. All d.is_valid (items v);
   levels = λ v. suc (greatest d.levels (items v));
   avoids = λ a. true;
   is_sound = d.is_sound;
-  reads_back = λ sound v held. list-back (d.reads_back sound) (items v) held;
-  form_reads_back = λ sound o v held. list-form o (d.form_reads_back sound o) (items v) held;
+  reads_back = λ sound v valid. list-back (d.reads_back sound) (items v) valid;
+  form_reads_back = λ sound o v valid. list-form o (d.form_reads_back sound o) (items v) valid;
   writes_content = λ v w same. list-alike d.writes_content (items v) (items w) same;
   never = λ a h v. never-container a sequence (map d.written (items v));
 }
@@ -230,12 +231,12 @@ tuple1_description alone a = record {
   Content = a.Content;
   reading = tuple1_of alone a.reading;
   written = λ t. container_of sequence (a.written (alone t) ∷ []);
-  is_held = λ t. a.is_held (alone t);
+  is_valid = λ t. a.is_valid (alone t);
   levels = λ t. suc (a.levels (alone t));
   avoids = λ x. true;
   is_sound = a.is_sound;
-  reads_back = λ sound t held. tuple1-back (a.reads_back sound (alone t) held);
-  form_reads_back = λ sound o t held. tuple1-form o (a.form_reads_back sound o (alone t) held);
+  reads_back = λ sound t valid. tuple1-back (a.reads_back sound (alone t) valid);
+  form_reads_back = λ sound o t valid. tuple1-form o (a.form_reads_back sound o (alone t) valid);
   writes_content = λ v w same. tuple1-alike a.writes_content (alone v) (alone w) same;
   never = λ x h t. never-container x sequence (a.written (alone t) ∷ []);
 }
@@ -246,16 +247,16 @@ tuple2_description a b = record {
   Content = a.Content × b.Content;
   reading = tuple2_of a.reading b.reading;
   written = λ t. container_of sequence (a.written t.0 ∷ b.written t.1 ∷ []);
-  is_held = λ t. a.is_held t.0 × b.is_held t.1;
+  is_valid = λ t. a.is_valid t.0 × b.is_valid t.1;
   levels = λ t. suc (max (a.levels t.0) (b.levels t.1));
   avoids = λ x. true;
   is_sound = a.is_sound && b.is_sound;
-  reads_back = λ sound t held.
+  reads_back = λ sound t valid.
       let s = both a.is_sound b.is_sound sound in
-      tuple2-back (a.reads_back s.0 t.0 held.0) (b.reads_back s.1 t.1 held.1);
-  form_reads_back = λ sound o t held.
+      tuple2-back (a.reads_back s.0 t.0 valid.0) (b.reads_back s.1 t.1 valid.1);
+  form_reads_back = λ sound o t valid.
       let s = both a.is_sound b.is_sound sound in
-      tuple2-form o (a.form_reads_back s.0 o t.0 held.0) (b.form_reads_back s.1 o t.1 held.1);
+      tuple2-form o (a.form_reads_back s.0 o t.0 valid.0) (b.form_reads_back s.1 o t.1 valid.1);
   writes_content = tuple2-alike a.writes_content b.writes_content;
   never = λ x h t. never-container x sequence (a.written t.0 ∷ b.written t.1 ∷ []);
 }
@@ -266,20 +267,20 @@ tuple3_description a b c = record {
   Content = a.Content × b.Content × c.Content;
   reading = tuple3_of a.reading b.reading c.reading;
   written = λ t. container_of sequence (a.written t.0 ∷ b.written t.1 ∷ c.written t.2 ∷ []);
-  is_held = λ t. a.is_held t.0 × b.is_held t.1 × c.is_held t.2;
+  is_valid = λ t. a.is_valid t.0 × b.is_valid t.1 × c.is_valid t.2;
   levels = λ t. suc (max (a.levels t.0) (max (b.levels t.1) (c.levels t.2)));
   avoids = λ x. true;
   is_sound = a.is_sound && (b.is_sound && c.is_sound);
-  reads_back = λ sound t held.
+  reads_back = λ sound t valid.
       let s = both a.is_sound (b.is_sound && c.is_sound) sound in
       let r = both b.is_sound c.is_sound s.1 in
-      tuple3-back (a.reads_back s.0 t.0 held.0) (b.reads_back r.0 t.1 held.1)
-      (c.reads_back r.1 t.2 held.2);
-  form_reads_back = λ sound o t held.
+      tuple3-back (a.reads_back s.0 t.0 valid.0) (b.reads_back r.0 t.1 valid.1)
+      (c.reads_back r.1 t.2 valid.2);
+  form_reads_back = λ sound o t valid.
       let s = both a.is_sound (b.is_sound && c.is_sound) sound in
       let r = both b.is_sound c.is_sound s.1 in
-      tuple3-form o (a.form_reads_back s.0 o t.0 held.0) (b.form_reads_back r.0 o t.1 held.1)
-      (c.form_reads_back r.1 o t.2 held.2);
+      tuple3-form o (a.form_reads_back s.0 o t.0 valid.0) (b.form_reads_back r.0 o t.1 valid.1)
+      (c.form_reads_back r.1 o t.2 valid.2);
   writes_content = tuple3-alike a.writes_content b.writes_content c.writes_content;
   never = λ x h t. never-container x sequence
       (a.written t.0 ∷ b.written t.1 ∷ c.written t.2 ∷ []);
@@ -292,22 +293,22 @@ tuple4_description a b c d = record {
   reading = tuple4_of a.reading b.reading c.reading d.reading;
   written = λ t. container_of sequence
       (a.written t.0 ∷ b.written t.1 ∷ c.written t.2 ∷ d.written t.3 ∷ []);
-  is_held = λ t. a.is_held t.0 × b.is_held t.1 × c.is_held t.2 × d.is_held t.3;
+  is_valid = λ t. a.is_valid t.0 × b.is_valid t.1 × c.is_valid t.2 × d.is_valid t.3;
   levels = λ t. suc (max (a.levels t.0) (max (b.levels t.1) (max (c.levels t.2) (d.levels t.3))));
   avoids = λ x. true;
   is_sound = (a.is_sound && b.is_sound) && (c.is_sound && d.is_sound);
-  reads_back = λ sound t held.
+  reads_back = λ sound t valid.
       let s = both (a.is_sound && b.is_sound) (c.is_sound && d.is_sound) sound in
       let p = both a.is_sound b.is_sound s.0 in
       let q = both c.is_sound d.is_sound s.1 in
-      tuple4-back (a.reads_back p.0 t.0 held.0) (b.reads_back p.1 t.1 held.1)
-      (c.reads_back q.0 t.2 held.2) (d.reads_back q.1 t.3 held.3);
-  form_reads_back = λ sound o t held.
+      tuple4-back (a.reads_back p.0 t.0 valid.0) (b.reads_back p.1 t.1 valid.1)
+      (c.reads_back q.0 t.2 valid.2) (d.reads_back q.1 t.3 valid.3);
+  form_reads_back = λ sound o t valid.
       let s = both (a.is_sound && b.is_sound) (c.is_sound && d.is_sound) sound in
       let p = both a.is_sound b.is_sound s.0 in
       let q = both c.is_sound d.is_sound s.1 in
-      tuple4-form o (a.form_reads_back p.0 o t.0 held.0) (b.form_reads_back p.1 o t.1 held.1)
-      (c.form_reads_back q.0 o t.2 held.2) (d.form_reads_back q.1 o t.3 held.3);
+      tuple4-form o (a.form_reads_back p.0 o t.0 valid.0) (b.form_reads_back p.1 o t.1 valid.1)
+      (c.form_reads_back q.0 o t.2 valid.2) (d.form_reads_back q.1 o t.3 valid.3);
   writes_content = tuple4-alike a.writes_content b.writes_content c.writes_content
       d.writes_content;
   never = λ x h t. never-container x sequence
@@ -368,7 +369,7 @@ then_field label value d behind = record {
   named = λ v. (label, d.written (value v)) ∷ behind.named v;
   parts = λ v. label_item label ∷ d.written (value v) ∷ behind.parts v;
   number = λ v. behind.number v + 1;
-  is_held = λ v. d.is_held (value v) × behind.is_held v;
+  is_valid = λ v. d.is_valid (value v) × behind.is_valid v;
   levels = λ v. max (d.levels (value v)) (behind.levels v);
   has = with_label label behind;
   is_sound = is_new label behind d.is_sound;
@@ -376,13 +377,13 @@ then_field label value d behind = record {
   same_number = λ v. first-number label behind v (d.written (value v));
   unnamed = λ x h v. first-unnamed label behind x h v (d.written (value v));
   apart = λ sound v. first-apart_of label behind d.is_sound sound v (d.written (value v));
-  back = λ sound v held.
+  back = λ sound v valid.
       let s = field-sound (behind.has label) (is_proper label) d.is_sound behind.is_sound sound in
-      field_back label d.reading (d.reads_back s.2 (value v) held.0) (behind.back s.3 v held.1);
-  form = λ sound o v held.
+      field_back label d.reading (d.reads_back s.2 (value v) valid.0) (behind.back s.3 v valid.1);
+  form = λ sound o v valid.
       let s = field-sound (behind.has label) (is_proper label) d.is_sound behind.is_sound sound in
-      field_form o label d.reading (d.form_reads_back s.2 o (value v) held.0)
-      (behind.form s.3 o v held.1);
+      field_form o label d.reading (d.form_reads_back s.2 o (value v) valid.0)
+      (behind.form s.3 o v valid.1);
   alike = λ v w. field_alike label (d.writes_content (value v) (value w)) (behind.alike v w);
 }
 
@@ -397,7 +398,7 @@ then_field_or label value d default behind = record {
   named = λ v. (label, d.written (value v)) ∷ behind.named v;
   parts = λ v. label_item label ∷ d.written (value v) ∷ behind.parts v;
   number = λ v. behind.number v + 1;
-  is_held = λ v. d.is_held (value v) × behind.is_held v;
+  is_valid = λ v. d.is_valid (value v) × behind.is_valid v;
   levels = λ v. max (d.levels (value v)) (behind.levels v);
   has = with_label label behind;
   is_sound = is_new label behind d.is_sound;
@@ -405,14 +406,14 @@ then_field_or label value d default behind = record {
   same_number = λ v. first-number label behind v (d.written (value v));
   unnamed = λ x h v. first-unnamed label behind x h v (d.written (value v));
   apart = λ sound v. first-apart_of label behind d.is_sound sound v (d.written (value v));
-  back = λ sound v held.
+  back = λ sound v valid.
       let s = field-sound (behind.has label) (is_proper label) d.is_sound behind.is_sound sound in
-      field_or_back label d.reading default (d.reads_back s.2 (value v) held.0)
-      (behind.back s.3 v held.1);
-  form = λ sound o v held.
+      field_or_back label d.reading default (d.reads_back s.2 (value v) valid.0)
+      (behind.back s.3 v valid.1);
+  form = λ sound o v valid.
       let s = field-sound (behind.has label) (is_proper label) d.is_sound behind.is_sound sound in
-      field_or_form o label d.reading default (d.form_reads_back s.2 o (value v) held.0)
-      (behind.form s.3 o v held.1);
+      field_or_form o label d.reading default (d.form_reads_back s.2 o (value v) valid.0)
+      (behind.form s.3 o v valid.1);
   alike = λ v w. field_alike label (d.writes_content (value v) (value w)) (behind.alike v w);
 }
 
@@ -449,29 +450,29 @@ maybe-apart label behind written sound h v None = behind.apart (field-sound (beh
 maybe-apart label behind written sound h v (Some w) =
     first-apart_of label behind sound h v (written w)
 
-pub maybe-back : {V A C D : Type 0} (label : Label) (r : Reading V A) {IsHeld : V → Type 0}
+pub maybe-back : {V A C D : Type 0} (label : Label) (r : Reading V A) {IsValid : V → Type 0}
     {written : V → Named} {levels : V → ℕ} {behind : Fields C D} {fs : List (Label × Named)} {d : D}
-    {m : ℕ} → IsReadBack IsHeld written r.taken r.content levels →
+    {m : ℕ} → IsReadBack IsValid written r.taken r.content levels →
     ((v : V) → IsNever nulls (written v)) → is_named label fs ≡ false →
-    FieldsReadBack behind fs d m → (o : Option V) → IfSome o IsHeld →
+    FieldsReadBack behind fs d m → (o : Option V) → IfSome o IsValid →
     FieldsReadBack (optional_field label r behind) (maybe_before label written o fs)
     (option_map r.content o, d) (maybe_levels levels o m)
-maybe-back label r law never new rest None held =
+maybe-back label r law never new rest None valid =
     left_out_back label (option_of r) None new rest
-maybe-back label r law never new rest (Some v) held =
-    field_or_back label (option_of r) None (option-back law never (Some v) held) rest
+maybe-back label r law never new rest (Some v) valid =
+    field_or_back label (option_of r) None (option-back law never (Some v) valid) rest
 
 pub maybe-form : (o : KeyOrder) {V A C D : Type 0} (label : Label) (r : Reading V A)
-    {IsHeld : V → Type 0} {written : V → Named} {behind : Fields C D} {fs : List (Label × Named)}
-    {d : D} → IsReadFromForm o IsHeld written r.taken r.content →
+    {IsValid : V → Type 0} {written : V → Named} {behind : Fields C D} {fs : List (Label × Named)}
+    {d : D} → IsReadFromForm o IsValid written r.taken r.content →
     ((v : V) → IsNever nulls (written v)) → is_named label fs ≡ false →
-    FieldsForm o behind fs d → (m : Option V) → IfSome m IsHeld →
+    FieldsForm o behind fs d → (m : Option V) → IfSome m IsValid →
     FieldsForm o (optional_field label r behind) (maybe_before label written m fs)
     (option_map r.content m, d)
-maybe-form o label r law never new rest None held =
+maybe-form o label r law never new rest None valid =
     left_out_form o label (option_of r) None new rest
-maybe-form o label r law never new rest (Some v) held =
-    field_or_form o label (option_of r) None (option-form o law never (Some v) held) rest
+maybe-form o label r law never new rest (Some v) valid =
+    field_or_form o label (option_of r) None (option-form o law never (Some v) valid) rest
 
 pub maybe-alike : {V A C : Type 0} (label : Label) {written : V → Named} {content : V → A} {c d : C}
     {fs gs : List (Label × Named)} → IsWrittenByContent written content → (v w : Option V) →
@@ -506,7 +507,7 @@ then_optional_field label value d behind = record {
   parts = λ v. parts_or (value v) (λ w. label_item label ∷ d.written w ∷ behind.parts v)
       (behind.parts v);
   number = λ v. number_or (value v) (behind.number v + 1) (behind.number v);
-  is_held = λ v. IfSome (value v) d.is_held × behind.is_held v;
+  is_valid = λ v. IfSome (value v) d.is_valid × behind.is_valid v;
   levels = λ v. maybe_levels d.levels (value v) (behind.levels v);
   has = with_label label behind;
   is_sound = is_new label behind (d.avoids nulls && d.is_sound);
@@ -517,24 +518,24 @@ then_optional_field label value d behind = record {
   unnamed = λ x h v. maybe-unnamed label behind d.written x h v (value v);
   apart = λ sound v. maybe-apart label behind d.written (d.avoids nulls && d.is_sound) sound v
       (value v);
-  back = λ sound v held.
+  back = λ sound v valid.
       let s = field-sound (behind.has label) (is_proper label) (d.avoids nulls && d.is_sound)
       behind.is_sound sound in
       let part = both (d.avoids nulls) d.is_sound s.2 in
       maybe-back label d.reading (d.reads_back part.1) (d.never nulls part.0)
-      (behind.unnamed label s.0 v) (behind.back s.3 v held.1) (value v) held.0;
-  form = λ sound o v held.
+      (behind.unnamed label s.0 v) (behind.back s.3 v valid.1) (value v) valid.0;
+  form = λ sound o v valid.
       let s = field-sound (behind.has label) (is_proper label) (d.avoids nulls && d.is_sound)
       behind.is_sound sound in
       let part = both (d.avoids nulls) d.is_sound s.2 in
       maybe-form o label d.reading (d.form_reads_back part.1 o) (d.never nulls part.0)
-      (behind.unnamed label s.0 v) (behind.form s.3 o v held.1) (value v) held.0;
+      (behind.unnamed label s.0 v) (behind.form s.3 o v valid.1) (value v) valid.0;
   alike = λ v w. maybe-alike label d.writes_content (value v) (value w) (behind.alike v w);
 }
 
 -- ---- the end of the fields
 
-abbrev end_of : {T : Type 0} → Bool → FieldsTaken (Unit {0}) → FieldsDescription T
+abbrev end_of : {T : Type 0} → Bool → FieldsGiven (Unit {0}) → FieldsDescription T
 end_of once others = record {
   Slots = Unit {0};
   Content = Unit {0};
@@ -543,7 +544,7 @@ end_of once others = record {
   named = λ v. [];
   parts = λ v. [];
   number = λ v. 0;
-  is_held = λ v. Unit {0};
+  is_valid = λ v. Unit {0};
   levels = λ v. 0;
   has = λ x. false;
   is_sound = true;
@@ -551,32 +552,32 @@ end_of once others = record {
   same_number = λ v. refl;
   unnamed = λ x h v. refl;
   apart = λ sound v. refl;
-  back = λ sound v held. end_back once others;
-  form = λ sound o v held. end_form o once others;
+  back = λ sound v valid. end_back once others;
+  form = λ sound o v valid. end_form o once others;
   alike = λ v w. no_field_alike;
 }
 
 -- no field more: of a repeated one the last counts, and other keys are passed over
 abbrev pub then_no_field : {T : Type 0} → FieldsDescription T
-then_no_field = end_of false no_field_taken
+then_no_field = end_of false no_field_given
 
 -- the same, but a repeated field is refused
 abbrev pub then_no_field_twice : {T : Type 0} → FieldsDescription T
-then_no_field_twice = end_of true no_field_taken
+then_no_field_twice = end_of true no_field_given
 
 -- the same again, and another key is refused
 abbrev pub then_no_other_field : {T : Type 0} → FieldsDescription T
-then_no_other_field = end_of true no_other_taken
+then_no_other_field = end_of true no_other_given
 
 -- ---- structs
 
 -- what is named where so many parts fit, and else refused
-pub chosen-back : {C : Type 0} (t : Bool) {w : Named} {taken : Taken C} {c : C} {n : ℕ} →
+pub chosen-back : {C : Type 0} (t : Bool) {w : Named} {taken : Given C} {c : C} {n : ℕ} →
     IsNameRead w taken c n → IsNameRead (if t then w else Err Other) taken c n
 chosen-back true h = h
 chosen-back false h = record { back = λ way i e l fits. absurd (let no = e in cc) }
 
-pub chosen-form : {C : Type 0} (o : KeyOrder) (t : Bool) {w : Named} {taken : Taken C} {c : C} →
+pub chosen-form : {C : Type 0} (o : KeyOrder) (t : Bool) {w : Named} {taken : Given C} {c : C} →
     IsFormRead o w taken c → IsFormRead o (if t then w else Err Other) taken c
 chosen-form o true h = h
 chosen-form o false h = record { back = λ i e t form. absurd (let no = e in cc) }
@@ -599,21 +600,21 @@ module _ {T : Type 0} (fs : FieldsDescription T) where
       ∙
       ap (counted_of dictionary (fs.number v)) (fs.same_parts v)
 
-  pub struct-back : fs.is_sound ≡ true → (v : T) → fs.is_held v →
-      IsNameRead (counted_of dictionary (fs.number v) (fs.parts v)) (taken_struct fs.fields)
+  pub struct-back : fs.is_sound ≡ true → (v : T) → fs.is_valid v →
+      IsNameRead (counted_of dictionary (fs.number v) (fs.parts v)) (given_struct fs.fields)
       (fs.content v) (suc (fs.levels v))
-  struct-back sound v held = subst
-      (λ w. IsNameRead w (taken_struct fs.fields) (fs.content v) (suc (fs.levels v)))
+  struct-back sound v valid = subst
+      (λ w. IsNameRead w (given_struct fs.fields) (fs.content v) (suc (fs.levels v)))
       (written-map v) (chosen-back (nat_le (length (fs.named v)) greatest_offset)
-      (fields_read_back (fs.back sound v held) (fs.apart sound v)))
+      (fields_read_back (fs.back sound v valid) (fs.apart sound v)))
 
-  pub struct-form : fs.is_sound ≡ true → (o : KeyOrder) (v : T) → fs.is_held v →
-      IsFormRead o (counted_of dictionary (fs.number v) (fs.parts v)) (taken_struct fs.fields)
+  pub struct-form : fs.is_sound ≡ true → (o : KeyOrder) (v : T) → fs.is_valid v →
+      IsFormRead o (counted_of dictionary (fs.number v) (fs.parts v)) (given_struct fs.fields)
       (fs.content v)
-  struct-form sound o v held = subst
-      (λ w. IsFormRead o w (taken_struct fs.fields) (fs.content v))
+  struct-form sound o v valid = subst
+      (λ w. IsFormRead o w (given_struct fs.fields) (fs.content v))
       (written-map v) (chosen-form o (nat_le (length (fs.named v)) greatest_offset)
-      (fields_form o (fs.form sound o v held) (fs.apart sound v)))
+      (fields_form o (fs.form sound o v valid) (fs.apart sound v)))
 
   pub struct-alike : IsWrittenByContent (λ v. counted_of dictionary (fs.number v) (fs.parts v))
       fs.content
@@ -626,7 +627,7 @@ struct_description fs = record {
   Content = fs.Content;
   reading = struct_of fs.content fs.fields;
   written = λ v. counted_of dictionary (fs.number v) (fs.parts v);
-  is_held = fs.is_held;
+  is_valid = fs.is_valid;
   levels = λ v. suc (fs.levels v);
   avoids = λ a. true;
   is_sound = fs.is_sound;

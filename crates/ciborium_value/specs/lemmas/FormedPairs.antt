@@ -7,7 +7,7 @@ use Rattle.std.specs.declared.cmp.Ordering.TheVariants.{Less, Equal, Greater}
 use Rattle.ciborium_value.specs.Canonical.{key_order}
 use Rattle.ciborium_value.specs.DeterministicForms.{inserted, placed_pair, sorted_pairs}
 use Rattle.ciborium_value.specs.lemmas.GivenOutcomes.{mapped_gives, one_given, then_gives}
-use Rattle.ciborium_value.specs.Taken.{gives}
+use Rattle.ciborium_value.specs.Given.{gives}
 use Rattle.ciborium_value.specs.Tree.{Tree, TreePairs, no_tree_pairs, tree_pair}
 use Rattle.ciborium_value.specs.declared.key_order.KeyOrder.{KeyOrder}
 

@@ -23,14 +23,14 @@ use Rattle.ciborium_value.specs.lemmas.GivenOutcomes.{and_take, mapped_gives, on
 use Rattle.ciborium_value.specs.lemmas.GivenOutcomes.{pair_gives, then_gives}
 use Rattle.ciborium_value.specs.Places.{dictionary, pairs_from}
 use Rattle.ciborium_value.specs.ReadsBack.{of_ok}
-use Rattle.ciborium_value.specs.lemmas.ReadsBackMaps.{AreKeysApart, AreNew, IsApart, IsMapHeld}
+use Rattle.ciborium_value.specs.lemmas.ReadsBackMaps.{AreKeysApart, AreNew, IsApart, IsMapValid}
 use Rattle.ciborium_value.specs.lemmas.ReadsBackMaps.{apart-turned, contents-apart, one-put}
 use Rattle.ciborium_value.specs.lemmas.ReadsBackMaps.{put-contents, put-new, sorted-apart}
 use Rattle.ciborium_value.specs.WrittenContents.{contents}
 use Rattle.ciborium_value.specs.Sinks.{Named, and_then, all_named, contained, container_of, in_turn}
-use Rattle.ciborium_value.specs.Taken.{Steps, Taken, gives, outcome, take_each}
-use Rattle.ciborium_value.specs.Taken.{then_take, unpack_pairs}
-use Rattle.ciborium_value.specs.TakenParts.{put_all, take_entry, taken_map}
+use Rattle.ciborium_value.specs.Given.{Steps, Given, gives, outcome, take_each}
+use Rattle.ciborium_value.specs.Given.{then_take, unpack_pairs}
+use Rattle.ciborium_value.specs.GivenParts.{put_all, take_entry, given_map}
 use Rattle.ciborium_value.specs.Tree as trees
 use Rattle.ciborium_value.specs.Tree.{Tree, TreePairs, no_tree_pairs, tree_pair}
 use Rattle.ciborium_value.specs.declared.key_order.KeyOrder.{KeyOrder}
@@ -200,7 +200,7 @@ module _ {K V A B : Type 0} (key : K → A) (value : V → B) (take : Item × It
 module _ (o : KeyOrder) where
   -- the forms of the keys and values that are named, if there are such, are read as these entries,
   -- as they stand
-  module _ {K V A B : Type 0} (key : K → A) (value : V → B) (f : Taken A) (g : Taken B) where
+  module _ {K V A B : Type 0} (key : K → A) (value : V → B) (f : Given A) (g : Given B) where
     abbrev take : Item × Item → Steps (A × B)
     take p = take_entry f g p
 
@@ -236,7 +236,7 @@ module _ (o : KeyOrder) where
         AreNew order [] (contents key value fs)) → AreEntriesRead s es →
         IfOk (contained dictionary false s) (λ i. (t : Tree) →
         deterministic_form o (written_tree i) ≡ gives t →
-        outcome None (taken_map once order f g (item_of t)) ≡ gives (contents key value es))
+        outcome None (given_map once order f g (item_of t)) ≡ gives (contents key value es))
     inside once order (Ok is) es h each = λ t form.
         let (qs, there, same) = mapped_gives trees.map
         (then_take (pair_forms o (written_pairs (pairs_from is))) (sorted_pairs o)) t form in
@@ -245,46 +245,46 @@ module _ (o : KeyOrder) where
         let (fs, r, all) = sorted-read (IsEntryRead key value take) o ps qs es (each ps forms)
         sorted in
         let (put, new) = h fs r in
-        subst (λ u. outcome None (taken_map once order f g (item_of u)) ≡
+        subst (λ u. outcome None (given_map once order f g (item_of u)) ≡
         gives (contents key value es)) same
         (put-new order once f g None [] (unpack_pairs (pairs_of qs)) (contents key value fs) new
         (each-read key value take qs fs all) ∙ ap gives put)
     inside once order (Err k) es h each = tt
 
-  module _ {K A : Type 0} {IsKeyHeld : K → Type 0} {key_written : K → Named} {key_taken : Taken A}
-      {key : K → A} (key_form : IsReadFromForm o IsKeyHeld key_written key_taken key) where
-    module _ {V B : Type 0} {IsValueHeld : V → Type 0} {value_written : V → Named}
-        {value_taken : Taken B} {value : V → B}
-        (value_form : IsReadFromForm o IsValueHeld value_written value_taken value) where
-      entries-form : (es : List (K × V)) → All (λ e. IsKeyHeld e.0 × IsValueHeld e.1) es →
-          AreEntriesRead key value key_taken value_taken
+  module _ {K A : Type 0} {IsKeyValid : K → Type 0} {key_written : K → Named} {key_given : Given A}
+      {key : K → A} (key_form : IsReadFromForm o IsKeyValid key_written key_given key) where
+    module _ {V B : Type 0} {IsValueValid : V → Type 0} {value_written : V → Named}
+        {value_given : Given B} {value : V → B}
+        (value_form : IsReadFromForm o IsValueValid value_written value_given value) where
+      entries-form : (es : List (K × V)) → All (λ e. IsKeyValid e.0 × IsValueValid e.1) es →
+          AreEntriesRead key value key_given value_given
           (all_named (in_turn key_written value_written es)) es
-      entries-form [] held = λ ps forms. subst
-          (λ us. AreRead (IsEntryRead key value (take key value key_taken value_taken)) us [])
+      entries-form [] valid = λ ps forms. subst
+          (λ us. AreRead (IsEntryRead key value (take key value key_given value_given)) us [])
           (one_given no_tree_pairs ps forms) tt
-      entries-form (e ∷ es) held =
-          let first = All-head (λ e. IsKeyHeld e.0 × IsValueHeld e.1) e es held in
-          pair-form key value key_taken value_taken (key_written e.0) (value_written e.1)
+      entries-form (e ∷ es) valid =
+          let first = All-head (λ e. IsKeyValid e.0 × IsValueValid e.1) e es valid in
+          pair-form key value key_given value_given (key_written e.0) (value_written e.1)
           (all_named (in_turn key_written value_written es)) e es
           (key_form e.0 first.0) (value_form e.1 first.1)
-          (entries-form es (All-tail (λ e. IsKeyHeld e.0 × IsValueHeld e.1) e es held))
+          (entries-form es (All-tail (λ e. IsKeyValid e.0 × IsValueValid e.1) e es valid))
 
       pub map-form : (once : Bool) (cmp : K → K → Ordering) (order : A → A → Ordering) →
           IsTotalOrder cmp →
           ((a b : K) → cmp a b ≡ order (key a) (key b)) → (m : BTreeMap K V) →
-          IsMapHeld cmp IsKeyHeld IsValueHeld m →
+          IsMapValid cmp IsKeyValid IsValueValid m →
           IsFormRead o (container_of dictionary (in_turn key_written value_written m.entries))
-          (taken_map once order key_taken value_taken) (contents key value m.entries)
-      map-form once cmp order total orders m held =
+          (given_map once order key_given value_given) (contents key value m.entries)
+      map-form once cmp order total orders m valid =
           let parts = all_named (in_turn key_written value_written m.entries) in record {
             back = of_ok (contained dictionary false parts)
                 (λ i. (t : Tree) → deterministic_form o (written_tree i) ≡ gives t →
-                outcome None (taken_map once order key_taken value_taken (item_of t)) ≡ gives
+                outcome None (given_map once order key_given value_given (item_of t)) ≡ gives
                 (contents key value m.entries))
-                (inside key value key_taken value_taken once order parts m.entries
+                (inside key value key_given value_given once order parts m.entries
                 (λ fs r. (
-                  reordered-contents cmp total order key value orders m.entries fs r held.0,
+                  reordered-contents cmp total order key value orders m.entries fs r valid.0,
                   contents-apart cmp order key value orders total fs
-                      (apart-reordered cmp total r (sorted-apart cmp m.entries held.0)),
-                )) (entries-form m.entries held.1));
+                      (apart-reordered cmp total r (sorted-apart cmp m.entries valid.0)),
+                )) (entries-form m.entries valid.1));
           }

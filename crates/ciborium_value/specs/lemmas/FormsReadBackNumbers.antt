@@ -21,7 +21,7 @@ use Rattle.ciborium_value.specs.lemmas.ReadsBackNumbers.{i16_back, i32_back, i64
 use Rattle.ciborium_value.specs.lemmas.ReadsBackNumbers.{isize_back, u128_back, u16_back, u32_back}
 use Rattle.ciborium_value.specs.lemmas.ReadsBackNumbers.{u64_back, u8_back, usize_back}
 use Rattle.ciborium_value.specs.Sinks.{bignum_item, number_item}
-use Rattle.ciborium_value.specs.Taken.{gives, of_meaning}
+use Rattle.ciborium_value.specs.Given.{gives, of_meaning}
 use Rattle.ciborium_value.specs.Tree as trees
 use Rattle.ciborium_value.specs.declared.key_order.KeyOrder.{KeyOrder}
 use Rattle.ciborium_value.specs.declared.kind.Kind.TheVariants as kinds

@@ -17,8 +17,8 @@ use Rattle.ciborium_value.specs.Meaning.{unsigned_bignum, without_zeros}
 use Rattle.ciborium_value.specs.NeverWritten.{IsNever, nulls}
 use Rattle.ciborium_value.specs.ReadsBack.{by_tree, of_ok}
 use Rattle.ciborium_value.specs.Sinks.{Named, or_null}
-use Rattle.ciborium_value.specs.Taken.{Outcome, Taken, gives, is_null, outcome, then_take}
-use Rattle.ciborium_value.specs.TakenParts.{taken_option}
+use Rattle.ciborium_value.specs.Given.{Outcome, Given, gives, is_null, outcome, then_take}
+use Rattle.ciborium_value.specs.GivenParts.{given_option}
 use Rattle.ciborium_value.specs.Tree as trees
 use Rattle.ciborium_value.specs.Tree.{Tree}
 use Rattle.ciborium_value.specs.declared.key_order.KeyOrder.{KeyOrder}
@@ -74,27 +74,27 @@ form-not_null o (trees.map ps) u h form = let (qs, is, same) =
 
 -- ---- options
 
-something-form : {C : Type 0} (o : KeyOrder) {r : Named} {taken : Taken C} {c : C} →
-    IsFormRead o r taken c → IsNever nulls r → IsFormRead o r (taken_option taken) (Some c)
+something-form : {C : Type 0} (o : KeyOrder) {r : Named} {taken : Given C} {c : C} →
+    IsFormRead o r taken c → IsNever nulls r → IsFormRead o r (given_option taken) (Some c)
 something-form o {taken = taken} {c = c} law never = record {
   back = λ i e t form. some-back taken None (item_of t) c
       (form-not_null o (written_tree i) t (never by_tree i e) form) (law.back i e t form);
 }
 
-nothing-form : {C : Type 0} (o : KeyOrder) (taken : Taken C) →
-    IsFormRead o (Ok (items.simple 22)) (taken_option taken) None
+nothing-form : {C : Type 0} (o : KeyOrder) (taken : Given C) →
+    IsFormRead o (Ok (items.simple 22)) (given_option taken) None
 nothing-form o taken = record {
   back = of_ok {X = items.Item} (Ok (items.simple 22))
       (λ i. (t : Tree) → deterministic_form o (written_tree i) ≡ gives t →
-      outcome None (taken_option taken (item_of t)) ≡ gives None)
-      (λ t form. subst (λ u. outcome None (taken_option taken (item_of u)) ≡ gives None)
+      outcome None (given_option taken (item_of t)) ≡ gives None)
+      (λ t form. subst (λ u. outcome None (given_option taken (item_of u)) ≡ gives None)
       (one_given trees.null t form) refl);
 }
 
-pub option-form : {T C : Type 0} (o : KeyOrder) {IsHeld : T → Type 0} {written : T → Named}
-    {taken : Taken C} {content : T → C} → IsReadFromForm o IsHeld written taken content →
+pub option-form : {T C : Type 0} (o : KeyOrder) {IsValid : T → Type 0} {written : T → Named}
+    {taken : Given C} {content : T → C} → IsReadFromForm o IsValid written taken content →
     ((v : T) → IsNever nulls (written v)) →
-    IsReadFromForm o (λ m. IfSome m IsHeld) (or_null written) (taken_option taken)
+    IsReadFromForm o (λ m. IfSome m IsValid) (or_null written) (given_option taken)
     (option_map content)
-option-form o {taken = taken} law never None held = nothing-form o taken
-option-form o law never (Some v) held = something-form o (law v held) (never v)
+option-form o {taken = taken} law never None valid = nothing-form o taken
+option-form o law never (Some v) valid = something-form o (law v valid) (never v)

@@ -12,11 +12,11 @@ use Rattle.ciborium_value.specs.lemmas.GivenOutcomes.{and_take, mapped_gives, mo
 use Rattle.ciborium_value.specs.Places.{sequence, items_from}
 use Rattle.ciborium_value.specs.ReadsBack.{of_ok}
 use Rattle.ciborium_value.specs.Sinks.{Named, and_then, all_named, contained, container_of}
-use Rattle.ciborium_value.specs.Taken.{Steps, Taken, give, gives, outcome, outcome_map, take_each}
-use Rattle.ciborium_value.specs.Taken.{then_take, unpack}
-use Rattle.ciborium_value.specs.TakenParts.{after_seq, taken_list, no_part_taken, part_taken}
-use Rattle.ciborium_value.specs.TakenParts.{taken_then, taken_tuple1, taken_tuple2, taken_tuple3}
-use Rattle.ciborium_value.specs.TakenParts.{taken_tuple4}
+use Rattle.ciborium_value.specs.Given.{Steps, Given, give, gives, outcome, outcome_map, take_each}
+use Rattle.ciborium_value.specs.Given.{then_take, unpack}
+use Rattle.ciborium_value.specs.GivenParts.{after_seq, given_list, no_part_given, part_given}
+use Rattle.ciborium_value.specs.GivenParts.{given_then, given_tuple1, given_tuple2, given_tuple3}
+use Rattle.ciborium_value.specs.GivenParts.{given_tuple4}
 use Rattle.ciborium_value.specs.Tree as trees
 use Rattle.ciborium_value.specs.Tree.{Tree, Trees}
 use Rattle.ciborium_value.specs.declared.key_order.KeyOrder.{KeyOrder}
@@ -80,7 +80,7 @@ module _ (o : KeyOrder) where
 
   -- ---- lists
 
-  and-form : {C : Type 0} (taken : Taken C) (r : Named) (s : Result (List Item) Kind) (c : C)
+  and-form : {C : Type 0} (taken : Given C) (r : Named) (s : Result (List Item) Kind) (c : C)
       (cs : List C) → IsFormRead o r taken c → AreFormsRead s (take_each taken) cs →
       AreFormsRead (and_then r s) (take_each taken) (c ∷ cs)
   and-form taken r s c cs h rest = both (take_each taken) (c ∷ cs) r s
@@ -89,19 +89,19 @@ module _ (o : KeyOrder) where
       (h.back i named w one) ∙
       ap (and_take (gives c)) (rest-read s (take_each taken) cs rest is more ws forms))
 
-  module _ {T C : Type 0} {IsHeld : T → Type 0} {written : T → Named} {taken : Taken C}
-      {content : T → C} (law : IsReadFromForm o IsHeld written taken content) where
-    each-form : (xs : List T) → All IsHeld xs →
+  module _ {T C : Type 0} {IsValid : T → Type 0} {written : T → Named} {taken : Given C}
+      {content : T → C} (law : IsReadFromForm o IsValid written taken content) where
+    each-form : (xs : List T) → All IsValid xs →
         AreFormsRead (all_named (map written xs)) (take_each taken) (map content xs)
-    each-form [] held = none-read (take_each taken) [] refl
-    each-form (x ∷ xs) held =
+    each-form [] valid = none-read (take_each taken) [] refl
+    each-form (x ∷ xs) valid =
         and-form taken (written x) (all_named (map written xs)) (content x) (map content xs)
-        (law x (All-head IsHeld x xs held)) (each-form xs (All-tail IsHeld x xs held))
+        (law x (All-head IsValid x xs valid)) (each-form xs (All-tail IsValid x xs valid))
 
-    pub list-form : (xs : List T) → All IsHeld xs →
-        IsFormRead o (container_of sequence (map written xs)) (taken_list taken) (map content xs)
-    list-form xs held = sequence-form (take_each taken) (all_named (map written xs))
-        (map content xs) (each-form xs held)
+    pub list-form : (xs : List T) → All IsValid xs →
+        IsFormRead o (container_of sequence (map written xs)) (given_list taken) (map content xs)
+    list-form xs valid = sequence-form (take_each taken) (all_named (map written xs))
+        (map content xs) (each-form xs valid)
 
   -- ---- parts in a row
 
@@ -110,35 +110,35 @@ module _ (o : KeyOrder) where
       (parts : List Item → Steps C) (c : C) : Type 0 where
     pub back : AreFormsRead s parts c
 
-  both-forms : {A C : Type 0} (taken : Taken A) (behind : List Item → Steps C)
+  both-forms : {A C : Type 0} (taken : Given A) (behind : List Item → Steps C)
       (r : Named) (s : Result (List Item) Kind) (v : A) (c : C) → IsFormRead o r taken v →
       AreFormsRead s behind c →
-      AreFormsRead (and_then r s) (part_taken taken behind) (v, c)
-  both-forms taken behind r s v c h rest = both (part_taken taken behind) (v, c) r s
+      AreFormsRead (and_then r s) (part_given taken behind) (v, c)
+  both-forms taken behind r s v c h rest = both (part_given taken behind) (v, c) r s
       (λ i is named more w ws one forms.
       ap (λ p. then_take p (λ x. outcome_map (λ d. (x, d))
       (outcome None (behind (unpack (items_of ws)))))) (h.back i named w one) ∙
       ap (outcome_map (λ d. (v, d))) (rest-read s behind c rest is more ws forms))
 
-  module _ {A : Type 0} {r : Named} {taken : Taken A} {a : A} (h : IsFormRead o r taken a) where
+  module _ {A : Type 0} {r : Named} {taken : Given A} {a : A} (h : IsFormRead o r taken a) where
     -- a part, and those after it
     pub part_form : {C : Type 0} {s : Result (List Item) Kind}
         {behind : List Item → Steps C} {c : C} → AreFormPartsRead s behind c →
-        AreFormPartsRead (and_then r s) (part_taken taken behind) (a, c)
+        AreFormPartsRead (and_then r s) (part_given taken behind) (a, c)
     part_form {s = s} {behind = behind} {c = c} j = record {
       back = both-forms taken behind r s a c h j.back;
     }
 
     -- the last part
-    pub last_form : AreFormPartsRead (and_then r (Ok [])) (part_taken taken no_part_taken) (a, tt)
+    pub last_form : AreFormPartsRead (and_then r (Ok [])) (part_given taken no_part_given) (a, tt)
     last_form = record {
-      back = both-forms taken no_part_taken r (Ok []) a tt h
-          (none-read no_part_taken tt refl);
+      back = both-forms taken no_part_given r (Ok []) a tt h
+          (none-read no_part_given tt refl);
     }
 
   -- no part
-  pub no_part_form : AreFormPartsRead (Ok []) no_part_taken tt
-  no_part_form = record { back = none-read no_part_taken tt refl }
+  pub no_part_form : AreFormPartsRead (Ok []) no_part_given tt
+  no_part_form = record { back = none-read no_part_given tt refl }
 
   -- the array of them
   pub array_form : {C : Type 0} {s : Result (List Item) Kind}
@@ -147,30 +147,30 @@ module _ (o : KeyOrder) where
   array_form {s = s} {parts = parts} {c = c} h = sequence-form parts s c h.back
 
   -- what is made of what was read
-  made-form : {C D : Type 0} (make : C → D) {r : Named} {taken : Taken C} {c : C} →
-      IsFormRead o r taken c → IsFormRead o r (taken_then taken (λ d. give (make d))) (make c)
+  made-form : {C D : Type 0} (make : C → D) {r : Named} {taken : Given C} {c : C} →
+      IsFormRead o r taken c → IsFormRead o r (given_then taken (λ d. give (make d))) (make c)
   made-form make h = record {
     back = λ i e t form. ap (λ p. then_take p (λ d. gives (make d))) (h.back i e t form);
   }
 
   -- ---- tuples
 
-  module _ {A : Type 0} {r : Named} {f : Taken A} {a : A} (h : IsFormRead o r f a) where
-    pub tuple1-form : IsFormRead o (container_of sequence (r ∷ [])) (taken_tuple1 f) a
+  module _ {A : Type 0} {r : Named} {f : Given A} {a : A} (h : IsFormRead o r f a) where
+    pub tuple1-form : IsFormRead o (container_of sequence (r ∷ [])) (given_tuple1 f) a
     tuple1-form = made-form (λ p. p.0) (array_form (last_form h))
 
-    module _ {B : Type 0} {s : Named} {g : Taken B} {b : B} (j : IsFormRead o s g b) where
-      pub tuple2-form : IsFormRead o (container_of sequence (r ∷ s ∷ [])) (taken_tuple2 f g) (a, b)
+    module _ {B : Type 0} {s : Named} {g : Given B} {b : B} (j : IsFormRead o s g b) where
+      pub tuple2-form : IsFormRead o (container_of sequence (r ∷ s ∷ [])) (given_tuple2 f g) (a, b)
       tuple2-form = made-form (λ p. (p.0, p.1.0)) (array_form (part_form h (last_form j)))
 
-      module _ {D : Type 0} {t : Named} {p : Taken D} {d : D} (q : IsFormRead o t p d) where
-        pub tuple3-form : IsFormRead o (container_of sequence (r ∷ s ∷ t ∷ [])) (taken_tuple3 f g p)
+      module _ {D : Type 0} {t : Named} {p : Given D} {d : D} (q : IsFormRead o t p d) where
+        pub tuple3-form : IsFormRead o (container_of sequence (r ∷ s ∷ t ∷ [])) (given_tuple3 f g p)
             (a, b, d)
         tuple3-form = made-form (λ p. (p.0, p.1.0, p.1.1.0))
             (array_form (part_form h (part_form j (last_form q))))
 
-        module _ {E : Type 0} {u : Named} {w : Taken E} {e : E} (x : IsFormRead o u w e) where
+        module _ {E : Type 0} {u : Named} {w : Given E} {e : E} (x : IsFormRead o u w e) where
           pub tuple4-form : IsFormRead o (container_of sequence (r ∷ s ∷ t ∷ u ∷ []))
-              (taken_tuple4 f g p w) (a, b, d, e)
+              (given_tuple4 f g p w) (a, b, d, e)
           tuple4-form = made-form (λ p. (p.0, p.1.0, p.1.1.0, p.1.1.1.0))
               (array_form (part_form h (part_form j (part_form q (last_form x)))))

@@ -12,18 +12,18 @@ use Rattle.ciborium_value.specs.DeterministicForms.{deterministic_form, pair_for
 use Rattle.ciborium_value.specs.Encoding.{item_of, pairs_of, written_pairs, written_tree}
 use Rattle.ciborium_value.specs.FormsReadBack.{IsFormRead}
 use Rattle.ciborium_value.specs.Labels.{Label, fields_of, is_label, is_proper, label_item, named}
-use Rattle.ciborium_value.specs.Labels.{numbered, other, taken_label}
+use Rattle.ciborium_value.specs.Labels.{numbered, other, given_label}
 use Rattle.ciborium_value.specs.Places.{dictionary, pairs_from}
 use Rattle.ciborium_value.specs.Readings.{Reading}
 use Rattle.ciborium_value.specs.ReadsBack.{of_ok}
 use Rattle.ciborium_value.specs.Sinks.{Named, and_then, bignum_item, contained}
-use Rattle.ciborium_value.specs.StructReadings.{Fields, FieldsTaken, end_of_fields, field}
-use Rattle.ciborium_value.specs.StructReadings.{field_filled, field_or, field_taken, no_field}
-use Rattle.ciborium_value.specs.StructReadings.{no_field_taken, required, take_fields, taken_fields}
-use Rattle.ciborium_value.specs.Taken.{Outcome, Taken, chosen, decided, give, gives, outcome}
-use Rattle.ciborium_value.specs.Taken.{outcome_map, refuse, refuses, settled, then_take}
-use Rattle.ciborium_value.specs.Taken.{unpack_pairs}
-use Rattle.ciborium_value.specs.TakenParts.{taken_then}
+use Rattle.ciborium_value.specs.StructReadings.{Fields, FieldsGiven, end_of_fields, field}
+use Rattle.ciborium_value.specs.StructReadings.{field_filled, field_or, field_given, no_field}
+use Rattle.ciborium_value.specs.StructReadings.{no_field_given, required, take_fields, given_fields}
+use Rattle.ciborium_value.specs.Given.{Outcome, Given, chosen, decided, give, gives, outcome}
+use Rattle.ciborium_value.specs.Given.{outcome_map, refuse, refuses, settled, then_take}
+use Rattle.ciborium_value.specs.Given.{unpack_pairs}
+use Rattle.ciborium_value.specs.GivenParts.{given_then}
 use Rattle.ciborium_value.specs.Tree as trees
 use Rattle.ciborium_value.specs.Tree.{Tree, TreePairs, no_tree_pairs, tree_pair}
 use Rattle.ciborium_value.specs.declared.key_order.KeyOrder.{KeyOrder}
@@ -42,7 +42,7 @@ use Rattle.ciborium_value.specs.lemmas.ReadsBackStructs.{nothing-twice, parts_of
 
 -- the tree of a key is read as this label
 abbrev pub IsKeyTree : Label → Tree → Type 0
-IsKeyTree name k = outcome None (taken_label (item_of k)) ≡ gives name
+IsKeyTree name k = outcome None (given_label (item_of k)) ≡ gives name
 
 -- a label, what reading the value under it makes of what was read so far, and whether that refuses
 -- the label
@@ -97,11 +97,11 @@ module _ {C : Type 0} where
   still-none a (b ∷ xs) c h n = ((h.0 c).2 ∙ n.0, still-none a xs c h.1 n.1)
 
   -- a pair has this label, and is read so
-  abbrev pub IsActRead : FieldsTaken C → Tree → Tree → Act C → Type 0
+  abbrev pub IsActRead : FieldsGiven C → Tree → Tree → Act C → Type 0
   IsActRead fields k v a = IsKeyTree a.0 k × ((c : C) → is_barred a c ≡ false →
       outcome None (fields a.0 c (item_of v)) ≡ gives (act a c))
 
-  all-read : (fields : FieldsTaken C) (ps : TreePairs) (xs : List (Act C)) →
+  all-read : (fields : FieldsGiven C) (ps : TreePairs) (xs : List (Act C)) →
       AreRead (IsActRead fields) ps xs → AllAreFree xs → (c : C) → NoneIsBarred c xs →
       outcome None (take_fields fields c (unpack_pairs (pairs_of ps))) ≡ gives (after_all xs c)
   all-read fields no_tree_pairs [] h free c none = refl
@@ -145,7 +145,7 @@ module _ (o : KeyOrder) where
         AreRead (IsActRead fields.read) ps acts)
     pub complete : fields.complete (after_all acts fields.start) ≡ Ok d
 
-  pub end_form : (once : Bool) (others : FieldsTaken (Unit {0})) →
+  pub end_form : (once : Bool) (others : FieldsGiven (Unit {0})) →
       FieldsForm (end_of_fields once others) [] tt
   end_form once others = record {
     acts = [];
@@ -159,11 +159,11 @@ module _ (o : KeyOrder) where
 
   -- the end
   pub no_field_form : FieldsForm no_field [] tt
-  no_field_form = end_form false no_field_taken
+  no_field_form = end_form false no_field_given
 
   module _ {T A C D : Type 0} (name : Label) (r : Reading T A) (behind : Fields C D) where
-    abbrev all : FieldsTaken (Option A × C)
-    all = field_taken behind.once name r.taken behind.read
+    abbrev all : FieldsGiven (Option A × C)
+    all = field_given behind.once name r.taken behind.read
 
     -- the acts of the fields behind leave this one
     abbrev lift : Act C → Act (Option A × C)
@@ -323,8 +323,8 @@ module _ (o : KeyOrder) where
   -- ---- structs
 
   module _ {C D : Type 0} (fields : Fields C D) where
-    abbrev taken_all : Taken D
-    taken_all = taken_then (taken_fields fields.read fields.start)
+    abbrev given_all : Given D
+    given_all = given_then (given_fields fields.read fields.start)
         (λ c. decided (fields.complete c))
 
     inside : (s : Result (List Item) Kind) (d : D) (xs : List (Act C)) → AllAreFree xs →
@@ -334,7 +334,7 @@ module _ (o : KeyOrder) where
         fields.complete (after_all xs fields.start) ≡ Ok d →
         IfOk (contained dictionary false s) (λ i. (t : Tree) →
         deterministic_form o (written_tree i) ≡ gives t →
-        outcome None (taken_all (item_of t)) ≡ gives d)
+        outcome None (given_all (item_of t)) ≡ gives d)
     inside (Ok is) d xs free none read complete = λ t form.
         let (qs, there, same) = mapped_gives trees.map
         (then_take (pair_forms o (written_pairs (pairs_from is))) (sorted_pairs o)) t form in
@@ -342,7 +342,7 @@ module _ (o : KeyOrder) where
         (sorted_pairs o) qs there in
         let (ys, reordered, each) = sorted-read (IsActRead fields.read) o ps qs xs (read ps forms)
         sorted in
-        subst (λ u. outcome None (taken_all (item_of u)) ≡ gives d) same
+        subst (λ u. outcome None (given_all (item_of u)) ≡ gives d) same
         (ap (λ p. then_take p (λ c. settled (fields.complete c)))
         (all-read fields.read qs ys each (free-reordered reordered free) fields.start
         (all-reordered (λ a. is_barred a fields.start ≡ false) reordered none) ∙
@@ -352,25 +352,25 @@ module _ (o : KeyOrder) where
   -- a struct of these fields, whose labels are apart
   pub fields_form : {C D : Type 0} {fields : Fields C D} {fs : List (Label × Named)} {d : D} →
       FieldsForm fields fs d → are_apart fs ≡ true → IsFormRead o (fields_of fs)
-      (taken_then (taken_fields fields.read fields.start) (λ c. decided (fields.complete c))) d
+      (given_then (given_fields fields.read fields.start) (λ c. decided (fields.complete c))) d
   fields_form {fields = fields} {fs = fs} {d = d} law apart = record {
     back = of_ok (contained dictionary false (parts_of fs))
         (λ i. (t : Tree) → deterministic_form o (written_tree i) ≡ gives t →
-        outcome None (taken_all fields (item_of t)) ≡ gives d)
+        outcome None (given_all fields (item_of t)) ≡ gives d)
         (inside fields (parts_of fs) d law.acts law.free law.none (law.read apart) law.complete);
   }
 
   -- where a test decides what is written, a field that is left out or not
-  pub either_form : {C : Type 0} (content : Bool → C) (t : Bool) {r s : Named} {taken : Taken C} →
+  pub either_form : {C : Type 0} (content : Bool → C) (t : Bool) {r s : Named} {taken : Given C} →
       IsFormRead o r taken (content true) → IsFormRead o s taken (content false) →
       IsFormRead o (if t then r else s) taken (content t)
   either_form content true h k = h
   either_form content false h k = k
 
   -- what passes the test of a type (`such_that`)
-  pub such_that_form : {C : Type 0} (test : C → Bool) (kind : Kind) {w : Named} {taken : Taken C}
+  pub such_that_form : {C : Type 0} (test : C → Bool) (kind : Kind) {w : Named} {taken : Given C}
       {c : C} → IsFormRead o w taken c → test c ≡ true →
-      IsFormRead o w (taken_then taken (λ v. chosen (test v) (give v) (refuse kind))) c
+      IsFormRead o w (given_then taken (λ v. chosen (test v) (give v) (refuse kind))) c
   such_that_form test kind {taken = taken} {c = c} law passes = record {
     back = λ i e t form. ap (λ p. then_take p (λ v. if test v then gives v else refuses kind))
         (law.back i e t form) ∙ ap (λ t. if t then gives c else refuses kind) passes;

@@ -10,11 +10,11 @@ use Rattle.ciborium_value.specs.Labels.{fields_of, named}
 use Rattle.ciborium_value.specs.Readings.{Reading}
 use Rattle.ciborium_value.specs.ReadsBack.{of_ok}
 use Rattle.ciborium_value.specs.Sinks.{Named, named_text}
-use Rattle.ciborium_value.specs.Taken.{Taken, give, gives, outcome, then_take}
-use Rattle.ciborium_value.specs.TakenParts.{taken_then}
+use Rattle.ciborium_value.specs.Given.{Given, give, gives, outcome, then_take}
+use Rattle.ciborium_value.specs.GivenParts.{given_then}
 use Rattle.ciborium_value.specs.Tree as trees
 use Rattle.ciborium_value.specs.Tree.{Tree, TreePairs, no_tree_pairs, tree_pair}
-use Rattle.ciborium_value.specs.VariantReadings.{Variant, taken_data, taken_enum}
+use Rattle.ciborium_value.specs.VariantReadings.{Variant, given_data, given_enum}
 use Rattle.ciborium_value.specs.declared.key_order.KeyOrder.{KeyOrder}
 use Rattle.ciborium_value.specs.lemmas.GivenOutcomes.{mapped_gives, one_given, pair_gives}
 use Rattle.ciborium_value.specs.lemmas.GivenOutcomes.{then_gives}
@@ -22,23 +22,23 @@ use Rattle.ciborium_value.specs.lemmas.GivenOutcomes.{then_gives}
 module _ (o : KeyOrder) {C : Type 0} (vs : List (Variant C)) (name : List ℕ) where
   -- a variant without data: `refl` shows that the name is its own
   pub unit_variant_form : {c : C} →
-      outcome None (taken_data vs name (items.simple 22)) ≡ gives c →
-      IsFormRead o (named_text name) (taken_enum vs) c
+      outcome None (given_data vs name (items.simple 22)) ≡ gives c →
+      IsFormRead o (named_text name) (given_enum vs) c
   unit_variant_form {c = c} h = record {
     back = of_ok (named_text name) (λ i. (t : Tree) →
         deterministic_form o (written_tree i) ≡ gives t →
-        outcome None (taken_enum vs (item_of t)) ≡ gives c)
-        (λ t form. subst (λ u. outcome None (taken_enum vs (item_of u)) ≡ gives c)
+        outcome None (given_enum vs (item_of t)) ≡ gives c)
+        (λ t form. subst (λ u. outcome None (given_enum vs (item_of u)) ≡ gives c)
         (one_given (trees.text name) t form) h);
   }
 
   -- the data beside the name alone
-  alone : {A : Type 0} (taken : Taken A) (make : A → C) (a : A) (w : Named) →
-      ((i : Item) → outcome None (taken_data vs name i) ≡ outcome None (taken_then taken
+  alone : {A : Type 0} (taken : Given A) (make : A → C) (a : A) (w : Named) →
+      ((i : Item) → outcome None (given_data vs name i) ≡ outcome None (given_then taken
       (λ v. give (make v)) i)) → IsFormRead o w taken a →
       IfOk (fields_of ((named name, w) ∷ [])) (λ i. (t : Tree) →
       deterministic_form o (written_tree i) ≡ gives t →
-      outcome None (taken_enum vs (item_of t)) ≡ gives (make a))
+      outcome None (given_enum vs (item_of t)) ≡ gives (make a))
   alone taken make a (Ok i) same law = λ t form.
       let (qs, there, is) = mapped_gives trees.map (then_take (pair_forms o
       (tree_pair (trees.text name) (written_tree i) no_tree_pairs)) (sorted_pairs o)) t form in
@@ -53,19 +53,19 @@ module _ (o : KeyOrder) {C : Type 0} (vs : List (Variant C)) (name : List ℕ) w
       let all : tree_pair (trees.text name) v no_tree_pairs ≡ qs =
       one_given (tree_pair (trees.text name) v no_tree_pairs) qs
       (ap (sorted_pairs o) whole ∙ sorted) in
-      subst (λ u. outcome None (taken_enum vs (item_of u)) ≡ gives (make a))
+      subst (λ u. outcome None (given_enum vs (item_of u)) ≡ gives (make a))
       (ap trees.map all ∙ is) (same (item_of v) ∙
       ap (λ p. then_take p (λ v. gives (make v))) (law.back i refl v other))
   alone taken make a (Err k) same law = tt
 
   -- a variant with data: `λ i. refl` shows that the name is its own
   pub data_variant_form : {U A : Type 0} (make : A → C) (r : Reading U A) {w : Named} {a : A} →
-      ((i : Item) → outcome None (taken_data vs name i) ≡ outcome None
-      (taken_then r.taken (λ v. give (make v)) i)) → IsFormRead o w r.taken a →
-      IsFormRead o (fields_of ((named name, w) ∷ [])) (taken_enum vs) (make a)
+      ((i : Item) → outcome None (given_data vs name i) ≡ outcome None
+      (given_then r.taken (λ v. give (make v)) i)) → IsFormRead o w r.taken a →
+      IsFormRead o (fields_of ((named name, w) ∷ [])) (given_enum vs) (make a)
   data_variant_form make r {w = w} {a = a} same law = record {
     back = of_ok (fields_of ((named name, w) ∷ [])) (λ i. (t : Tree) →
         deterministic_form o (written_tree i) ≡ gives t →
-        outcome None (taken_enum vs (item_of t)) ≡ gives (make a))
+        outcome None (given_enum vs (item_of t)) ≡ gives (make a))
         (alone r.taken make a w same law);
   }

@@ -1,8 +1,8 @@
 -- Outcomes that give a value: what they are made of.
 use Rattle.std.proofs.Common.{◌≡◌, List, ◌∷◌, Option, Some, None, refl, ap}
 use Rattle.ciborium_value.specs.DeterministicForms.{one_more, one_pair_more}
-use Rattle.ciborium_value.specs.Taken.{Outcome, gives, refuses, then_take, outcome_map}
-use Rattle.ciborium_value.specs.Taken.{of_meaning}
+use Rattle.ciborium_value.specs.Given.{Outcome, gives, refuses, then_take, outcome_map}
+use Rattle.ciborium_value.specs.Given.{of_meaning}
 use Rattle.ciborium_value.specs.Tree.{Tree, Trees, tree, TreePairs, tree_pair}
 use Rattle.ciborium_value.specs.declared.kind.Kind.{Kind}
 

@@ -8,7 +8,7 @@ use Rattle.ciborium_value.specs.Places.{sequence}
 use Rattle.ciborium_value.specs.Progress.{counted_of}
 use Rattle.ciborium_value.specs.Readings.{array_of, no_part, part}
 use Rattle.ciborium_value.specs.ReadsBack.{IsNameRead}
-use Rattle.ciborium_value.specs.TakenParts.{after_seq}
+use Rattle.ciborium_value.specs.GivenParts.{after_seq}
 use Rattle.ciborium_value.specs.declared.key_order.KeyOrder.{KeyOrder}
 use Rattle.ciborium_value.specs.lemmas.Descriptions.{both, chosen-back, chosen-form, counted-never}
 use Rattle.ciborium_value.specs.lemmas.FormsReadBackParts.{array_form, no_part_form, part_form}
@@ -23,15 +23,15 @@ then_item value d behind = record {
   content = λ v. (d.reading.content (value v), behind.content v);
   parts = λ v. d.written (value v) ∷ behind.parts v;
   number = behind.number + 1;
-  is_held = λ v. d.is_held (value v) × behind.is_held v;
+  is_valid = λ v. d.is_valid (value v) × behind.is_valid v;
   levels = λ v. max (d.levels (value v)) (behind.levels v);
   is_sound = d.is_sound && behind.is_sound;
-  back = λ sound v held.
+  back = λ sound v valid.
       let s = both d.is_sound behind.is_sound sound in
-      part_back (d.reads_back s.0 (value v) held.0) (behind.back s.1 v held.1);
-  form = λ sound o v held.
+      part_back (d.reads_back s.0 (value v) valid.0) (behind.back s.1 v valid.1);
+  form = λ sound o v valid.
       let s = both d.is_sound behind.is_sound sound in
-      part_form o (d.form_reads_back s.0 o (value v) held.0) (behind.form s.1 o v held.1);
+      part_form o (d.form_reads_back s.0 o (value v) valid.0) (behind.form s.1 o v valid.1);
   alike = λ v w same.
       ap (λ r. r ∷ behind.parts v) (d.writes_content (value v) (value w) (ap (λ p. p.0) same)) ∙
       ap (λ rs. d.written (value w) ∷ rs) (behind.alike v w (ap (λ p. p.1) same));
@@ -45,26 +45,26 @@ then_no_item = record {
   content = λ v. tt;
   parts = λ v. [];
   number = 0;
-  is_held = λ v. Unit {0};
+  is_valid = λ v. Unit {0};
   levels = λ v. 0;
   is_sound = true;
-  back = λ sound v held. no_part_back;
-  form = λ sound o v held. no_part_form o;
+  back = λ sound v valid. no_part_back;
+  form = λ sound o v valid. no_part_form o;
   alike = λ v w same. refl;
 }
 
 module _ {T : Type 0} (is : ItemsDescription T) where
-  pub items-back : is.is_sound ≡ true → (v : T) → is.is_held v →
+  pub items-back : is.is_sound ≡ true → (v : T) → is.is_valid v →
       IsNameRead (counted_of sequence is.number (is.parts v)) (after_seq is.items)
       (is.content v) (suc (is.levels v))
-  items-back sound v held = chosen-back (nat_le is.number greatest_offset)
-      (array_back (is.back sound v held))
+  items-back sound v valid = chosen-back (nat_le is.number greatest_offset)
+      (array_back (is.back sound v valid))
 
-  pub items-form : is.is_sound ≡ true → (o : KeyOrder) (v : T) → is.is_held v →
+  pub items-form : is.is_sound ≡ true → (o : KeyOrder) (v : T) → is.is_valid v →
       IsFormRead o (counted_of sequence is.number (is.parts v)) (after_seq is.items)
       (is.content v)
-  items-form sound o v held = chosen-form o (nat_le is.number greatest_offset)
-      (array_form o (is.form sound o v held))
+  items-form sound o v valid = chosen-form o (nat_le is.number greatest_offset)
+      (array_form o (is.form sound o v valid))
 
 -- a struct as an array of its items
 abbrev pub array_description : {T : Type 0} → ItemsDescription T → Description T
@@ -72,7 +72,7 @@ array_description is = record {
   Content = is.Content;
   reading = array_of is.content is.items;
   written = λ v. counted_of sequence is.number (is.parts v);
-  is_held = is.is_held;
+  is_valid = is.is_valid;
   levels = λ v. suc (is.levels v);
   avoids = λ a. true;
   is_sound = is.is_sound;

@@ -12,7 +12,7 @@ use Rattle.ciborium_value.specs.WrittenContents.{map-alike}
 use Rattle.ciborium_value.specs.lemmas.Descriptions.{both, signed_description, unsigned_description}
 use Rattle.ciborium_value.specs.lemmas.FormsReadBackMaps.{map-form}
 use Rattle.ciborium_value.specs.lemmas.FormsReadBackNumbers.{IsSignedForm, IsUnsignedForm}
-use Rattle.ciborium_value.specs.lemmas.ReadsBackMaps.{IsMapHeld, entry_levels, map-back}
+use Rattle.ciborium_value.specs.lemmas.ReadsBackMaps.{IsMapValid, entry_levels, map-back}
 use Rattle.ciborium_value.specs.lemmas.ReadsBackNumbers.{IsSignedBack, IsUnsignedBack}
 use Rattle.ciborium_value.specs.lemmas.ReadsBackParts.{greatest}
 
@@ -40,18 +40,18 @@ map_description once map k v = record {
   Content = List (k.key.Content × v.Content);
   reading = map_by once (λ m. (map m).entries) k.key.reading v.reading;
   written = λ m. container_of dictionary (in_turn k.key.written v.written (map m).entries);
-  is_held = λ m. IsMapHeld k.compare k.key.is_held v.is_held (map m);
+  is_valid = λ m. IsMapValid k.compare k.key.is_valid v.is_valid (map m);
   levels = λ m. suc (greatest (entry_levels k.key.levels v.levels) (map m).entries);
   avoids = λ a. true;
   is_sound = k.key.is_sound && v.is_sound;
-  reads_back = λ sound m held.
+  reads_back = λ sound m valid.
       let s = both k.key.is_sound v.is_sound sound in
       map-back (k.key.reads_back s.0) (v.reads_back s.1) once k.compare k.key.reading.order k.total
-      k.orders (map m) held;
-  form_reads_back = λ sound o m held.
+      k.orders (map m) valid;
+  form_reads_back = λ sound o m valid.
       let s = both k.key.is_sound v.is_sound sound in
       map-form o (k.key.form_reads_back s.0 o) (v.form_reads_back s.1 o) once k.compare
-      k.key.reading.order k.total k.orders (map m) held;
+      k.key.reading.order k.total k.orders (map m) valid;
   writes_content = λ m n same.
       map-alike k.key.writes_content v.writes_content (map m).entries (map n).entries same;
   never = λ a h m. never-container a dictionary

@@ -9,7 +9,7 @@ use Rattle.std.specs.Prelude.{Ok, refl}
 use Rattle.ciborium_ll.proofs.HeadOrder.{byte_at-is, power_above}
 use Rattle.ciborium_value.specs.Meaning.{big_endian_behind, big_endian, without_zeros}
 use Rattle.ciborium_value.specs.Number.{shortest_bytes}
-use Rattle.ciborium_value.specs.Taken.{magnitude}
+use Rattle.ciborium_value.specs.Given.{magnitude}
 
 -- ---- leading zeros
 

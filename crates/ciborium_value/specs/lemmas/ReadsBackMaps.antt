@@ -22,11 +22,11 @@ use Rattle.ciborium_value.specs.lemmas.ReadsBackParts.{within-right}
 use Rattle.ciborium_value.specs.Sinks.{Named, and_then, all_named, contained, container_of, in_turn}
 use Rattle.ciborium_value.specs.lemmas.GivenOutcomes.{and_take, mapped_gives, one_given, then_gives}
 use Rattle.ciborium_value.specs.lemmas.ReadsBackStructs.{nothing-twice}
-use Rattle.ciborium_value.specs.Taken.{Outcome, Steps, Taken, chosen, gives, outcome, outcome_map}
-use Rattle.ciborium_value.specs.Taken.{refuse, refuses, take_each, then_read, then_take}
-use Rattle.ciborium_value.specs.Taken.{unpack_pairs}
-use Rattle.ciborium_value.specs.TakenParts.{after_pairs, has_key, put_all, put_each, take_entry}
-use Rattle.ciborium_value.specs.TakenParts.{taken_map}
+use Rattle.ciborium_value.specs.Given.{Outcome, Steps, Given, chosen, gives, outcome, outcome_map}
+use Rattle.ciborium_value.specs.Given.{refuse, refuses, take_each, then_read, then_take}
+use Rattle.ciborium_value.specs.Given.{unpack_pairs}
+use Rattle.ciborium_value.specs.GivenParts.{after_pairs, has_key, put_all, put_each, take_entry}
+use Rattle.ciborium_value.specs.GivenParts.{given_map}
 use Rattle.ciborium_value.specs.declared.kind.Kind.{Kind}
 use Rattle.ciborium_value.specs.declared.kind.Kind.TheVariants as kinds
 use Rattle.ciborium_value.specs.WrittenContents.{contents}
@@ -130,7 +130,7 @@ module _ {A B : Type 0} (order : A → A → Ordering) where
       AreNew (insert_entry order es q.0 q.1) qs
 
   -- then it makes no difference whether equal keys are refused
-  pub put-new : (once : Bool) (key : Taken A) (value : Taken B) (l : Limit) (es : List (A × B))
+  pub put-new : (once : Bool) (key : Given A) (value : Given B) (l : Limit) (es : List (A × B))
       (ps : List (Item × Item)) (qs : List (A × B)) → AreNew es qs →
       outcome l (take_each (take_entry key value) ps) ≡ gives qs →
       outcome l (put_each once order key value es ps) ≡ gives (put_all order es qs)
@@ -294,7 +294,7 @@ module _ {C : Type 0} (way : Way) (k : List (Item × Item) → Steps C) where
   inside (Err e) c n h l fits = tt
 
 -- a key and its value, and what follows them
-module _ {A B : Type 0} (f : Taken A) (h : Taken B) (g : Item → Item) where
+module _ {A B : Type 0} (f : Given A) (h : Given B) (g : Item → Item) where
   abbrev entries : List Item → Steps (List (A × B))
   entries is = take_each (take_entry f h) (unpack_pairs (pairs_from (map g is)))
 
@@ -310,73 +310,73 @@ module _ {A B : Type 0} (f : Taken A) (h : Taken B) (g : Item → Item) where
       ∙ ap (λ o. and_take (then_take o (λ y. gives (a, y))) rest) q ∙ ap (and_take (gives (a, b))) m
   pair-back l u v w a b ps p q m = tt
 
--- what the entries are: their keys rise, and each key and value is held
-abbrev pub IsMapHeld : {K V : Type 0} → (K → K → Ordering) → (K → Type 0) → (V → Type 0) →
+-- what the entries are: their keys rise, and each key and value is valid
+abbrev pub IsMapValid : {K V : Type 0} → (K → K → Ordering) → (K → Type 0) → (V → Type 0) →
     BTreeMap K V → Type 0
-IsMapHeld cmp IsKeyHeld IsValueHeld m = IsOrdered cmp m ×
-    All (λ e. IsKeyHeld e.0 × IsValueHeld e.1) m.entries
+IsMapValid cmp IsKeyValid IsValueValid m = IsOrdered cmp m ×
+    All (λ e. IsKeyValid e.0 × IsValueValid e.1) m.entries
 
 -- the levels of a key and its value
 abbrev pub entry_levels : {K V : Type 0} → (K → ℕ) → (V → ℕ) → K × V → ℕ
 entry_levels key_levels value_levels e = max (key_levels e.0) (value_levels e.1)
 
-module _ {K A : Type 0} {IsKeyHeld : K → Type 0} {key_written : K → Named} {key_taken : Taken A}
-    {key : K → A} {key_levels : K → ℕ} (key_back : IsReadBack IsKeyHeld key_written key_taken key
+module _ {K A : Type 0} {IsKeyValid : K → Type 0} {key_written : K → Named} {key_given : Given A}
+    {key : K → A} {key_levels : K → ℕ} (key_back : IsReadBack IsKeyValid key_written key_given key
     key_levels) where
-  module _ {V B : Type 0} {IsValueHeld : V → Type 0} {value_written : V → Named}
-      {value_taken : Taken B} {value : V → B} {value_levels : V → ℕ}
-      (value_back : IsReadBack IsValueHeld value_written value_taken value value_levels) where
-    entries-back : (es : List (K × V)) → All (λ e. IsKeyHeld e.0 × IsValueHeld e.1) es →
+  module _ {V B : Type 0} {IsValueValid : V → Type 0} {value_written : V → Named}
+      {value_given : Given B} {value : V → B} {value_levels : V → ℕ}
+      (value_back : IsReadBack IsValueValid value_written value_given value value_levels) where
+    entries-back : (es : List (K × V)) → All (λ e. IsKeyValid e.0 × IsValueValid e.1) es →
         (way : Way) (l : Limit) → IsWithin l (greatest (entry_levels key_levels value_levels) es) →
         IfOk (all_named (in_turn key_written value_written es))
-        (λ is. outcome l (entries key_taken value_taken (met way) is) ≡ gives
+        (λ is. outcome l (entries key_given value_given (met way) is) ≡ gives
         (contents key value es))
-    entries-back [] held way l fits = refl
-    entries-back (e ∷ es) held way l fits =
+    entries-back [] valid way l fits = refl
+    entries-back (e ∷ es) valid way l fits =
         let levels = entry_levels key_levels value_levels in
-        let first = All-head (λ e. IsKeyHeld e.0 × IsValueHeld e.1) e es held in
+        let first = All-head (λ e. IsKeyValid e.0 × IsValueValid e.1) e es valid in
         let here = within-left l (levels e) (greatest levels es) fits in
-        pair-back key_taken value_taken (met way) l (key_written e.0) (value_written e.1)
+        pair-back key_given value_given (met way) l (key_written e.0) (value_written e.1)
         (all_named (in_turn key_written value_written es)) (key e.0) (value e.1)
         (contents key value es)
-        (at (key_written e.0) key_taken (key e.0) (key_levels e.0) (key_back e.0 first.0) way l
+        (at (key_written e.0) key_given (key e.0) (key_levels e.0) (key_back e.0 first.0) way l
         (within-left l (key_levels e.0) (value_levels e.1) here))
-        (at (value_written e.1) value_taken (value e.1) (value_levels e.1) (value_back e.1 first.1)
+        (at (value_written e.1) value_given (value e.1) (value_levels e.1) (value_back e.1 first.1)
         way l (within-right l (key_levels e.0) (value_levels e.1) here))
-        (entries-back es (All-tail (λ e. IsKeyHeld e.0 × IsValueHeld e.1) e es held) way l
+        (entries-back es (All-tail (λ e. IsKeyValid e.0 × IsValueValid e.1) e es valid) way l
         (within-right l (levels e) (greatest levels es) fits))
 
     put-back : (once : Bool) (order : A → A → Ordering) (es : List (K × V)) →
         put_all order [] (contents key value es) ≡ contents key value es →
         AreNew order [] (contents key value es) →
         (way : Way) (l : Limit) (r : Result (List Item) Kind) →
-        IfOk r (λ is. outcome l (entries key_taken value_taken (met way) is) ≡ gives
+        IfOk r (λ is. outcome l (entries key_given value_given (met way) is) ≡ gives
         (contents key value es)) →
-        IfOk r (λ is. outcome l (put_each once order key_taken value_taken []
+        IfOk r (λ is. outcome l (put_each once order key_given value_given []
         (unpack_pairs (pairs_from (map (met way) is)))) ≡ gives (contents key value es))
     put-back once order es h new way l (Ok is) k =
-        put-new order once key_taken value_taken l [] (unpack_pairs (pairs_from (map (met way) is)))
+        put-new order once key_given value_given l [] (unpack_pairs (pairs_from (map (met way) is)))
         (contents key value es) new k ∙ ap gives h
     put-back once order es h new way l (Err e) k = tt
 
     pub map-back : (once : Bool) (cmp : K → K → Ordering) (order : A → A → Ordering) →
         IsTotalOrder cmp →
         ((a b : K) → cmp a b ≡ order (key a) (key b)) → (m : BTreeMap K V) →
-        IsMapHeld cmp IsKeyHeld IsValueHeld m →
+        IsMapValid cmp IsKeyValid IsValueValid m →
         IsNameRead (container_of dictionary (in_turn key_written value_written m.entries))
-        (taken_map once order key_taken value_taken) (contents key value m.entries)
+        (given_map once order key_given value_given) (contents key value m.entries)
         (suc (greatest (entry_levels key_levels value_levels) m.entries))
-    map-back once cmp order total orders m held =
+    map-back once cmp order total orders m valid =
         let parts = all_named (in_turn key_written value_written m.entries) in
-        let same = put-contents cmp order key value total orders m.entries held.0 in
+        let same = put-contents cmp order key value total orders m.entries valid.0 in
         let new = contents-apart cmp order key value orders total m.entries
-        (sorted-apart cmp m.entries held.0) in record {
+        (sorted-apart cmp m.entries valid.0) in record {
           back = λ way i e l fits. of_ok (contained dictionary false parts)
-              (λ j. outcome l (taken_map once order key_taken value_taken (met way j)) ≡ gives
+              (λ j. outcome l (given_map once order key_given value_given (met way j)) ≡ gives
               (contents key value m.entries))
-              (inside way (put_each once order key_taken value_taken []) parts
+              (inside way (put_each once order key_given value_given []) parts
               (contents key value m.entries)
               (greatest (entry_levels key_levels value_levels) m.entries)
               (λ l fits. put-back once order m.entries same new way l parts
-              (entries-back m.entries held.1 way l fits)) l fits) i e;
+              (entries-back m.entries valid.1 way l fits)) l fits) i e;
         }

@@ -13,8 +13,8 @@ use Rattle.ciborium_value.specs.Readings.{below, bounded}
 use Rattle.ciborium_value.specs.ReadsBack.{IsDefinite, IsReadBack, back-by_item, named}
 use Rattle.ciborium_value.specs.lemmas.ReadsBackBignums.{magnitude-shortest}
 use Rattle.ciborium_value.specs.Sinks.{bignum_item, number_item}
-use Rattle.ciborium_value.specs.Taken.{gives, number_below, number_of, number_within, outcome}
-use Rattle.ciborium_value.specs.Taken.{settled, then_take, with_sign}
+use Rattle.ciborium_value.specs.Given.{gives, number_below, number_of, number_within, outcome}
+use Rattle.ciborium_value.specs.Given.{settled, then_take, with_sign}
 use Rattle.ciborium_value.specs.declared.kind.Kind.{Kind}
 
 -- ---- numbers of either sign
@@ -76,12 +76,12 @@ unsigned-back k fits =
     (λ n h l. ap (λ r. then_take (settled r) (λ v. outcome l (number_below (2 ^ k) v)))
     (number_of-item (pos n) (below-power n k h fits)) ∙ is_below l n (2 ^ k) h)
 
-signed-taken : (k : ℕ) → k < 129 → (z : ℤ) → readings.IsBounded (2 ^ k) z → (l : Limit) →
+signed-given : (k : ℕ) → k < 129 → (z : ℤ) → readings.IsBounded (2 ^ k) z → (l : Limit) →
     outcome l ((bounded (2 ^ k)).taken (number_item z)) ≡ gives z
-signed-taken k fits (pos n) h l = ap (λ r. then_take (settled r)
+signed-given k fits (pos n) h l = ap (λ r. then_take (settled r)
     (λ v. outcome l (number_within (2 ^ k) v)))
     (number_of-item (pos n) (below-power n k h fits)) ∙ is_within l false n (2 ^ k) h
-signed-taken k fits (negsuc n) h l = ap (λ r. then_take (settled r)
+signed-given k fits (negsuc n) h l = ap (λ r. then_take (settled r)
     (λ v. outcome l (number_within (2 ^ k) v)))
     (number_of-item (negsuc n) (below-power n k h fits)) ∙ is_within l true n (2 ^ k) h
 
@@ -92,7 +92,7 @@ IsSignedBack k = IsReadBack (readings.IsBounded (2 ^ k)) (λ z. named (number_it
 
 signed-back : (k : ℕ) → k < 129 → IsSignedBack k
 signed-back k fits = back-by_item (readings.IsBounded (2 ^ k)) number_item (bounded (2 ^ k)).taken
-    (λ z. z) definite-number (signed-taken k fits)
+    (λ z. z) definite-number (signed-given k fits)
 
 -- ---- the types of numbers, by their names; `usize` and `isize` have 64 bits
 

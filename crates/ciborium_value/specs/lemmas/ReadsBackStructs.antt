@@ -12,16 +12,16 @@ use Rattle.ciborium_value.specs.Nesting.{Limit, IsWithin}
 use Rattle.ciborium_value.specs.Places.{dictionary, pairs_from}
 use Rattle.ciborium_value.specs.Readings.{Reading}
 use Rattle.ciborium_value.specs.Labels.{Label, fields_of, is_label, is_proper, label_item, named}
-use Rattle.ciborium_value.specs.Labels.{numbered, other, taken_label}
+use Rattle.ciborium_value.specs.Labels.{numbered, other, given_label}
 use Rattle.ciborium_value.specs.ReadsBack.{IsNameRead, Way, by_bytes, by_tree, met, of_ok}
 use Rattle.ciborium_value.specs.lemmas.ReadsBackParts.{at, met-container, within-left, within-right}
 use Rattle.ciborium_value.specs.Sinks.{Named, all_named, and_then, bignum_item, contained, in_turn}
-use Rattle.ciborium_value.specs.StructReadings.{Fields, FieldsTaken, end_of_fields, field}
-use Rattle.ciborium_value.specs.StructReadings.{field_filled, field_or, field_taken, no_field}
-use Rattle.ciborium_value.specs.StructReadings.{no_field_taken, required, take_fields, taken_fields}
-use Rattle.ciborium_value.specs.Taken.{Outcome, Taken, decided, gives, outcome, outcome_map}
-use Rattle.ciborium_value.specs.Taken.{refuses, settled, then_take, unpack_pairs}
-use Rattle.ciborium_value.specs.TakenParts.{taken_then}
+use Rattle.ciborium_value.specs.StructReadings.{Fields, FieldsGiven, end_of_fields, field}
+use Rattle.ciborium_value.specs.StructReadings.{field_filled, field_or, field_given, no_field}
+use Rattle.ciborium_value.specs.StructReadings.{no_field_given, required, take_fields, given_fields}
+use Rattle.ciborium_value.specs.Given.{Outcome, Given, decided, gives, outcome, outcome_map}
+use Rattle.ciborium_value.specs.Given.{refuses, settled, then_take, unpack_pairs}
+use Rattle.ciborium_value.specs.GivenParts.{given_then}
 use Rattle.ciborium_value.specs.declared.kind.Kind.{Kind}
 use Rattle.ciborium_value.specs.declared.kind.Kind.TheVariants as kinds
 
@@ -57,7 +57,7 @@ pairs way is = unpack_pairs (pairs_from (map (met way) is))
 
 -- a key that is read as this label, whatever the limit
 abbrev pub IsKeyOf : Label → Item → Type 0
-IsKeyOf name i = (l : Limit) → outcome l (taken_label i) ≡ gives name
+IsKeyOf name i = (l : Limit) → outcome l (given_label i) ≡ gives name
 
 -- a label is met as it was written
 label-met : (way : Way) (name : Label) → is_proper name ≡ true →
@@ -79,10 +79,10 @@ label-met u v h = λ l. refl
 
 -- ---- a field leaves what stands under other labels to those behind it
 
-module _ {A C : Type 0} (once : Bool) (wanted : Label) (taken : Taken A) (behind : FieldsTaken C)
+module _ {A C : Type 0} (once : Bool) (wanted : Label) (taken : Given A) (behind : FieldsGiven C)
     (way : Way) (l : Limit) (x : Option A) where
-  abbrev all : FieldsTaken (Option A × C)
-  all = field_taken once wanted taken behind
+  abbrev all : FieldsGiven (Option A × C)
+  all = field_given once wanted taken behind
 
   -- what is under the label of this field
   abbrev own : C → Item → Outcome (Option A × C)
@@ -133,13 +133,13 @@ pub record FieldsReadBack {C D : Type 0} (fields : Fields C D) (fs : List (Label
       IfOk (parts_of fs) (λ is. then_take (outcome l (take_fields fields.read fields.start
       (pairs way is))) (λ c. settled (fields.complete c)) ≡ gives d)
 
-pub end_back : (once : Bool) (others : FieldsTaken (Unit {0})) →
+pub end_back : (once : Bool) (others : FieldsGiven (Unit {0})) →
     FieldsReadBack (end_of_fields once others) [] tt 0
 end_back once others = record { back = λ apart way l fits. refl }
 
 -- the end
 pub no_field_back : FieldsReadBack no_field [] tt 0
-no_field_back = end_back false no_field_taken
+no_field_back = end_back false no_field_given
 
 pub same-label : (name : Label) → is_proper name ≡ true → is_label name name ≡ true
 same-label (named a) h = (bytes_eq-Decides a a).1 refl
@@ -254,28 +254,28 @@ left_out_back name r default {behind = behind} {fs = fs} {d = d} new rest = reco
 
 -- a struct of these fields, whose labels are apart
 module _ {C D : Type 0} (fields : Fields C D) (way : Way) where
-  abbrev taken_all : Taken D
-  taken_all = taken_then (taken_fields fields.read fields.start)
+  abbrev given_all : Given D
+  given_all = given_then (given_fields fields.read fields.start)
       (λ c. decided (fields.complete c))
 
   inside : (s : Result (List Item) Kind) (d : D) (n : ℕ) →
       ((l : Limit) → IsWithin l n → IfOk s (λ is. then_take (outcome l (take_fields fields.read
       fields.start (pairs way is))) (λ c. settled (fields.complete c)) ≡ gives d)) →
       (l : Limit) → IsWithin l (suc n) → IfOk (contained dictionary false s)
-      (λ i. outcome l (taken_all (met way i)) ≡ gives d)
-  inside (Ok is) d n h None fits = ap (λ i. outcome None (taken_all i))
+      (λ i. outcome l (given_all (met way i)) ≡ gives d)
+  inside (Ok is) d n h None fits = ap (λ i. outcome None (given_all i))
       (met-container way dictionary is) ∙ h None tt
   inside (Ok is) d n h (Some zero) fits = absurd (omega (arith, fits))
-  inside (Ok is) d n h (Some (suc m)) fits = ap (λ i. outcome (Some (suc m)) (taken_all i))
+  inside (Ok is) d n h (Some (suc m)) fits = ap (λ i. outcome (Some (suc m)) (given_all i))
       (met-container way dictionary is) ∙ h (Some m) (omega (arith, fits))
   inside (Err e) d n h l fits = tt
 
 pub fields_read_back : {C D : Type 0} {fields : Fields C D} {fs : List (Label × Named)} {d : D}
     {n : ℕ} → FieldsReadBack fields fs d n → are_apart fs ≡ true →
-    IsNameRead (fields_of fs) (taken_then (taken_fields fields.read fields.start)
+    IsNameRead (fields_of fs) (given_then (given_fields fields.read fields.start)
     (λ c. decided (fields.complete c))) d (suc n)
 fields_read_back {fields = fields} {fs = fs} {d = d} {n = n} law apart = record {
   back = λ way i e l fits. of_ok (contained dictionary false (parts_of fs))
-      (λ j. outcome l (taken_all fields way (met way j)) ≡ gives d)
+      (λ j. outcome l (given_all fields way (met way j)) ≡ gives d)
       (inside fields way (parts_of fs) d n (law.back apart way) l fits) i e;
 }

@@ -13,9 +13,9 @@ use Rattle.ciborium_value.specs.Nesting.{Limit, IsWithin, items_nesting, nesting
 use Rattle.ciborium_value.specs.Nesting.{tag_nesting}
 use Rattle.ciborium_value.specs.ReadsBack.{IsNameRead, met, met-definite, named, of_ok}
 use Rattle.ciborium_value.specs.lemmas.ReadsBackParts.{within-left, within-right}
-use Rattle.ciborium_value.specs.Taken.{Outcome, Steps, gives, leveled, mapped, of_meaning}
-use Rattle.ciborium_value.specs.Taken.{outcome, outcome_map, taken_items, taken_tag}
-use Rattle.ciborium_value.specs.Taken.{taken_tree_pairs, taken_value, then_read}
+use Rattle.ciborium_value.specs.Given.{Outcome, Steps, gives, leveled, mapped, of_meaning}
+use Rattle.ciborium_value.specs.Given.{outcome, outcome_map, given_items, given_tag}
+use Rattle.ciborium_value.specs.Given.{given_tree_pairs, given_value, then_read}
 use Rattle.ciborium_value.specs.Tree as trees
 use Rattle.ciborium_value.specs.Tree.{Tree, Trees, TreePairs}
 use Rattle.ciborium_value.specs.lemmas.GivenOutcomes.{pair_first, tree_first}
@@ -43,7 +43,7 @@ level-given f o n x h (Some (suc m)) w e fits =
     map-given f o (outcome (Some m) x) w (λ v same. h (Some m) v same (omega (arith, fits))) e
 
 tag-given : (t : ℕ) (b : Option (List ℕ)) (o : Option Tree) (n : ℕ) (x : Steps Tree) →
-    IsGiven o n x → IsGiven (tag_meaning t b o) (tag_nesting b n) (taken_tag t b x)
+    IsGiven o n x → IsGiven (tag_meaning t b o) (tag_nesting b n) (given_tag t b x)
 tag-given t (Some b) o n x h l w e fits = ap (of_meaning kinds.TooLarge) e
 tag-given t None o n x h l w e fits = level-given (trees.tag t) o n x h l w e fits
 
@@ -75,7 +75,7 @@ one v w e = let same : v ≡ w = cc in ap gives same
 mutual
   unfolding simple_meaning
 
-  value-given : (t : Tree) → IsGiven (folded t) (nesting (item_of t)) (taken_value (item_of t))
+  value-given : (t : Tree) → IsGiven (folded t) (nesting (item_of t)) (given_value (item_of t))
   value-given (trees.integer (pos n)) l w e fits = one (trees.integer (pos n)) w e
   value-given (trees.integer (negsuc n)) l w e fits = one (trees.integer (negsuc n)) w e
   value-given (trees.bytes b) l w e fits = one (trees.bytes b) w e
@@ -85,39 +85,39 @@ mutual
   value-given trees.null l w e fits = one trees.null w e
   value-given (trees.tag t v) l w e fits =
       tag-given t (folding_bytes t (item_of v)) (folded v) (nesting (item_of v))
-      (taken_value (item_of v)) (value-given v) l w
+      (given_value (item_of v)) (value-given v) l w
       (ap (λ s. tag_meaning t (if is_bignum_tag t then s else None) (folded v))
       (short_string-item_of v) ∙ e) fits
   value-given (trees.array vs) l w e fits = level-given trees.array (trees_folded vs)
-      (items_nesting (items_of vs)) (taken_items (items_of vs)) (values-given vs) l w e fits
+      (items_nesting (items_of vs)) (given_items (items_of vs)) (values-given vs) l w e fits
   value-given (trees.map ps) l w e fits = level-given trees.map (tree_pairs_folded ps)
-      (pairs_nesting (pairs_of ps)) (taken_tree_pairs (pairs_of ps)) (pairs-given ps) l w e
+      (pairs_nesting (pairs_of ps)) (given_tree_pairs (pairs_of ps)) (pairs-given ps) l w e
       fits
 
   values-given : (vs : Trees) → IsGiven (trees_folded vs) (items_nesting (items_of vs))
-      (taken_items (items_of vs))
+      (given_items (items_of vs))
   values-given trees.no_trees l w e fits = one trees.no_trees w e
   values-given (trees.tree v vs) l w e fits =
       more-given (folded v) (trees_folded vs) (nesting (item_of v)) (items_nesting (items_of vs))
-      (taken_value (item_of v)) (taken_items (items_of vs)) (value-given v)
+      (given_value (item_of v)) (given_items (items_of vs)) (value-given v)
       (values-given vs) l w e fits
 
   pairs-given : (ps : TreePairs) → IsGiven (tree_pairs_folded ps) (pairs_nesting (pairs_of ps))
-      (taken_tree_pairs (pairs_of ps))
+      (given_tree_pairs (pairs_of ps))
   pairs-given trees.no_tree_pairs l w e fits = one trees.no_tree_pairs w e
   pairs-given (trees.tree_pair k v ps) l w e fits =
       pair-given (folded k) (folded v) (tree_pairs_folded ps) (nesting (item_of k))
       (nesting (item_of v)) (pairs_nesting (pairs_of ps))
-      (taken_value (item_of k)) (taken_value (item_of v))
-      (taken_tree_pairs (pairs_of ps)) (value-given k) (value-given v) (pairs-given ps) l
+      (given_value (item_of k)) (given_value (item_of v))
+      (given_tree_pairs (pairs_of ps)) (value-given k) (value-given v) (pairs-given ps) l
       w e fits
 
 -- what is written of a tree is read as the tree, where folding changes nothing in it
 pub value-back : (t : Tree) → folded t ≡ Some t →
-    IsNameRead (named (item_of t)) taken_value t (nesting (item_of t))
+    IsNameRead (named (item_of t)) given_value t (nesting (item_of t))
 value-back t same = record {
   back = λ way i e l fits. of_ok (named (item_of t))
-      (λ j. outcome l (taken_value (met way j)) ≡ gives t)
-      (ap (λ j. outcome l (taken_value j)) (met-definite way (item_of t)
+      (λ j. outcome l (given_value (met way j)) ≡ gives t)
+      (ap (λ j. outcome l (given_value j)) (met-definite way (item_of t)
       (ap item_of (tree_is_written_as_itself t))) ∙ value-given t l t same fits) i e;
 }

@@ -14,9 +14,9 @@ use Rattle.ciborium_value.specs.NeverWritten.{Avoided, IsNever, never-container,
 use Rattle.ciborium_value.specs.Places.{dictionary}
 use Rattle.ciborium_value.specs.ReadsBack.{IsNameRead}
 use Rattle.ciborium_value.specs.Sinks.{Named, in_turn, named_text}
-use Rattle.ciborium_value.specs.Taken.{Taken, outcome}
-use Rattle.ciborium_value.specs.VariantReadings.{Variant, data_variant, enum_of, taken_data}
-use Rattle.ciborium_value.specs.VariantReadings.{taken_enum, unit_variant}
+use Rattle.ciborium_value.specs.Given.{Given, outcome}
+use Rattle.ciborium_value.specs.VariantReadings.{Variant, data_variant, enum_of, given_data}
+use Rattle.ciborium_value.specs.VariantReadings.{given_enum, unit_variant}
 use Rattle.ciborium_value.specs.declared.key_order.KeyOrder.{KeyOrder}
 use Rattle.ciborium_value.specs.lemmas.FormsReadBackVariants.{data_variant_form, unit_variant_form}
 use Rattle.ciborium_value.specs.lemmas.ReadsBackVariants.{data_variant_back, unit_variant_back}
@@ -50,16 +50,16 @@ other-name name first names among new true e =
 other-name name first names among new false e = refl
 
 module _ {E : Type 0} (all : List (Variant E)) (name : List ℕ) (names : List (List ℕ))
-    (first : Taken E) (behind : List (Variant E)) where
+    (first : Given E) (behind : List (Variant E)) where
   abbrev these : List (Variant E)
   these = record { name = name; taken = first } ∷ behind
 
   -- what stands under the first name
   first-data : AreReadBy all (name ∷ names) these → (l : Limit) (i : Item) →
-      outcome l (taken_data all name i) ≡ outcome l (first i)
+      outcome l (given_data all name i) ≡ outcome l (first i)
   first-data h l i =
       h name (ap (λ t. if t then true else is_name_among name names) (same-name name)) l i ∙
-      ap (λ t. if t then outcome l (first i) else outcome l (taken_data behind name i))
+      ap (λ t. if t then outcome l (first i) else outcome l (given_data behind name i))
       (same-name name)
 
   -- what stands under the others
@@ -68,7 +68,7 @@ module _ {E : Type 0} (all : List (Variant E)) (name : List ℕ) (names : List (
   others-data new h other among l i =
       let apart = other-name other name names among new (bytes_eq other name) refl in
       h other (ap (λ t. if t then true else is_name_among other names) apart ∙ among) l i ∙
-      ap (λ t. if t then outcome l (first i) else outcome l (taken_data behind other i)) apart
+      ap (λ t. if t then outcome l (first i) else outcome l (given_data behind other i)) apart
 
 -- the name and the data under it
 abbrev pub under_name : List ℕ → Named → Named
@@ -93,27 +93,27 @@ module _ {S : Type 0} (name : List ℕ) (behind : VariantsDescription S) where
 
     pub unit-back : {E : Type 0} (all : List (Variant E))
         (make : Unit {0} ⊎ behind.Content → E) → AreReadBy all (name ∷ behind.names)
-        (with_unit make) → (s : Unit {0} ⊎ S) → IfEither (λ u. Unit {0}) behind.is_held s →
-        IsNameRead (unit_named s) (taken_enum all)
+        (with_unit make) → (s : Unit {0} ⊎ S) → IfEither (λ u. Unit {0}) behind.is_valid s →
+        IsNameRead (unit_named s) (given_enum all)
         (make (either_map (λ u. u) behind.content s)) (of_either (λ u. 1) behind.levels s)
-    unit-back all make h (inl u) held = unit_variant_back all name (λ l.
+    unit-back all make h (inl u) valid = unit_variant_back all name (λ l.
         first-data all name behind.names (unit_variant name (make (inl tt))).taken
         (behind.variants (λ c. make (inr c))) h l (items.simple 22))
-    unit-back all make h (inr s) held = behind.back unit-apart.2 all (λ c. make (inr c))
+    unit-back all make h (inr s) valid = behind.back unit-apart.2 all (λ c. make (inr c))
         (others-data all name behind.names (unit_variant name (make (inl tt))).taken
-        (behind.variants (λ c. make (inr c))) unit-apart.0 h) s held
+        (behind.variants (λ c. make (inr c))) unit-apart.0 h) s valid
 
     pub unit-form : (o : KeyOrder) {E : Type 0} (all : List (Variant E))
         (make : Unit {0} ⊎ behind.Content → E) → AreReadBy all (name ∷ behind.names)
-        (with_unit make) → (s : Unit {0} ⊎ S) → IfEither (λ u. Unit {0}) behind.is_held s →
-        IsFormRead o (unit_named s) (taken_enum all)
+        (with_unit make) → (s : Unit {0} ⊎ S) → IfEither (λ u. Unit {0}) behind.is_valid s →
+        IsFormRead o (unit_named s) (given_enum all)
         (make (either_map (λ u. u) behind.content s))
-    unit-form o all make h (inl u) held = unit_variant_form o all name
+    unit-form o all make h (inl u) valid = unit_variant_form o all name
         (first-data all name behind.names (unit_variant name (make (inl tt))).taken
         (behind.variants (λ c. make (inr c))) h None (items.simple 22))
-    unit-form o all make h (inr s) held = behind.form unit-apart.2 o all (λ c. make (inr c))
+    unit-form o all make h (inr s) valid = behind.form unit-apart.2 o all (λ c. make (inr c))
         (others-data all name behind.names (unit_variant name (make (inl tt))).taken
-        (behind.variants (λ c. make (inr c))) unit-apart.0 h) s held
+        (behind.variants (λ c. make (inr c))) unit-apart.0 h) s valid
 
   pub unit-alike : (s t : Unit {0} ⊎ S) →
       either_map (λ u. u) behind.content s ≡ either_map (λ u. u) behind.content t →
@@ -136,7 +136,7 @@ then_unit_variant name behind = record {
   names = name ∷ behind.names;
   variants = with_unit name behind;
   written = unit_named name behind;
-  is_held = IfEither (λ u. Unit {0}) behind.is_held;
+  is_valid = IfEither (λ u. Unit {0}) behind.is_valid;
   levels = of_either (λ u. 1) behind.levels;
   is_sound = is_new_unit name behind;
   back = λ sound. unit-back name behind sound;
@@ -165,30 +165,31 @@ module _ {V S : Type 0} (name : List ℕ) (d : Description V) (behind : Variants
 
     pub data-back : {E : Type 0} (all : List (Variant E))
         (make : d.Content ⊎ behind.Content → E) → AreReadBy all (name ∷ behind.names)
-        (with_data make) → (s : V ⊎ S) → IfEither d.is_held behind.is_held s →
-        IsNameRead (data_named s) (taken_enum all)
+        (with_data make) → (s : V ⊎ S) → IfEither d.is_valid behind.is_valid s →
+        IsNameRead (data_named s) (given_enum all)
         (make (either_map d.reading.content behind.content s))
         (of_either (λ v. suc (d.levels v)) behind.levels s)
-    data-back all make h (inl v) held = data_variant_back all name (λ c. make (inl c)) d.reading
+    data-back all make h (inl v) valid = data_variant_back all name (λ c. make (inl c)) d.reading
         (first-data all name behind.names (data_variant name (λ c. make (inl c)) d.reading).taken
-        (behind.variants (λ c. make (inr c))) h) (d.reads_back data-apart.1 v held)
-    data-back all make h (inr s) held = behind.back data-apart.2 all (λ c. make (inr c))
+        (behind.variants (λ c. make (inr c))) h) (d.reads_back data-apart.1 v valid)
+    data-back all make h (inr s) valid = behind.back data-apart.2 all (λ c. make (inr c))
         (others-data all name behind.names
         (data_variant name (λ c. make (inl c)) d.reading).taken
-        (behind.variants (λ c. make (inr c))) data-apart.0 h) s held
+        (behind.variants (λ c. make (inr c))) data-apart.0 h) s valid
 
     pub data-form : (o : KeyOrder) {E : Type 0} (all : List (Variant E))
         (make : d.Content ⊎ behind.Content → E) → AreReadBy all (name ∷ behind.names)
-        (with_data make) → (s : V ⊎ S) → IfEither d.is_held behind.is_held s →
-        IsFormRead o (data_named s) (taken_enum all)
+        (with_data make) → (s : V ⊎ S) → IfEither d.is_valid behind.is_valid s →
+        IsFormRead o (data_named s) (given_enum all)
         (make (either_map d.reading.content behind.content s))
-    data-form o all make h (inl v) held = data_variant_form o all name (λ c. make (inl c)) d.reading
+    data-form o all make h (inl v) valid =
+        data_variant_form o all name (λ c. make (inl c)) d.reading
         (first-data all name behind.names (data_variant name (λ c. make (inl c)) d.reading).taken
-        (behind.variants (λ c. make (inr c))) h None) (d.form_reads_back data-apart.1 o v held)
-    data-form o all make h (inr s) held = behind.form data-apart.2 o all (λ c. make (inr c))
+        (behind.variants (λ c. make (inr c))) h None) (d.form_reads_back data-apart.1 o v valid)
+    data-form o all make h (inr s) valid = behind.form data-apart.2 o all (λ c. make (inr c))
         (others-data all name behind.names
         (data_variant name (λ c. make (inl c)) d.reading).taken
-        (behind.variants (λ c. make (inr c))) data-apart.0 h) s held
+        (behind.variants (λ c. make (inr c))) data-apart.0 h) s valid
 
   pub data-alike : (s t : V ⊎ S) → either_map d.reading.content behind.content s ≡
       either_map d.reading.content behind.content t → data_named s ≡ data_named t
@@ -213,7 +214,7 @@ then_variant name d behind = record {
   names = name ∷ behind.names;
   variants = with_data name d behind;
   written = data_named name d behind;
-  is_held = IfEither d.is_held behind.is_held;
+  is_valid = IfEither d.is_valid behind.is_valid;
   levels = of_either (λ v. suc (d.levels v)) behind.levels;
   is_sound = is_new_data name d behind;
   back = λ sound. data-back name d behind sound;
@@ -230,11 +231,11 @@ no_variant = record {
   names = [];
   variants = λ make. [];
   written = λ s. absurd s;
-  is_held = λ s. absurd s;
+  is_valid = λ s. absurd s;
   levels = λ s. absurd s;
   is_sound = true;
-  back = λ sound all make h s held. absurd s;
-  form = λ sound o all make h s held. absurd s;
+  back = λ sound all make h s valid. absurd s;
+  form = λ sound o all make h s valid. absurd s;
   alike = λ s t same. absurd s;
   never = λ a s. absurd s;
 }
@@ -245,14 +246,14 @@ enum_description variant vs = record {
   Content = vs.Content;
   reading = enum_of (λ v. vs.content (variant v)) (vs.variants (λ c. c));
   written = λ v. vs.written (variant v);
-  is_held = λ v. vs.is_held (variant v);
+  is_valid = λ v. vs.is_valid (variant v);
   levels = λ v. vs.levels (variant v);
   avoids = λ a. true;
   is_sound = vs.is_sound;
-  reads_back = λ sound v held. vs.back sound (vs.variants (λ c. c)) (λ c. c)
-      (λ name among l i. refl) (variant v) held;
-  form_reads_back = λ sound o v held. vs.form sound o (vs.variants (λ c. c)) (λ c. c)
-      (λ name among l i. refl) (variant v) held;
+  reads_back = λ sound v valid. vs.back sound (vs.variants (λ c. c)) (λ c. c)
+      (λ name among l i. refl) (variant v) valid;
+  form_reads_back = λ sound o v valid. vs.form sound o (vs.variants (λ c. c)) (λ c. c)
+      (λ name among l i. refl) (variant v) valid;
   writes_content = λ v w same. vs.alike (variant v) (variant w) same;
   never = λ a h v. vs.never a (variant v);
 }

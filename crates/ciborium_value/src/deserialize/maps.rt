@@ -5,7 +5,7 @@ ghost use Rattle.std.specs.Ordering.{ordering_then};
 ghost use Rattle.ciborium_value.specs.lemmas.KeyOrders.{ordering_then-same, slice_cmp-map};
 ghost use Rattle.ciborium_value.specs.Readings.{map_of};
 ghost use Rattle.ciborium_value.specs.Sources.{TakesOneItem};
-ghost use Rattle.ciborium_value.specs.TakenParts.{has_key, taken_map};
+ghost use Rattle.ciborium_value.specs.GivenParts.{has_key, given_map};
 
 use super::{Deserialize, Key};
 use crate::kind::Kind;
@@ -28,7 +28,7 @@ pub(crate) fn read_map<K: Key, V: Deserialize, S: Source>(
     once: bool,
 ) -> Result<BTreeMap<K, V>, S::Error>
     ensures { TakesOneItem S.stands_before S.is_unread S.has_taken S.left S.cause source.old
-        source.new (taken_map once K.reading.order K.reading.taken V.reading.taken)
+        source.new (given_map once K.reading.order K.reading.taken V.reading.taken)
         (λ m. map (λ e. (K.reading.content e.0, V.reading.content e.1)) m.entries) result }
 {
     let mut seq = source.begin_map()?;

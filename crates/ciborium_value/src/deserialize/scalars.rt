@@ -5,8 +5,8 @@ ghost use Rattle.std.specs.Cmp.Lexicographic.{slice_cmp};
 ghost use Rattle.std.specs.Ordering.{bool_cmp, nat_cmp};
 ghost use Rattle.ciborium_value.specs.lemmas.KeyOrders.{option_cmp-map};
 ghost use Rattle.ciborium_value.specs.Readings.{option_of, plain, spacious, unordered};
-ghost use Rattle.ciborium_value.specs.Taken.{taken_boolean, taken_bytes, taken_character};
-ghost use Rattle.ciborium_value.specs.Taken.{taken_text, taken_unit};
+ghost use Rattle.ciborium_value.specs.Given.{given_boolean, given_bytes, given_character};
+ghost use Rattle.ciborium_value.specs.Given.{given_text, given_unit};
 
 use super::{Deserialize, Key};
 use crate::byte_buf::ByteBuf;
@@ -17,7 +17,7 @@ use std::alloc::Global;
 impl Deserialize for () {
     ghost Content = { Unit {0} };
 
-    ghost reading = { plain (λ u. u) unordered taken_unit };
+    ghost reading = { plain (λ u. u) unordered given_unit };
 
     #[inline(always)]
     fn deserialize<S: Source>(_alloc: Global, source: &mut S) -> Result<(), S::Error> {
@@ -33,7 +33,7 @@ impl Key for () {
 impl Deserialize for bool {
     ghost Content = { Bool };
 
-    ghost reading = { plain (λ b. b) bool_cmp taken_boolean };
+    ghost reading = { plain (λ b. b) bool_cmp given_boolean };
 
     #[inline(always)]
     fn deserialize<S: Source>(_alloc: Global, source: &mut S) -> Result<bool, S::Error> {
@@ -49,7 +49,7 @@ impl Key for bool {
 impl Deserialize for char {
     ghost Content = { ℕ };
 
-    ghost reading = { plain (λ c. c) nat_cmp taken_character };
+    ghost reading = { plain (λ c. c) nat_cmp given_character };
 
     #[inline(always)]
     fn deserialize<S: Source>(_alloc: Global, source: &mut S) -> Result<char, S::Error> {
@@ -65,7 +65,7 @@ impl Key for char {
 impl Deserialize for String {
     ghost Content = { List ℕ };
 
-    ghost reading = { spacious string_bytes (slice_cmp nat_cmp) taken_text };
+    ghost reading = { spacious string_bytes (slice_cmp nat_cmp) given_text };
 
     #[inline(always)]
     fn deserialize<S: Source>(alloc: Global, source: &mut S) -> Result<String, S::Error> {
@@ -82,7 +82,7 @@ impl Key for String {
 impl Deserialize for ByteBuf {
     ghost Content = { List ℕ };
 
-    ghost reading = { spacious (λ b. b.0.items) (slice_cmp nat_cmp) taken_bytes };
+    ghost reading = { spacious (λ b. b.0.items) (slice_cmp nat_cmp) given_bytes };
 
     #[inline(always)]
     fn deserialize<S: Source>(alloc: Global, source: &mut S) -> Result<ByteBuf, S::Error> {

@@ -3,7 +3,7 @@
 ghost use Rattle.std.specs.Prelude.{◌≡◌, ◌∷◌, ◌++◌, [], IfErr, IfOk, MatchOption, None, OnOk, Some};
 ghost use Rattle.ciborium_value.specs.Folded.{folded, tree_folding_bytes};
 ghost use Rattle.ciborium_value.specs.inner.FoldedCopies.{IsCopyBegun, IsUnfolded, path_trees};
-ghost use Rattle.ciborium_value.specs.Taken.{gives, outcome, taken_value};
+ghost use Rattle.ciborium_value.specs.Given.{gives, outcome, given_value};
 ghost use Rattle.ciborium_value.specs.Tree as trees;
 ghost use Rattle.ciborium_value.specs.TreeAnswers.{IsErrorOf, tree_fault, value_item};
 ghost use Rattle.ciborium_value.specs.View.{tree_of};
@@ -11,11 +11,11 @@ ghost use Rattle.ciborium_value.specs.View.{tree_of};
 use crate::bignum::{FoldError, find_folding, fold};
 use crate::error::Error;
 use crate::kind::Kind;
-use crate::stack::{Opening, Stack};
+use crate::stack::{NewFrame, Stack};
 use crate::tree::Value;
 use std::alloc::{AllocError, Global};
 
-// What is still to be copied of a value that is open.
+// What is still to be copied of a value that is unfinished.
 #[derive(Drop)]
 enum Coming<'a> {
     One(&'a Value),
@@ -27,7 +27,7 @@ enum Coming<'a> {
 #[derive(Drop)]
 enum Part<'a> {
     Whole(Value),
-    Opened(Opening, Coming<'a>),
+    Begun(NewFrame, Coming<'a>),
 }
 
 fn begin_tag<'a>(alloc: Global, tag: u64, content: &'a Value) -> Result<Part<'a>, Error>
@@ -41,7 +41,7 @@ fn begin_tag<'a>(alloc: Global, tag: u64, content: &'a Value) -> Result<Part<'a>
             Err(FoldError::TooLarge) => Err(Error::Custom(Kind::TooLarge)),
             Err(FoldError::Memory) => Err(Error::Memory),
         },
-        None => Ok(Part::Opened(Opening::Tag(tag), Coming::One(content))),
+        None => Ok(Part::Begun(NewFrame::Tag(tag), Coming::One(content))),
     }
 }
 
@@ -62,14 +62,14 @@ fn begin<'a>(alloc: Global, value: &'a Value) -> Result<Part<'a>, Error>
                 return Ok(Part::Whole(Value::Array(Vec::new(alloc))));
             }
             let behind = Some(values.len() - 1);
-            Ok(Part::Opened(Opening::Array { behind }, Coming::Items(values)))
+            Ok(Part::Begun(NewFrame::Array { behind }, Coming::Items(values)))
         }
         Value::Map(pairs) => {
             if pairs.is_empty() {
                 return Ok(Part::Whole(Value::Map(Vec::new(alloc))));
             }
             let behind = Some(pairs.len() - 1);
-            Ok(Part::Opened(Opening::Map { behind }, Coming::Pairs(pairs)))
+            Ok(Part::Begun(NewFrame::Map { behind }, Coming::Pairs(pairs)))
         }
     }
 }
@@ -110,12 +110,12 @@ fn next<'a>(path: &mut Vec<Coming<'a>>) -> Result<Option<&'a Value>, AllocError>
 }
 
 /// A copy in which each tag 2 or 3 that folds is folded (RFC 8949, section 3.4.3). The walk keeps
-/// what is open on a stack of its own.
+/// what is unfinished on a stack of its own.
 pub(super) fn fold_value(alloc: Global, value: &Value) -> Result<Value, Error>
     ensures ok { IfOk result
-        (λ v. outcome None (taken_value (value_item value.now)) ≡ gives (tree_of v)) }
+        (λ v. outcome None (given_value (value_item value.now)) ≡ gives (tree_of v)) }
     ensures refused { IfErr result
-        (λ e. IsErrorOf e (outcome None (taken_value (value_item value.now)))) }
+        (λ e. IsErrorOf e (outcome None (given_value (value_item value.now)))) }
 {
     let mut stack = Stack::new(alloc);
     let mut path = Vec::new(alloc);
@@ -130,8 +130,8 @@ pub(super) fn fold_value(alloc: Global, value: &Value) -> Result<Value, Error>
                     return Ok(copy);
                 }
             }
-            Part::Opened(opening, coming) => {
-                stack.open(opening)?;
+            Part::Begun(frame, coming) => {
+                stack.begin_frame(frame)?;
                 append(&mut path, coming)?;
             }
         }

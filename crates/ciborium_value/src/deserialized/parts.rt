@@ -6,11 +6,11 @@ ghost use Rattle.ciborium_value.specs.Counts.{tree_pairs_node_count, tree_pairs_
 ghost use Rattle.ciborium_value.specs.Encoding.{pairs_of};
 ghost use Rattle.ciborium_value.specs.Labels.{label_kind, label_place};
 ghost use Rattle.ciborium_value.specs.Sources.{IsGrantedFault};
-ghost use Rattle.ciborium_value.specs.Taken as taken;
-ghost use Rattle.ciborium_value.specs.Taken.{bignum_of, gives, outcome, outcome_map, refuses};
-ghost use Rattle.ciborium_value.specs.Taken.{settled, take_each, taken_boolean, taken_byte};
-ghost use Rattle.ciborium_value.specs.Taken.{taken_bytes, taken_character, taken_integer};
-ghost use Rattle.ciborium_value.specs.Taken.{taken_name, taken_text, taken_unit};
+ghost use Rattle.ciborium_value.specs.Given as given;
+ghost use Rattle.ciborium_value.specs.Given.{bignum_of, gives, outcome, outcome_map, refuses};
+ghost use Rattle.ciborium_value.specs.Given.{settled, take_each, given_boolean, given_byte};
+ghost use Rattle.ciborium_value.specs.Given.{given_bytes, given_character, given_integer};
+ghost use Rattle.ciborium_value.specs.Given.{given_name, given_text, given_unit};
 ghost use Rattle.ciborium_value.specs.inner.TreeSources.{value_weight};
 ghost use Rattle.ciborium_value.specs.TreeAnswers.{IsErrorOf, tree_fault, value_item};
 ghost use Rattle.ciborium_value.specs.View.{tree_pairs_of};
@@ -26,7 +26,7 @@ use std::alloc::Global;
 
 // A value without its leading tags.
 pub(super) fn skip_tags(value: &Value) -> &Value
-    ensures item { value_item result.now ≡ taken.untagged (value_item value.now) }
+    ensures item { value_item result.now ≡ given.untagged (value_item value.now) }
     ensures less { value_weight result.now ≤ value_weight value.now }
 {
     let mut bare = value;
@@ -54,9 +54,9 @@ fn find_bignum(value: &Value) -> Result<u128, Error>
 
 // The number of a value.
 pub(super) fn find_number(value: &Value) -> Result<(bool, u128), Error>
-    ensures ok { IfOk result (λ v. outcome None (taken_integer (value_item value.now)) ≡ gives v) }
+    ensures ok { IfOk result (λ v. outcome None (given_integer (value_item value.now)) ≡ gives v) }
     ensures refused { IfErr result
-        (λ e. IsErrorOf e (outcome None (taken_integer (value_item value.now)))) }
+        (λ e. IsErrorOf e (outcome None (given_integer (value_item value.now)))) }
     ensures memory { IfErr result (λ e. IsGrantedFault (tree_fault e) false) }
 {
     let mut inner = value;
@@ -114,9 +114,9 @@ pub(super) fn find_place<N: Labels>(value: &Value, labels: &N) -> Result<N::Plac
 }
 
 pub(super) fn find_boolean(value: &Value) -> Result<bool, Error>
-    ensures ok { IfOk result (λ v. outcome None (taken_boolean (value_item value.now)) ≡ gives v) }
+    ensures ok { IfOk result (λ v. outcome None (given_boolean (value_item value.now)) ≡ gives v) }
     ensures refused { IfErr result
-        (λ e. IsErrorOf e (outcome None (taken_boolean (value_item value.now)))) }
+        (λ e. IsErrorOf e (outcome None (given_boolean (value_item value.now)))) }
     ensures memory { IfErr result (λ e. IsGrantedFault (tree_fault e) false) }
 {
     match skip_tags(value) {
@@ -126,9 +126,9 @@ pub(super) fn find_boolean(value: &Value) -> Result<bool, Error>
 }
 
 pub(super) fn find_null(value: &Value) -> Result<(), Error>
-    ensures ok { IfOk result (λ v. outcome None (taken_unit (value_item value.now)) ≡ gives v) }
+    ensures ok { IfOk result (λ v. outcome None (given_unit (value_item value.now)) ≡ gives v) }
     ensures refused { IfErr result
-        (λ e. IsErrorOf e (outcome None (taken_unit (value_item value.now)))) }
+        (λ e. IsErrorOf e (outcome None (given_unit (value_item value.now)))) }
     ensures memory { IfErr result (λ e. IsGrantedFault (tree_fault e) false) }
 {
     match skip_tags(value) {
@@ -139,9 +139,9 @@ pub(super) fn find_null(value: &Value) -> Result<(), Error>
 
 pub(super) fn find_character(value: &Value) -> Result<char, Error>
     ensures ok { IfOk result
-        (λ v. outcome None (taken_character (value_item value.now)) ≡ gives v) }
+        (λ v. outcome None (given_character (value_item value.now)) ≡ gives v) }
     ensures refused { IfErr result
-        (λ e. IsErrorOf e (outcome None (taken_character (value_item value.now)))) }
+        (λ e. IsErrorOf e (outcome None (given_character (value_item value.now)))) }
     ensures memory { IfErr result (λ e. IsGrantedFault (tree_fault e) false) }
 {
     let Value::Text(text) = skip_tags(value) else {
@@ -155,9 +155,9 @@ pub(super) fn find_character(value: &Value) -> Result<char, Error>
 
 pub(super) fn copy_text(alloc: Global, value: &Value) -> Result<String, Error>
     ensures ok { IfOk result
-        (λ v. outcome None (taken_text (value_item value.now)) ≡ gives (string_bytes v)) }
+        (λ v. outcome None (given_text (value_item value.now)) ≡ gives (string_bytes v)) }
     ensures refused { IfErr result
-        (λ e. IsErrorOf e (outcome None (taken_text (value_item value.now)))) }
+        (λ e. IsErrorOf e (outcome None (given_text (value_item value.now)))) }
 {
     match skip_tags(value) {
         Value::Text(text) => Ok(String::from_str(alloc, text)?),
@@ -167,9 +167,9 @@ pub(super) fn copy_text(alloc: Global, value: &Value) -> Result<String, Error>
 
 // The name that a value is.
 pub(super) fn find_name(value: &Value) -> Result<&str, Error>
-    ensures ok { IfOk result (λ v. outcome None (taken_name (value_item value.now)) ≡ gives v.now) }
+    ensures ok { IfOk result (λ v. outcome None (given_name (value_item value.now)) ≡ gives v.now) }
     ensures refused { IfErr result
-        (λ e. IsErrorOf e (outcome None (taken_name (value_item value.now)))) }
+        (λ e. IsErrorOf e (outcome None (given_name (value_item value.now)))) }
 {
     match skip_tags(value) {
         Value::Text(text) => Ok(text),
@@ -183,9 +183,9 @@ pub(super) fn find_name(value: &Value) -> Result<&str, Error>
 
 pub(super) fn copy_name(alloc: Global, value: &Value) -> Result<String, Error>
     ensures ok { IfOk result
-        (λ v. outcome None (taken_name (value_item value.now)) ≡ gives (string_bytes v)) }
+        (λ v. outcome None (given_name (value_item value.now)) ≡ gives (string_bytes v)) }
     ensures refused { IfErr result
-        (λ e. IsErrorOf e (outcome None (taken_name (value_item value.now)))) }
+        (λ e. IsErrorOf e (outcome None (given_name (value_item value.now)))) }
 {
     Ok(String::from_str(alloc, find_name(value)?)?)
 }
@@ -193,12 +193,12 @@ pub(super) fn copy_name(alloc: Global, value: &Value) -> Result<String, Error>
 // The one pair of a map that has just one.
 pub(super) fn find_lone_pair(pairs: &[(Value, Value)]) -> Option<(&Value, &Value)>
     ensures none { IfNone result
-        (outcome None (taken.lone_pair (pairs_of (tree_pairs_of pairs.now)))
+        (outcome None (given.lone_pair (pairs_of (tree_pairs_of pairs.now)))
         ≡ refuses kinds.Variant) }
     ensures some { IfSome result
-        (λ p. outcome None (taken.lone_pair (pairs_of (tree_pairs_of pairs.now)))
+        (λ p. outcome None (given.lone_pair (pairs_of (tree_pairs_of pairs.now)))
         ≡ outcome_map (λ name. (name, value_item p.1.now))
-        (outcome None (taken_name (value_item p.0.now)))) }
+        (outcome None (given_name (value_item p.0.now)))) }
     ensures less { IfSome result (λ p. value_weight p.1.now
         < tree_pairs_node_count (tree_pairs_of pairs.now)
         + tree_pairs_payload_size (tree_pairs_of pairs.now)) }
@@ -213,9 +213,9 @@ pub(super) fn find_lone_pair(pairs: &[(Value, Value)]) -> Option<(&Value, &Value
 
 // A number from 0 to 255.
 fn find_byte(value: &Value) -> Result<u8, Error>
-    ensures ok { IfOk result (λ v. outcome None (taken_byte (value_item value.now)) ≡ gives v) }
+    ensures ok { IfOk result (λ v. outcome None (given_byte (value_item value.now)) ≡ gives v) }
     ensures refused { IfErr result
-        (λ e. IsErrorOf e (outcome None (taken_byte (value_item value.now)))) }
+        (λ e. IsErrorOf e (outcome None (given_byte (value_item value.now)))) }
 {
     let (negative, number) = find_number(value)?;
     if negative || number > 255 {
@@ -226,9 +226,9 @@ fn find_byte(value: &Value) -> Result<u8, Error>
 
 fn copy_bytes_of(alloc: Global, values: &[Value]) -> Result<Vec<u8>, Error>
     ensures ok { IfOk result
-        (λ v. outcome None (take_each taken_byte (map value_item values.now)) ≡ gives v.items) }
+        (λ v. outcome None (take_each given_byte (map value_item values.now)) ≡ gives v.items) }
     ensures refused { IfErr result
-        (λ e. IsErrorOf e (outcome None (take_each taken_byte (map value_item values.now)))) }
+        (λ e. IsErrorOf e (outcome None (take_each given_byte (map value_item values.now)))) }
 {
     let mut bytes = Vec::new(alloc);
     for value in values {
@@ -243,9 +243,9 @@ fn copy_bytes_of(alloc: Global, values: &[Value]) -> Result<Vec<u8>, Error>
 
 pub(super) fn copy_bytes(alloc: Global, value: &Value) -> Result<Vec<u8>, Error>
     ensures ok { IfOk result
-        (λ v. outcome None (taken_bytes (value_item value.now)) ≡ gives v.items) }
+        (λ v. outcome None (given_bytes (value_item value.now)) ≡ gives v.items) }
     ensures refused { IfErr result
-        (λ e. IsErrorOf e (outcome None (taken_bytes (value_item value.now)))) }
+        (λ e. IsErrorOf e (outcome None (given_bytes (value_item value.now)))) }
 {
     match skip_tags(value) {
         Value::Bytes(bytes) => Ok(Vec::from_slice(alloc, bytes)?),
@@ -256,8 +256,8 @@ pub(super) fn copy_bytes(alloc: Global, value: &Value) -> Result<Vec<u8>, Error>
 
 // The character of a text that has just one.
 fn lone_character(text: &str) -> Option<char>
-    ensures { MatchOption result (taken.lone_character (chars text.now) ≡ Err kinds.Char)
-        (λ c. taken.lone_character (chars text.now) ≡ Ok c) }
+    ensures { MatchOption result (given.lone_character (chars text.now) ≡ Err kinds.Char)
+        (λ c. given.lone_character (chars text.now) ≡ Ok c) }
 {
     let mut characters = text.chars();
     match characters.next() {

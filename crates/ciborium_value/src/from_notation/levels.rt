@@ -49,7 +49,7 @@ pub struct Levels {
     alloc: Global,
 }
 
-#[tactic(auto, using(crate::proofs::Denoting::Opened::around_last))]
+#[tactic(auto, using(crate::proofs::Denoting::BegunLevels::around_last))]
 impl Levels {
     /// None is open, and so many may be.
     pub fn new(alloc: Global, limit: usize) -> Levels

@@ -4,7 +4,7 @@ use super::{Avoidable, FormReadsBack, NeverWrites, ReadsBack, WritesContent};
 use crate::described::AsDescribed;
 
 impl<T: AsDescribed> ReadsBack for T {
-    ghost is_held = { T.description.is_held };
+    ghost is_valid = { T.description.is_valid };
 
     ghost levels = { T.description.levels };
 

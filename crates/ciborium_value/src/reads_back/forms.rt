@@ -39,34 +39,34 @@ impl<T: FormReadsBack + NeverWrites<Null>> FormReadsBack for Option<T> {
 }
 
 impl<T: FormReadsBack> FormReadsBack for Vec<T> {
-    ghost form_reads_back = { λ o v held. list-form o (T.form_reads_back o) v.items held };
+    ghost form_reads_back = { λ o v valid. list-form o (T.form_reads_back o) v.items valid };
 }
 
 impl<A: FormReadsBack> FormReadsBack for (A,) {
-    ghost form_reads_back = { λ o t held. tuple1-form o (A.form_reads_back o t.0 held) };
+    ghost form_reads_back = { λ o t valid. tuple1-form o (A.form_reads_back o t.0 valid) };
 }
 
 impl<A: FormReadsBack, B: FormReadsBack> FormReadsBack for (A, B) {
-    ghost form_reads_back = { λ o t held. tuple2-form o
-        (A.form_reads_back o t.0 held.0) (B.form_reads_back o t.1 held.1) };
+    ghost form_reads_back = { λ o t valid. tuple2-form o
+        (A.form_reads_back o t.0 valid.0) (B.form_reads_back o t.1 valid.1) };
 }
 
 impl<A: FormReadsBack, B: FormReadsBack, C: FormReadsBack> FormReadsBack for (A, B, C) {
-    ghost form_reads_back = { λ o t held. tuple3-form o
-        (A.form_reads_back o t.0 held.0) (B.form_reads_back o t.1 held.1)
-        (C.form_reads_back o t.2 held.2) };
+    ghost form_reads_back = { λ o t valid. tuple3-form o
+        (A.form_reads_back o t.0 valid.0) (B.form_reads_back o t.1 valid.1)
+        (C.form_reads_back o t.2 valid.2) };
 }
 
 impl<A: FormReadsBack, B: FormReadsBack, C: FormReadsBack, D: FormReadsBack> FormReadsBack
     for (A, B, C, D) {
-    ghost form_reads_back = { λ o t held. tuple4-form o
-        (A.form_reads_back o t.0 held.0) (B.form_reads_back o t.1 held.1)
-        (C.form_reads_back o t.2 held.2) (D.form_reads_back o t.3 held.3) };
+    ghost form_reads_back = { λ o t valid. tuple4-form o
+        (A.form_reads_back o t.0 valid.0) (B.form_reads_back o t.1 valid.1)
+        (C.form_reads_back o t.2 valid.2) (D.form_reads_back o t.3 valid.3) };
 }
 
 /// The form has the entries in the order of their encoded keys, and reading puts them in the order
 /// of `K` again: no two of a map's keys are equal, so it makes no difference which comes first.
 impl<K: Key + FormReadsBack, V: FormReadsBack> FormReadsBack for BTreeMap<K, V> {
-    ghost form_reads_back = { λ o m held. map-form o (K.form_reads_back o) (V.form_reads_back o)
-        false K.cmp K.reading.order K.total K.orders m held };
+    ghost form_reads_back = { λ o m valid. map-form o (K.form_reads_back o) (V.form_reads_back o)
+        false K.cmp K.reading.order K.total K.orders m valid };
 }

@@ -10,7 +10,7 @@ ghost use Rattle.ciborium_value.specs.lemmas.ReadsBackNumbers.{u64_back, u8_back
 use super::ReadsBack;
 
 impl ReadsBack for u8 {
-    ghost is_held = { λ n. n < 2 ^ 8 };
+    ghost is_valid = { λ n. n < 2 ^ 8 };
 
     ghost levels = { λ n. 0 };
 
@@ -18,7 +18,7 @@ impl ReadsBack for u8 {
 }
 
 impl ReadsBack for u16 {
-    ghost is_held = { λ n. n < 2 ^ 16 };
+    ghost is_valid = { λ n. n < 2 ^ 16 };
 
     ghost levels = { λ n. 0 };
 
@@ -26,7 +26,7 @@ impl ReadsBack for u16 {
 }
 
 impl ReadsBack for u32 {
-    ghost is_held = { λ n. n < 2 ^ 32 };
+    ghost is_valid = { λ n. n < 2 ^ 32 };
 
     ghost levels = { λ n. 0 };
 
@@ -34,7 +34,7 @@ impl ReadsBack for u32 {
 }
 
 impl ReadsBack for u64 {
-    ghost is_held = { λ n. n < 2 ^ 64 };
+    ghost is_valid = { λ n. n < 2 ^ 64 };
 
     ghost levels = { λ n. 0 };
 
@@ -42,7 +42,7 @@ impl ReadsBack for u64 {
 }
 
 impl ReadsBack for u128 {
-    ghost is_held = { λ n. n < 2 ^ 128 };
+    ghost is_valid = { λ n. n < 2 ^ 128 };
 
     ghost levels = { λ n. 0 };
 
@@ -50,7 +50,7 @@ impl ReadsBack for u128 {
 }
 
 impl ReadsBack for usize {
-    ghost is_held = { λ n. n < 2 ^ 64 };
+    ghost is_valid = { λ n. n < 2 ^ 64 };
 
     ghost levels = { λ n. 0 };
 
@@ -58,7 +58,7 @@ impl ReadsBack for usize {
 }
 
 impl ReadsBack for i8 {
-    ghost is_held = { IsBounded (2 ^ 7) };
+    ghost is_valid = { IsBounded (2 ^ 7) };
 
     ghost levels = { λ n. 0 };
 
@@ -66,7 +66,7 @@ impl ReadsBack for i8 {
 }
 
 impl ReadsBack for i16 {
-    ghost is_held = { IsBounded (2 ^ 15) };
+    ghost is_valid = { IsBounded (2 ^ 15) };
 
     ghost levels = { λ n. 0 };
 
@@ -74,7 +74,7 @@ impl ReadsBack for i16 {
 }
 
 impl ReadsBack for i32 {
-    ghost is_held = { IsBounded (2 ^ 31) };
+    ghost is_valid = { IsBounded (2 ^ 31) };
 
     ghost levels = { λ n. 0 };
 
@@ -82,7 +82,7 @@ impl ReadsBack for i32 {
 }
 
 impl ReadsBack for i64 {
-    ghost is_held = { IsBounded (2 ^ 63) };
+    ghost is_valid = { IsBounded (2 ^ 63) };
 
     ghost levels = { λ n. 0 };
 
@@ -90,7 +90,7 @@ impl ReadsBack for i64 {
 }
 
 impl ReadsBack for i128 {
-    ghost is_held = { IsBounded (2 ^ 127) };
+    ghost is_valid = { IsBounded (2 ^ 127) };
 
     ghost levels = { λ n. 0 };
 
@@ -98,7 +98,7 @@ impl ReadsBack for i128 {
 }
 
 impl ReadsBack for isize {
-    ghost is_held = { IsBounded (2 ^ 63) };
+    ghost is_valid = { IsBounded (2 ^ 63) };
 
     ghost levels = { λ n. 0 };
 

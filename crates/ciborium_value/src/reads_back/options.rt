@@ -7,7 +7,7 @@ use super::{NeverWrites, Null, ReadsBack};
 
 /// `None` takes no level, `Some` those of the content.
 impl<T: ReadsBack + NeverWrites<Null>> ReadsBack for Option<T> {
-    ghost is_held = { λ o. IfSome o T.is_held };
+    ghost is_valid = { λ o. IfSome o T.is_valid };
 
     ghost levels = { option_levels T.levels };
 

@@ -8,7 +8,7 @@ use super::ReadsBack;
 use crate::byte_buf::ByteBuf;
 
 impl ReadsBack for () {
-    ghost is_held = { λ u. Unit {0} };
+    ghost is_valid = { λ u. Unit {0} };
 
     ghost levels = { λ u. 0 };
 
@@ -16,7 +16,7 @@ impl ReadsBack for () {
 }
 
 impl ReadsBack for bool {
-    ghost is_held = { λ b. Unit {0} };
+    ghost is_valid = { λ b. Unit {0} };
 
     ghost levels = { λ b. 0 };
 
@@ -24,7 +24,7 @@ impl ReadsBack for bool {
 }
 
 impl ReadsBack for char {
-    ghost is_held = { IsScalar };
+    ghost is_valid = { IsScalar };
 
     ghost levels = { λ c. 0 };
 
@@ -32,7 +32,7 @@ impl ReadsBack for char {
 }
 
 impl ReadsBack for String {
-    ghost is_held = { λ s. Unit {0} };
+    ghost is_valid = { λ s. Unit {0} };
 
     ghost levels = { λ s. 0 };
 
@@ -40,7 +40,7 @@ impl ReadsBack for String {
 }
 
 impl ReadsBack for ByteBuf {
-    ghost is_held = { λ b. Unit {0} };
+    ghost is_valid = { λ b. Unit {0} };
 
     ghost levels = { λ b. 0 };
 

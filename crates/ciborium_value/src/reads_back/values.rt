@@ -15,9 +15,9 @@ use crate::tree::Value;
 /// was read is such a value unless a tag 2 or 3 stood over a byte string of indefinite length. It
 /// takes as many levels as it nests.
 impl ReadsBack for Value {
-    ghost is_held = { λ v. folded (tree_of v) ≡ Some (tree_of v) };
+    ghost is_valid = { λ v. folded (tree_of v) ≡ Some (tree_of v) };
 
     ghost levels = { λ v. nesting (item_of (tree_of v)) };
 
-    ghost reads_back = { λ v held. value-back (tree_of v) held };
+    ghost reads_back = { λ v valid. value-back (tree_of v) valid };
 }

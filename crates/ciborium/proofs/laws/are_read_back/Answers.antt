@@ -3,5 +3,5 @@ use Rattle.ciborium.proofs.ReadBack.SequenceRoundTrips.{contents_read_back}
 use Rattle.ciborium.proofs.laws.are_read_back.Goals as goal
 
 pub returns : goal.returns
-returns g c = contents_read_back g.T.ReadsBack.is_held g.T.Serialize.written g.T.Deserialize.reading
-    g.T.ReadsBack.levels (λ v held. (g.met.T.ReadsBack.reads_back v held).back by_bytes) _ _ _ _
+returns g c = contents_read_back g.T.ReadsBack.is_valid g.T.Serialize.written g.T.Deserialize.reading
+    g.T.ReadsBack.levels (λ v valid. (g.met.T.ReadsBack.reads_back v valid).back by_bytes) _ _ _ _

@@ -6,8 +6,8 @@ returns g c =
     let law = g.met.T.ReadsBack.reads_back in
     let alike = g.met.T.WritesContent.writes_content in
     record {
-      bytes = bytes_written_again g.T.ReadsBack.is_held g.T.Serialize.written g.T.Deserialize.reading
+      bytes = bytes_written_again g.T.ReadsBack.is_valid g.T.Serialize.written g.T.Deserialize.reading
           g.T.ReadsBack.levels law alike;
-      tree = tree_written_again g.T.ReadsBack.is_held g.T.Serialize.written g.T.Deserialize.reading g.T.ReadsBack.levels
-          law alike;
+      tree = tree_written_again g.T.ReadsBack.is_valid g.T.Serialize.written g.T.Deserialize.reading
+          g.T.ReadsBack.levels law alike;
     }

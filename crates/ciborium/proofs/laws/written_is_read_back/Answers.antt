@@ -5,10 +5,10 @@ pub returns : goal.returns
 returns g c =
     let law = g.met.T.ReadsBack.reads_back in
     record {
-      bytes = bytes_read_back g.T.ReadsBack.is_held g.T.Serialize.written g.T.Deserialize.reading g.T.ReadsBack.levels
+      bytes = bytes_read_back g.T.ReadsBack.is_valid g.T.Serialize.written g.T.Deserialize.reading g.T.ReadsBack.levels
           law;
-      tree = tree_read_back g.T.ReadsBack.is_held g.T.Serialize.written g.T.Deserialize.reading g.T.ReadsBack.levels
+      tree = tree_read_back g.T.ReadsBack.is_valid g.T.Serialize.written g.T.Deserialize.reading g.T.ReadsBack.levels
           law;
-      tree_gives = tree_gives_content g.T.ReadsBack.is_held g.T.Serialize.written g.T.Deserialize.reading
+      tree_gives = tree_gives_content g.T.ReadsBack.is_valid g.T.Serialize.written g.T.Deserialize.reading
           g.T.ReadsBack.levels law;
     }

@@ -7,22 +7,22 @@ ghost use Rattle.ciborium_value.specs.Nesting.{Limit};
 ghost use Rattle.ciborium_value.specs.Places.{sequence};
 ghost use Rattle.ciborium_value.specs.Sources.{HasItem, IsFaultOf, RefusesAhead, TakesAhead};
 ghost use Rattle.ciborium_value.specs.Sources.{TakesItem, TakesOnly, TakesTo};
-ghost use Rattle.ciborium_value.specs.Taken.{gives, number_below, outcome, take_each};
-ghost use Rattle.ciborium_value.specs.Taken.{taken_byte, taken_bytes};
+ghost use Rattle.ciborium_value.specs.Given.{gives, number_below, outcome, take_each};
+ghost use Rattle.ciborium_value.specs.Given.{given_byte, given_bytes};
 ghost use Rattle.ciborium.specs.inner.ByteSources.{HasTaken, IsUnread, ReadsRest, RefusesRest};
 ghost use Rattle.ciborium.specs.inner.ByteSources.{SeqOwes, StandsBefore, seq_left, weight_left};
 ghost use Rattle.ciborium.specs.Errors.{fault_of};
 ghost use Rattle.ciborium.specs.inner.ByteSources.{fault_at};
 
 use crate::de::byte_source::{ByteSeq, ByteSource};
-use crate::de::error::{Error, Refusal};
+use crate::de::error::{BareReadError, Error};
 use ciborium_ll::{Access, Header};
 use ciborium_value::Kind;
 use std::alloc::Global;
 
 // The byte that a number at this offset is.
 #[inline(always)]
-fn to_byte(number: (bool, u128), offset: usize) -> Result<u8, Refusal>
+fn to_byte(number: (bool, u128), offset: usize) -> Result<u8, BareReadError>
     ensures ok { IfOk result
         (λ byte. (l : Limit) → outcome l (number_below 256 number) ≡ gives byte) }
     ensures refused { IfErr result
@@ -43,15 +43,15 @@ fn to_byte(number: (bool, u128), offset: usize) -> Result<u8, Refusal>
 impl<'a, R, A: Access<R>> ByteSource<'a, R, A> {
     // The items that are left of a sequence, each a number that is a byte.
     #[inline(never)]
-    fn read_byte_items(&mut self, alloc: Global, seq: ByteSeq) -> Result<Vec<u8>, Refusal>
+    fn read_byte_items(&mut self, alloc: Global, seq: ByteSeq) -> Result<Vec<u8>, BareReadError>
         ensures same_reader { HasSameReader self.old.decoder self.new.decoder }
         ensures only { TakesOnly (HasTaken A.remaining) self.old.decoder self.new.decoder }
         ensures no_more { OnErr result
             (weight_left self.new ≤ weight_left self.old + seq_left seq) }
         ensures ok { IfOk result (λ v. ReadsRest A.remaining self.old self.new seq
-            (take_each taken_byte) v.items) }
+            (take_each given_byte) v.items) }
         ensures refused { IfErr result (λ e. RefusesRest A.remaining self.old seq
-            (take_each taken_byte) (fault_at A.can_fail A.remaining self.new e)) }
+            (take_each given_byte) (fault_at A.can_fail A.remaining self.new e)) }
         ensures took { OnOk result (TakesTo (IsUnread A.remaining) self.old self.new
             (λ c z. (b : List ℕ) → SeqOwes seq sequence b c → HasItem b z)) }
         ensures fewer { OnOk result
@@ -74,14 +74,14 @@ impl<'a, R, A: Access<R>> ByteSource<'a, R, A> {
     }
 
     #[inline(always)]
-    pub(crate) fn bytes(&mut self, alloc: Global) -> Result<Vec<u8>, Refusal>
+    pub(crate) fn bytes(&mut self, alloc: Global) -> Result<Vec<u8>, BareReadError>
         ensures same_reader { HasSameReader self.old.decoder self.new.decoder }
         ensures only { TakesOnly (HasTaken A.remaining) self.old.decoder self.new.decoder }
         ensures no_more { OnErr result (weight_left self.new ≤ weight_left self.old) }
         ensures ok { IfOk result (λ v.
-            TakesAhead (StandsBefore A.remaining) self.old self.new taken_bytes v.items) }
+            TakesAhead (StandsBefore A.remaining) self.old self.new given_bytes v.items) }
         ensures refused { IfErr result (λ e.
-            RefusesAhead (StandsBefore A.remaining) self.old taken_bytes
+            RefusesAhead (StandsBefore A.remaining) self.old given_bytes
             (fault_at A.can_fail A.remaining self.new e)) }
         ensures took { OnOk result (TakesItem (IsUnread A.remaining) self.old self.new) }
         ensures fewer { OnOk result (weight_left self.new < weight_left self.old) }

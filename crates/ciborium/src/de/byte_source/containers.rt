@@ -7,7 +7,7 @@ ghost use Rattle.ciborium_ll.specs.StringRefusal.{of_bytes};
 ghost use Rattle.ciborium_value.specs.Ahead.{takes_level};
 ghost use Rattle.ciborium_value.specs.Sources.{GoesOn, IsGrantedFault, Leaves, OwesLess};
 ghost use Rattle.ciborium_value.specs.Sources.{OwesNothing, RefusesNext, TakesOnly, TakesTo};
-ghost use Rattle.ciborium_value.specs.Taken.{give, taken_pairs, taken_seq};
+ghost use Rattle.ciborium_value.specs.Given.{give, given_pairs, given_seq};
 ghost use Rattle.ciborium.specs.inner.ByteSources.{EntersItemsUnread, EntersPairsUnread, HasBytes};
 ghost use Rattle.ciborium.specs.inner.ByteSources.{HasTaken, IsUnread, SeqOwes, SeqStands};
 ghost use Rattle.ciborium.specs.inner.ByteSources.{StandsBefore, bytes_weight, end_at};
@@ -18,7 +18,7 @@ ghost use Rattle.ciborium.specs.inner.FrontItems.{Denies};
 ghost use Rattle.ciborium.specs.inner.StringContents.{DeniesContent, TakesContent};
 
 use crate::de::byte_source::{ByteSeq, ByteSource, Left};
-use crate::de::error::{Error, Refusal};
+use crate::de::error::{BareReadError, Error};
 use ciborium_ll::{Access, Header};
 use ciborium_value::Kind;
 use std::alloc::Global;
@@ -26,7 +26,11 @@ use std::alloc::Global;
 impl<'a, R, A: Access<R>> ByteSource<'a, R, A> {
     /// Takes a level for the container at this offset with this many parts (`None`: indefinite).
     #[inline(always)]
-    pub(crate) fn enter(&mut self, count: Option<usize>, offset: usize) -> Result<ByteSeq, Refusal>
+    pub(crate) fn enter(
+        &mut self,
+        count: Option<usize>,
+        offset: usize,
+    ) -> Result<ByteSeq, BareReadError>
         ensures decoder { self.new.decoder ≡ self.old.decoder }
         ensures pending { self.new.pending ≡ self.old.pending }
         ensures some { OnOk result (self.old.levels ≢ 0) }
@@ -63,7 +67,7 @@ impl<'a, R, A: Access<R>> ByteSource<'a, R, A> {
         alloc: Global,
         len: Option<usize>,
         offset: usize,
-    ) -> Result<ByteSeq, Refusal>
+    ) -> Result<ByteSeq, BareReadError>
         requires { self.old.pending ≡ None }
         ensures same_reader { HasSameReader self.old.decoder self.new.decoder }
         ensures only { TakesOnly (HasTaken A.remaining) self.old.decoder self.new.decoder }
@@ -89,16 +93,16 @@ impl<'a, R, A: Access<R>> ByteSource<'a, R, A> {
     }
 
     #[inline(always)]
-    pub(crate) fn begin_seq(&mut self, alloc: Global) -> Result<ByteSeq, Refusal>
+    pub(crate) fn begin_seq(&mut self, alloc: Global) -> Result<ByteSeq, BareReadError>
         ensures keeps { KeepsSource A.remaining self.old self.new result }
         ensures levels { IfOk result (λ q. q.levels ≡ self.old.levels) }
         ensures fewer { IfOk result
             (λ q. weight_left self.new + seq_left q < weight_left self.old) }
-        ensures ok { IfOk result (EntersItemsUnread A.remaining self.old self.new taken_seq
+        ensures ok { IfOk result (EntersItemsUnread A.remaining self.old self.new given_seq
             (λ form is. give (takes_level form, is))) }
         ensures denied { IfErr result
             (λ e. Denies (IsUnread A.remaining) (end_at A.remaining) self.old
-            (Some self.old.levels) taken_seq (fault_at A.can_fail A.remaining self.new e)) }
+            (Some self.old.levels) given_seq (fault_at A.can_fail A.remaining self.new e)) }
     {
         let (header, offset) = self.bare_head(false)?;
         match header {
@@ -115,16 +119,16 @@ impl<'a, R, A: Access<R>> ByteSource<'a, R, A> {
     }
 
     #[inline(always)]
-    pub(crate) fn begin_map(&mut self) -> Result<ByteSeq, Refusal>
+    pub(crate) fn begin_map(&mut self) -> Result<ByteSeq, BareReadError>
         ensures keeps { KeepsSource A.remaining self.old self.new result }
         ensures levels { IfOk result (λ q. q.levels ≡ self.old.levels) }
         ensures fewer { IfOk result
             (λ q. weight_left self.new + seq_left q < weight_left self.old) }
-        ensures ok { IfOk result (EntersPairsUnread A.remaining self.old self.new taken_pairs
+        ensures ok { IfOk result (EntersPairsUnread A.remaining self.old self.new given_pairs
             (λ form ps. give (takes_level form, ps))) }
         ensures denied { IfErr result
             (λ e. Denies (IsUnread A.remaining) (end_at A.remaining) self.old
-            (Some self.old.levels) taken_pairs (fault_at A.can_fail A.remaining self.new e)) }
+            (Some self.old.levels) given_pairs (fault_at A.can_fail A.remaining self.new e)) }
         ensures memory { IfErr result
             (λ e. IsGrantedFault (fault_at A.can_fail A.remaining self.new e) false) }
     {
@@ -138,7 +142,7 @@ impl<'a, R, A: Access<R>> ByteSource<'a, R, A> {
 
     /// Whether a further item or pair is ahead; the container is left where none is.
     #[inline(always)]
-    pub(crate) fn next_part(&mut self, seq: &mut ByteSeq) -> Result<bool, Refusal>
+    pub(crate) fn next_part(&mut self, seq: &mut ByteSeq) -> Result<bool, BareReadError>
         ensures same_reader { HasSameReader self.old.decoder self.new.decoder }
         ensures only { TakesOnly (HasTaken A.remaining) self.old.decoder self.new.decoder }
         ensures no_more { OnErr result

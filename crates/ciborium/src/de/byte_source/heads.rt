@@ -10,7 +10,7 @@ ghost use Rattle.ciborium.specs.inner.FrontItems.{DeniesHead, DeniesItem, TakesH
 ghost use Rattle.ciborium.specs.inner.Skips.{IsEndTag, TakesBare};
 
 use crate::de::byte_source::ByteSource;
-use crate::de::error::{Error, Refusal};
+use crate::de::error::{BareReadError, Error};
 use ciborium_ll::tag::{BIGNEG, BIGPOS};
 use ciborium_ll::{Access, Header};
 use ciborium_value::Kind;
@@ -26,7 +26,7 @@ fn is_end_tag(numbers: bool, tag: u64) -> bool
 impl<'a, R, A: Access<R>> ByteSource<'a, R, A> {
     /// The next head, and its offset.
     #[inline(always)]
-    pub(crate) fn next_head(&mut self) -> Result<(Header, usize), Refusal>
+    pub(crate) fn next_head(&mut self) -> Result<(Header, usize), BareReadError>
         ensures same_reader { HasSameReader self.old.decoder self.new.decoder }
         ensures only { TakesOnly (HasTaken A.remaining) self.old.decoder self.new.decoder }
         ensures no_more { OnErr result (weight_left self.new ≤ weight_left self.old) }
@@ -54,7 +54,7 @@ impl<'a, R, A: Access<R>> ByteSource<'a, R, A> {
 
     // The head behind any number of tags. Out of line: where it is called a tag was skipped.
     #[inline(never)]
-    fn behind_tags(&mut self, numbers: bool) -> Result<(Header, usize), Refusal>
+    fn behind_tags(&mut self, numbers: bool) -> Result<(Header, usize), BareReadError>
         ensures reads { ReadsBareHead A.can_fail A.remaining self.old self.new numbers result }
         ensures head { IfOk result
             (λ h. TakesBare (IsUnread A.remaining) self.old self.new numbers h.0) }
@@ -79,7 +79,7 @@ impl<'a, R, A: Access<R>> ByteSource<'a, R, A> {
     // What `behind_tags` does. Apart from `bare_head`, so that the room for its answer is made
     // ready only behind a tag.
     #[inline(always)]
-    fn skip_tags(&mut self, numbers: bool) -> Result<(Header, usize), Refusal>
+    fn skip_tags(&mut self, numbers: bool) -> Result<(Header, usize), BareReadError>
         ensures reads { ReadsBareHead A.can_fail A.remaining self.old self.new numbers result }
         ensures head { IfOk result
             (λ h. TakesBare (IsUnread A.remaining) self.old self.new numbers h.0) }
@@ -98,7 +98,7 @@ impl<'a, R, A: Access<R>> ByteSource<'a, R, A> {
     ///
     /// `Semantic` with `Break` where a break stands there.
     #[inline(always)]
-    pub(crate) fn bare_head(&mut self, numbers: bool) -> Result<(Header, usize), Refusal>
+    pub(crate) fn bare_head(&mut self, numbers: bool) -> Result<(Header, usize), BareReadError>
         ensures reads { ReadsBareHead A.can_fail A.remaining self.old self.new numbers result }
         ensures head { IfOk result
             (λ h. TakesBare (IsUnread A.remaining) self.old self.new numbers h.0) }

@@ -4,7 +4,7 @@ ghost use Rattle.std.specs.Prelude.{◌≡◌, ◌≢◌, ◌≤◌, IfErr, IfOk
 ghost use Rattle.std.specs.Prelude.{false, string_bytes};
 ghost use Rattle.ciborium_ll.specs.Decoding.{HasSameReader};
 ghost use Rattle.ciborium_value.specs.Sources.{GivesBack, IsGrantedFault, TakesOnly};
-ghost use Rattle.ciborium_value.specs.Taken.{taken_outer_tag, taken_variant};
+ghost use Rattle.ciborium_value.specs.Given.{given_outer_tag, given_variant};
 ghost use Rattle.ciborium.specs.inner.ByteSources.{HasTaken, IsUnread, LevelStands, StandsBefore};
 ghost use Rattle.ciborium.specs.inner.ByteSources.{TakesLevel, end_at, weight_left};
 ghost use Rattle.ciborium.specs.inner.ByteSources.{fault_at};
@@ -12,7 +12,7 @@ ghost use Rattle.ciborium.specs.inner.FrontItems.{Denies};
 ghost use Rattle.ciborium.specs.inner.Skips.{EntersLevelUnread};
 
 use crate::de::byte_source::{ByteLevel, ByteSource};
-use crate::de::error::{Error, Refusal};
+use crate::de::error::{BareReadError, Error};
 use ciborium_ll::{Access, Header, simple};
 use ciborium_value::Kind;
 use std::alloc::Global;
@@ -29,7 +29,7 @@ fn is_one(count: Option<usize>) -> bool
 impl<'a, R, A: Access<R>> ByteSource<'a, R, A> {
     // Takes the level of a tag or a variant.
     #[inline(always)]
-    fn take_level(&mut self) -> Result<ByteLevel, Refusal>
+    fn take_level(&mut self) -> Result<ByteLevel, BareReadError>
         ensures decoder { self.new.decoder ≡ self.old.decoder }
         ensures pending { self.new.pending ≡ self.old.pending }
         ensures some { IfOk result (λ level. TakesLevel self.old self.new level) }
@@ -57,17 +57,17 @@ impl<'a, R, A: Access<R>> ByteSource<'a, R, A> {
 
     /// The tag ahead, if there is one, and the level that was taken.
     #[inline(always)]
-    pub(crate) fn begin_tag(&mut self) -> Result<(Option<u64>, ByteLevel), Refusal>
+    pub(crate) fn begin_tag(&mut self) -> Result<(Option<u64>, ByteLevel), BareReadError>
         ensures same_reader { HasSameReader self.old.decoder self.new.decoder }
         ensures only { TakesOnly (HasTaken A.remaining) self.old.decoder self.new.decoder }
         ensures no_more { OnErr result (weight_left self.new ≤ weight_left self.old) }
         ensures level { IfOk result (λ p. TakesLevel self.old self.new p.1) }
         ensures fewer { OnOk result (weight_left self.new ≤ weight_left self.old) }
         ensures ok { IfOk result (λ p. EntersLevelUnread (IsUnread A.remaining) self.old self.new
-            (Some self.old.levels) taken_outer_tag p.0) }
+            (Some self.old.levels) given_outer_tag p.0) }
         ensures denied { IfErr result
             (λ e. Denies (IsUnread A.remaining) (end_at A.remaining) self.old
-            (Some self.old.levels) taken_outer_tag (fault_at A.can_fail A.remaining self.new e)) }
+            (Some self.old.levels) given_outer_tag (fault_at A.can_fail A.remaining self.new e)) }
         ensures memory { IfErr result
             (λ e. IsGrantedFault (fault_at A.can_fail A.remaining self.new e) false) }
     {
@@ -89,17 +89,20 @@ impl<'a, R, A: Access<R>> ByteSource<'a, R, A> {
     /// The name of a variant, and the level that was taken. Its data is ahead: for a text a null
     /// that is not in the bytes, with the offset of the text.
     #[inline(always)]
-    pub(crate) fn begin_variant(&mut self, alloc: Global) -> Result<(String, ByteLevel), Refusal>
+    pub(crate) fn begin_variant(
+        &mut self,
+        alloc: Global,
+    ) -> Result<(String, ByteLevel), BareReadError>
         ensures same_reader { HasSameReader self.old.decoder self.new.decoder }
         ensures only { TakesOnly (HasTaken A.remaining) self.old.decoder self.new.decoder }
         ensures no_more { OnErr result (weight_left self.new ≤ weight_left self.old) }
         ensures level { IfOk result (λ p. TakesLevel self.old self.new p.1) }
         ensures fewer { OnOk result (weight_left self.new ≤ weight_left self.old) }
         ensures ok { IfOk result (λ p. EntersLevelUnread (IsUnread A.remaining) self.old self.new
-            (Some self.old.levels) taken_variant (string_bytes p.0)) }
+            (Some self.old.levels) given_variant (string_bytes p.0)) }
         ensures denied { IfErr result
             (λ e. Denies (IsUnread A.remaining) (end_at A.remaining) self.old
-            (Some self.old.levels) taken_variant (fault_at A.can_fail A.remaining self.new e)) }
+            (Some self.old.levels) given_variant (fault_at A.can_fail A.remaining self.new e)) }
     {
         let (header, offset) = self.bare_head(false)?;
         match header {

@@ -6,7 +6,7 @@ ghost use Rattle.ciborium_ll.specs.Decoding.{HasSameReader};
 ghost use Rattle.ciborium_ll.specs.StringRefusal.{of_text};
 ghost use Rattle.ciborium_value.specs.Sources.{TakesOnly};
 ghost use Rattle.ciborium_value.specs.Labels.{label_place, name_place, placed};
-ghost use Rattle.ciborium_value.specs.Taken.{taken_name};
+ghost use Rattle.ciborium_value.specs.Given.{given_name};
 ghost use Rattle.ciborium_value.specs.declared.labels.LabelKind.TheVariants.{Name};
 ghost use Rattle.ciborium.specs.inner.ByteSources.{AnswersItem, HasTaken, IsUnread, PassesItem};
 ghost use Rattle.ciborium.specs.inner.ByteSources.{bytes_weight, end_at, fault_at, head_label_kind};
@@ -14,7 +14,7 @@ ghost use Rattle.ciborium.specs.inner.ByteSources.{weight_left};
 ghost use Rattle.ciborium.specs.inner.StringContents.{DeniesContent, TakesPlace};
 
 use crate::de::byte_source::ByteSource;
-use crate::de::error::{Error, Refusal};
+use crate::de::error::{BareReadError, Error};
 use ciborium_ll::tag::{BIGNEG, BIGPOS};
 use ciborium_ll::{Access, Header, Visitor};
 use ciborium_value::{Kind, LabelKind, Labels};
@@ -22,7 +22,7 @@ use std::alloc::Global;
 use std::str;
 
 // The length in bytes up to which a name is looked up without memory.
-const ROOM_SIZE: usize = 64;
+const BUFFER_SIZE: usize = 64;
 
 // The length of a text that has room.
 #[inline(always)]
@@ -31,7 +31,7 @@ fn short_len(len: Option<usize>) -> Option<usize>
 {
     match len {
         Some(n) => {
-            if n <= ROOM_SIZE {
+            if n <= BUFFER_SIZE {
                 return Some(n);
             }
             None
@@ -83,10 +83,10 @@ impl<'n, N: Labels> Visitor for NameFinder<'n, N> {
 impl<'a, R, A: Access<R>> ByteSource<'a, R, A> {
     /// A text, or a byte string that is UTF-8 once its chunks are joined.
     #[inline(always)]
-    pub(crate) fn name(&mut self, alloc: Global) -> Result<String, Refusal>
+    pub(crate) fn name(&mut self, alloc: Global) -> Result<String, BareReadError>
         ensures keeps { PassesItem A.remaining self.old self.new result }
         ensures answer { AnswersItem A.can_fail A.remaining self.old self.new (Some self.old.levels)
-            taken_name string_bytes result }
+            given_name string_bytes result }
     {
         let (header, offset) = self.bare_head(false)?;
         match header {
@@ -113,7 +113,7 @@ impl<'a, R, A: Access<R>> ByteSource<'a, R, A> {
         n: usize,
         offset: usize,
         names: &N,
-    ) -> Result<N::Place, Refusal>
+    ) -> Result<N::Place, BareReadError>
         requires pending { self.old.pending ≡ None }
         requires short { n ≤ 64 }
         ensures same_reader { HasSameReader self.old.decoder self.new.decoder }
@@ -129,8 +129,8 @@ impl<'a, R, A: Access<R>> ByteSource<'a, R, A> {
             (λ e. DeniesContent (IsUnread A.remaining self.old) (end_at A.remaining self.old)
             of_text (Some n) (fault_at A.can_fail A.remaining self.new e)) }
     {
-        let mut room = [0u8; ROOM_SIZE];
-        let payload = &mut room[..n];
+        let mut buffer = [0u8; BUFFER_SIZE];
+        let payload = &mut buffer[..n];
         self.fill(payload)?;
         match str::from_utf8(payload) {
             Ok(name) => Ok(names.find_name(name)),
@@ -145,7 +145,7 @@ impl<'a, R, A: Access<R>> ByteSource<'a, R, A> {
         n: usize,
         offset: usize,
         names: &N,
-    ) -> Result<N::Place, Refusal>
+    ) -> Result<N::Place, BareReadError>
         requires pending { self.old.pending ≡ None }
         requires short { n ≤ 64 }
         ensures same_reader { HasSameReader self.old.decoder self.new.decoder }
@@ -177,7 +177,7 @@ impl<'a, R, A: Access<R>> ByteSource<'a, R, A> {
         len: Option<usize>,
         offset: usize,
         names: &N,
-    ) -> Result<N::Place, Refusal>
+    ) -> Result<N::Place, BareReadError>
         requires { self.old.pending ≡ None }
         ensures same_reader { HasSameReader self.old.decoder self.new.decoder }
         ensures only { TakesOnly (HasTaken A.remaining) self.old.decoder self.new.decoder }
@@ -200,7 +200,11 @@ impl<'a, R, A: Access<R>> ByteSource<'a, R, A> {
     }
 
     // The place of a name among these labels, which is read as `name` reads it.
-    fn named_place<N: Labels>(&mut self, alloc: Global, labels: &N) -> Result<N::Place, Refusal>
+    fn named_place<N: Labels>(
+        &mut self,
+        alloc: Global,
+        labels: &N,
+    ) -> Result<N::Place, BareReadError>
         ensures keeps { PassesItem A.remaining self.old self.new result }
         ensures answer { AnswersItem A.can_fail A.remaining self.old self.new (Some self.old.levels)
             (placed (N.place_of labels.now) Name) (λ v. v) result }
@@ -229,7 +233,7 @@ impl<'a, R, A: Access<R>> ByteSource<'a, R, A> {
         alloc: Global,
         kind: LabelKind,
         labels: &N,
-    ) -> Result<N::Place, Refusal>
+    ) -> Result<N::Place, BareReadError>
         ensures keeps { PassesItem A.remaining self.old self.new result }
         ensures answer { AnswersItem A.can_fail A.remaining self.old self.new (Some self.old.levels)
             (placed (N.place_of labels.now) kind) (λ v. v) result }
@@ -256,7 +260,7 @@ impl<'a, R, A: Access<R>> ByteSource<'a, R, A> {
         &mut self,
         alloc: Global,
         labels: &N,
-    ) -> Result<N::Place, Refusal>
+    ) -> Result<N::Place, BareReadError>
         ensures keeps { PassesItem A.remaining self.old self.new result }
         ensures answer { AnswersItem A.can_fail A.remaining self.old self.new (Some self.old.levels)
             (label_place (N.place_of labels.now)) (λ v. v) result }

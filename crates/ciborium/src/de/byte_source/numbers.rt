@@ -6,7 +6,7 @@ ghost use Rattle.ciborium_ll.specs.Decoding.{HasSameReader};
 ghost use Rattle.ciborium_ll.specs.StringRefusal.{of_bytes};
 ghost use Rattle.ciborium_ll.specs.declared.header.Header.TheVariants as heads;
 ghost use Rattle.ciborium_value.specs.Sources.{IsGrantedFault, TakesOnly};
-ghost use Rattle.ciborium_value.specs.Taken.{taken_bignum, taken_integer};
+ghost use Rattle.ciborium_value.specs.Given.{given_bignum, given_integer};
 ghost use Rattle.ciborium.specs.inner.ByteSources.{HasTaken, IsUnread, bytes_weight, end_at};
 ghost use Rattle.ciborium.specs.inner.ByteSources.{AnswersItem, KeepsSource, PassesItem};
 ghost use Rattle.ciborium.specs.inner.ByteSources.{weight_left};
@@ -15,7 +15,7 @@ ghost use Rattle.ciborium.specs.inner.StringContents.{DeniesContent, DeniesJust,
 ghost use Rattle.ciborium.specs.inner.StringContents.{TakesNumber, one_digit_more};
 
 use crate::de::byte_source::ByteSource;
-use crate::de::error::{Error, Refusal};
+use crate::de::error::{BareReadError, Error};
 use ciborium_ll::tag::BIGNEG;
 use ciborium_ll::{Access, Header};
 use ciborium_value::Kind;
@@ -51,15 +51,19 @@ fn is_negative(header: Header) -> bool
 }
 
 #[inline(always)]
-fn only_byte(room: &[u8; 1]) -> u8
-    ensures { room.now ≡ result ∷ [] }
+fn only_byte(buffer: &[u8; 1]) -> u8
+    ensures { buffer.now ≡ result ∷ [] }
 {
-    room[0]
+    buffer[0]
 }
 
 impl<'a, R, A: Access<R>> ByteSource<'a, R, A> {
     // The number with the next bytes, `len` of them, as its further digits.
-    fn read_digits(&mut self, len: usize, start: Option<u128>) -> Result<Option<u128>, Refusal>
+    fn read_digits(
+        &mut self,
+        len: usize,
+        start: Option<u128>,
+    ) -> Result<Option<u128>, BareReadError>
         requires { self.old.pending ≡ None }
         ensures same_reader { HasSameReader self.old.decoder self.new.decoder }
         ensures only { TakesOnly (HasTaken A.remaining) self.old.decoder self.new.decoder }
@@ -78,10 +82,10 @@ impl<'a, R, A: Access<R>> ByteSource<'a, R, A> {
         let mut number = start;
         let mut left = len;
         while left > 0 {
-            let mut room = [0u8; 1];
+            let mut buffer = [0u8; 1];
             self.decoder
-                .read_exact_keeping(&mut room, &mut self.failure)?;
-            number = with_digit(number, only_byte(&room));
+                .read_exact_keeping(&mut buffer, &mut self.failure)?;
+            number = with_digit(number, only_byte(&buffer));
             left -= 1;
         }
         Ok(number)
@@ -89,7 +93,7 @@ impl<'a, R, A: Access<R>> ByteSource<'a, R, A> {
 
     // The number that the byte string makes whose head was taken last. It is read whole, also where
     // 128 bits do not hold it.
-    fn read_number(&mut self, len: Option<usize>) -> Result<Option<u128>, Refusal>
+    fn read_number(&mut self, len: Option<usize>) -> Result<Option<u128>, BareReadError>
         requires { self.old.pending ≡ None }
         ensures same_reader { HasSameReader self.old.decoder self.new.decoder }
         ensures only { TakesOnly (HasTaken A.remaining) self.old.decoder self.new.decoder }
@@ -129,12 +133,12 @@ impl<'a, R, A: Access<R>> ByteSource<'a, R, A> {
 
     // The number under the tag of a bignum, which was taken last and stands at this offset.
     #[inline(never)]
-    fn read_bignum(&mut self, tag_offset: usize) -> Result<u128, Refusal>
+    fn read_bignum(&mut self, tag_offset: usize) -> Result<u128, BareReadError>
         ensures keeps { KeepsSource A.remaining self.old self.new result }
         ensures levels { self.new.levels ≡ self.old.levels }
         ensures fewer { OnOk result (weight_left self.new ≤ weight_left self.old) }
         ensures answer { AnswersItem A.can_fail A.remaining self.old self.new None
-            taken_bignum (λ v. v) result }
+            given_bignum (λ v. v) result }
         ensures memory { IfErr result
             (λ e. IsGrantedFault (fault_at A.can_fail A.remaining self.new e) false) }
     {
@@ -155,14 +159,18 @@ impl<'a, R, A: Access<R>> ByteSource<'a, R, A> {
     // The number under this tag of a bignum, which was taken last and stands at this offset. Apart
     // from `read_integer`, so that the room for an error is made ready only behind a tag.
     #[inline(always)]
-    fn read_tagged(&mut self, tag: u64, offset: usize) -> Result<((bool, u128), usize), Refusal>
+    fn read_tagged(
+        &mut self,
+        tag: u64,
+        offset: usize,
+    ) -> Result<((bool, u128), usize), BareReadError>
         ensures keeps { KeepsSource A.remaining self.old self.new result }
         ensures levels { self.new.levels ≡ self.old.levels }
         ensures fewer { OnOk result (weight_left self.new ≤ weight_left self.old) }
         ensures sign { IfOk result (λ v. v.0.0 ≡ (tag == 3)) }
         ensures offset { IfOk result (λ v. v.1 ≡ offset) }
         ensures answer { AnswersItem A.can_fail A.remaining self.old self.new None
-            taken_bignum (λ v. v.0.1) result }
+            given_bignum (λ v. v.0.1) result }
         ensures memory { IfErr result
             (λ e. IsGrantedFault (fault_at A.can_fail A.remaining self.new e) false) }
     {
@@ -172,10 +180,10 @@ impl<'a, R, A: Access<R>> ByteSource<'a, R, A> {
 
     /// A number, and the offset of its head or, for a bignum, of the tag of it.
     #[inline(always)]
-    pub(crate) fn read_integer(&mut self) -> Result<((bool, u128), usize), Refusal>
+    pub(crate) fn read_integer(&mut self) -> Result<((bool, u128), usize), BareReadError>
         ensures keeps { PassesItem A.remaining self.old self.new result }
         ensures answer { AnswersItem A.can_fail A.remaining self.old self.new (Some self.old.levels)
-            taken_integer (λ v. v.0) result }
+            given_integer (λ v. v.0) result }
         ensures memory { IfErr result
             (λ e. IsGrantedFault (fault_at A.can_fail A.remaining self.new e) false) }
     {

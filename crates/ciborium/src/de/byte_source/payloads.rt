@@ -12,12 +12,12 @@ ghost use Rattle.ciborium.specs.inner.ByteSources.{fault_at, weight_left};
 ghost use Rattle.ciborium.specs.inner.PassedOver.{DeniesPayload, TakesPayload};
 
 use crate::de::byte_source::ByteSource;
-use crate::de::error::{Error, Refusal};
+use crate::de::error::{BareReadError, Error};
 use ciborium_ll::{Access, Header, Visitor};
 use std::str;
 
 // How many bytes of a payload are taken at once.
-const ROOM_SIZE: usize = 64;
+const BUFFER_SIZE: usize = 64;
 
 // How many bytes at the front are whole characters, or none where no text begins with these.
 #[inline(always)]
@@ -85,7 +85,7 @@ impl Visitor for TextTest {
 
 impl<'a, R, A: Access<R>> ByteSource<'a, R, A> {
     // Passes over the payload of a byte string, of `len` bytes, piece by piece.
-    fn skip_pieces(&mut self, len: usize) -> Result<(), Refusal>
+    fn skip_pieces(&mut self, len: usize) -> Result<(), BareReadError>
         requires { self.old.pending ≡ None }
         ensures same_reader { HasSameReader self.old.decoder self.new.decoder }
         ensures only { TakesOnly (HasTaken A.remaining) self.old.decoder self.new.decoder }
@@ -101,20 +101,20 @@ impl<'a, R, A: Access<R>> ByteSource<'a, R, A> {
         ensures memory { IfErr result
             (λ e. IsGrantedFault (fault_at A.can_fail A.remaining self.new e) false) }
     {
-        let mut room = [0u8; ROOM_SIZE];
+        let mut buffer = [0u8; BUFFER_SIZE];
         let mut left = len;
         while left > 0 {
-            let size = left.min(ROOM_SIZE);
-            self.fill(&mut room[..size])?;
+            let size = left.min(BUFFER_SIZE);
+            self.fill(&mut buffer[..size])?;
             left -= size;
         }
         Ok(())
     }
 
     // Passes over the payload of a text, of `len` bytes, whose head stands at this offset, piece by
-    // piece. The beginning of a character that a piece cuts stays at the front of the room. What is
-    // no text is taken whole too before it is refused, as where a text is read.
-    fn skip_text_pieces(&mut self, len: usize, offset: usize) -> Result<(), Refusal>
+    // piece. The beginning of a character that a piece cuts stays at the front of the buffer. What
+    // is no text is taken whole too before it is refused, as where a text is read.
+    fn skip_text_pieces(&mut self, len: usize, offset: usize) -> Result<(), BareReadError>
         requires { self.old.pending ≡ None }
         ensures same_reader { HasSameReader self.old.decoder self.new.decoder }
         ensures only { TakesOnly (HasTaken A.remaining) self.old.decoder self.new.decoder }
@@ -130,13 +130,13 @@ impl<'a, R, A: Access<R>> ByteSource<'a, R, A> {
         ensures memory { IfErr result
             (λ e. IsGrantedFault (fault_at A.can_fail A.remaining self.new e) false) }
     {
-        let mut room = [0u8; ROOM_SIZE];
-        // How much of a character that the last piece cut is kept, at the front of the room.
+        let mut buffer = [0u8; BUFFER_SIZE];
+        // How much of a character that the last piece cut is kept, at the front of the buffer.
         let mut kept = 0;
         let mut left = len;
         while left > 0 {
-            let size = left.min(ROOM_SIZE - kept);
-            let bytes = &mut room[..kept + size];
+            let size = left.min(BUFFER_SIZE - kept);
+            let bytes = &mut buffer[..kept + size];
             self.fill(&mut bytes[kept..])?;
             left -= size;
             match keep_cut(bytes) {
@@ -155,7 +155,7 @@ impl<'a, R, A: Access<R>> ByteSource<'a, R, A> {
 
     // Passes over the payload of a byte string, of `len` bytes.
     #[inline(always)]
-    fn skip_bytes(&mut self, len: usize) -> Result<(), Refusal>
+    fn skip_bytes(&mut self, len: usize) -> Result<(), BareReadError>
         requires { self.old.pending ≡ None }
         ensures same_reader { HasSameReader self.old.decoder self.new.decoder }
         ensures only { TakesOnly (HasTaken A.remaining) self.old.decoder self.new.decoder }
@@ -179,7 +179,7 @@ impl<'a, R, A: Access<R>> ByteSource<'a, R, A> {
 
     // Passes over the payload of a text, of `len` bytes, whose head stands at this offset.
     #[inline(always)]
-    fn skip_text(&mut self, len: usize, offset: usize) -> Result<(), Refusal>
+    fn skip_text(&mut self, len: usize, offset: usize) -> Result<(), BareReadError>
         requires { self.old.pending ≡ None }
         ensures same_reader { HasSameReader self.old.decoder self.new.decoder }
         ensures only { TakesOnly (HasTaken A.remaining) self.old.decoder self.new.decoder }
@@ -205,7 +205,11 @@ impl<'a, R, A: Access<R>> ByteSource<'a, R, A> {
     /// Passes over the payload behind this head, which was taken last and stands at this offset:
     /// that of a definite string. Any other head has none. No memory is taken.
     #[inline(always)]
-    pub(crate) fn skip_payload(&mut self, header: Header, offset: usize) -> Result<(), Refusal>
+    pub(crate) fn skip_payload(
+        &mut self,
+        header: Header,
+        offset: usize,
+    ) -> Result<(), BareReadError>
         requires { self.old.pending ≡ None }
         ensures same_reader { HasSameReader self.old.decoder self.new.decoder }
         ensures only { TakesOnly (HasTaken A.remaining) self.old.decoder self.new.decoder }

@@ -2,12 +2,12 @@
 
 ghost use Rattle.std.specs.Prelude.{◌≡◌, IfErr, Some, false};
 ghost use Rattle.ciborium_value.specs.Sources.{IsGrantedFault};
-ghost use Rattle.ciborium_value.specs.Taken.{is_null_simple, taken_boolean, taken_unit};
+ghost use Rattle.ciborium_value.specs.Given.{is_null_simple, given_boolean, given_unit};
 ghost use Rattle.ciborium.specs.inner.ByteSources.{AnswersItem, PassesItem, fault_at};
 ghost use Rattle.ciborium.specs.inner.ByteSources.{tells_null};
 
 use crate::de::byte_source::ByteSource;
-use crate::de::error::{Error, Refusal};
+use crate::de::error::{BareReadError, Error};
 use ciborium_ll::{Access, Header, simple};
 use ciborium_value::Kind;
 
@@ -32,10 +32,10 @@ pub(crate) fn is_null_head(header: &Header) -> bool
 
 impl<'a, R, A: Access<R>> ByteSource<'a, R, A> {
     #[inline(always)]
-    pub(crate) fn boolean(&mut self) -> Result<bool, Refusal>
+    pub(crate) fn boolean(&mut self) -> Result<bool, BareReadError>
         ensures keeps { PassesItem A.remaining self.old self.new result }
         ensures answer { AnswersItem A.can_fail A.remaining self.old self.new (Some self.old.levels)
-            taken_boolean (λ v. v) result }
+            given_boolean (λ v. v) result }
         ensures memory { IfErr result
             (λ e. IsGrantedFault (fault_at A.can_fail A.remaining self.new e) false) }
     {
@@ -55,10 +55,10 @@ impl<'a, R, A: Access<R>> ByteSource<'a, R, A> {
     }
 
     #[inline(always)]
-    pub(crate) fn unit(&mut self) -> Result<(), Refusal>
+    pub(crate) fn unit(&mut self) -> Result<(), BareReadError>
         ensures keeps { PassesItem A.remaining self.old self.new result }
         ensures answer { AnswersItem A.can_fail A.remaining self.old self.new (Some self.old.levels)
-            taken_unit (λ v. v) result }
+            given_unit (λ v. v) result }
         ensures memory { IfErr result
             (λ e. IsGrantedFault (fault_at A.can_fail A.remaining self.new e) false) }
     {

@@ -6,7 +6,7 @@ ghost use Rattle.ciborium_ll.specs.Decoding.{HasSameReader};
 ghost use Rattle.ciborium_ll.specs.Levels.{behind_head, incomplete};
 ghost use Rattle.ciborium_ll.specs.declared.levels.Level.TheVariants.{Items};
 ghost use Rattle.ciborium_value.specs.Sources.{TakesOnly};
-ghost use Rattle.ciborium_value.specs.Taken.{taken_skip};
+ghost use Rattle.ciborium_value.specs.Given.{given_skip};
 ghost use Rattle.ciborium.specs.inner.ByteSources.{AnswersItem, HasTaken, IsUnread, PassesItem};
 ghost use Rattle.ciborium.specs.inner.ByteSources.{bytes_weight, end_at, fault_at, weight_left};
 ghost use Rattle.ciborium.specs.inner.PassedOver as passed;
@@ -14,7 +14,7 @@ ghost use Rattle.ciborium.specs.inner.PassedOver.{DeniesBignum, DeniesLevels, Pa
 ghost use Rattle.ciborium.specs.inner.PassedOver.{TakesBignum, levels_in};
 
 use crate::de::byte_source::ByteSource;
-use crate::de::error::{Error, Refusal};
+use crate::de::error::{BareReadError, Error};
 use crate::de::tags::find_folding;
 use ciborium_ll::{Access, Header, Level, Step, step_of};
 use ciborium_value::Kind;
@@ -52,7 +52,7 @@ pub(crate) struct Unfinished {
 impl Unfinished {
     // Opens a level, behind which this one is left of the innermost.
     #[inline(always)]
-    fn begin(&mut self, next: Level, inner: Level) -> Result<(), Refusal>
+    fn begin(&mut self, next: Level, inner: Level) -> Result<(), BareReadError>
         ensures ok { OnOk result
             (levels_in self.new ≡ inner ∷ next ∷ passed.around_in self.old) }
         ensures memory { IfErr result (λ e. e ≡ Error.Memory) }
@@ -122,7 +122,7 @@ impl<'a, R, A: Access<R>> ByteSource<'a, R, A> {
     // Passes over what stands behind the head of a tag, which was taken last, where it is a bignum
     // that folds: that takes no level. Anything else would, and none is left.
     #[inline(never)]
-    fn skip_bignum(&mut self, header: Header) -> Result<(), Refusal>
+    fn skip_bignum(&mut self, header: Header) -> Result<(), BareReadError>
         requires { self.old.pending ≡ None }
         ensures same_reader { HasSameReader self.old.decoder self.new.decoder }
         ensures only { TakesOnly (HasTaken A.remaining) self.old.decoder self.new.decoder }
@@ -148,7 +148,7 @@ impl<'a, R, A: Access<R>> ByteSource<'a, R, A> {
 
     // Passes over a head, with its payload.
     #[inline(always)]
-    fn skip_head(&mut self, unfinished: &mut Unfinished) -> Result<(), Refusal>
+    fn skip_head(&mut self, unfinished: &mut Unfinished) -> Result<(), BareReadError>
         requires { incomplete (levels_in unfinished.old) ≡ levels_in unfinished.old }
         ensures same_reader { HasSameReader self.old.decoder self.new.decoder }
         ensures only { TakesOnly (HasTaken A.remaining) self.old.decoder self.new.decoder }
@@ -186,10 +186,10 @@ impl<'a, R, A: Access<R>> ByteSource<'a, R, A> {
 
     // Passes over the item ahead, head by head.
     #[inline(never)]
-    fn skip_heads(&mut self, alloc: Global) -> Result<(), Refusal>
+    fn skip_heads(&mut self, alloc: Global) -> Result<(), BareReadError>
         ensures keeps { PassesItem A.remaining self.old self.new result }
         ensures answer { AnswersItem A.can_fail A.remaining self.old self.new (Some self.old.levels)
-            taken_skip (λ v. v) result }
+            given_skip (λ v. v) result }
     {
         let mut unfinished = Unfinished {
             level: Level::Items(1),
@@ -206,10 +206,10 @@ impl<'a, R, A: Access<R>> ByteSource<'a, R, A> {
 
     /// Passes over the item ahead.
     #[inline(always)]
-    pub(crate) fn skip(&mut self, alloc: Global) -> Result<(), Refusal>
+    pub(crate) fn skip(&mut self, alloc: Global) -> Result<(), BareReadError>
         ensures keeps { PassesItem A.remaining self.old self.new result }
         ensures answer { AnswersItem A.can_fail A.remaining self.old self.new (Some self.old.levels)
-            taken_skip (λ v. v) result }
+            given_skip (λ v. v) result }
     {
         let (header, offset) = self.next_head()?;
         if is_lone(header) {
@@ -222,7 +222,7 @@ impl<'a, R, A: Access<R>> ByteSource<'a, R, A> {
 
 // The error of a head that may not stand where it does: a break, or no part of a string.
 #[inline(never)]
-fn misplaced(header: Header, offset: usize) -> Refusal
+fn misplaced(header: Header, offset: usize) -> BareReadError
     ensures { (result ≡ Error.Syntax offset)
         ⊎ (result ≡ Error.Semantic (Some offset) Kind.Break) }
 {

@@ -7,13 +7,13 @@ ghost use Rattle.ciborium.specs.inner.ByteSources.{offset_of_next, seq_left, wei
 
 use crate::de::byte_source::scalars::is_null_head;
 use crate::de::byte_source::{ByteLevel, ByteSeq, ByteSource};
-use crate::de::error::{Error, Refusal};
+use crate::de::error::{BareReadError, Error};
 use ciborium_ll::Access;
 use ciborium_value::{Kind, Labels, Source, Value};
 use std::alloc::Global;
 
 impl<'a, R, A: Access<R>> Source for ByteSource<'a, R, A> {
-    type Error = Refusal;
+    type Error = BareReadError;
 
     type Seq = ByteSeq;
 
@@ -44,48 +44,48 @@ impl<'a, R, A: Access<R>> Source for ByteSource<'a, R, A> {
     ghost offset_ahead = { λ s. Some (offset_of_next s) };
 
     #[inline(always)]
-    fn integer(&mut self) -> Result<(bool, u128), Refusal> {
+    fn integer(&mut self) -> Result<(bool, u128), BareReadError> {
         let (number, _) = self.read_integer()?;
         Ok(number)
     }
 
     #[inline(always)]
-    fn boolean(&mut self) -> Result<bool, Refusal> {
+    fn boolean(&mut self) -> Result<bool, BareReadError> {
         self.boolean()
     }
 
     #[inline(always)]
-    fn unit(&mut self) -> Result<(), Refusal> {
+    fn unit(&mut self) -> Result<(), BareReadError> {
         self.unit()
     }
 
     #[inline(always)]
-    fn character(&mut self) -> Result<char, Refusal> {
+    fn character(&mut self) -> Result<char, BareReadError> {
         self.character()
     }
 
     #[inline(always)]
-    fn text(&mut self, alloc: Global) -> Result<String, Refusal> {
+    fn text(&mut self, alloc: Global) -> Result<String, BareReadError> {
         self.text(alloc)
     }
 
     #[inline(always)]
-    fn bytes(&mut self, alloc: Global) -> Result<Vec<u8>, Refusal> {
+    fn bytes(&mut self, alloc: Global) -> Result<Vec<u8>, BareReadError> {
         self.bytes(alloc)
     }
 
     #[inline(always)]
-    fn name(&mut self, alloc: Global) -> Result<String, Refusal> {
+    fn name(&mut self, alloc: Global) -> Result<String, BareReadError> {
         self.name(alloc)
     }
 
     #[inline(always)]
-    fn label<N: Labels>(&mut self, alloc: Global, labels: &N) -> Result<N::Place, Refusal> {
+    fn label<N: Labels>(&mut self, alloc: Global, labels: &N) -> Result<N::Place, BareReadError> {
         self.label(alloc, labels)
     }
 
     #[inline(always)]
-    fn null_ahead(&mut self) -> Result<bool, Refusal> {
+    fn null_ahead(&mut self) -> Result<bool, BareReadError> {
         let (header, offset) = self.next_head()?;
         let answer = is_null_head(&header);
         self.pending = Some((header, offset));
@@ -93,7 +93,7 @@ impl<'a, R, A: Access<R>> Source for ByteSource<'a, R, A> {
     }
 
     #[inline(always)]
-    fn begin_tag(&mut self) -> Result<(Option<u64>, ByteLevel), Refusal> {
+    fn begin_tag(&mut self) -> Result<(Option<u64>, ByteLevel), BareReadError> {
         self.begin_tag()
     }
 
@@ -103,7 +103,7 @@ impl<'a, R, A: Access<R>> Source for ByteSource<'a, R, A> {
     }
 
     #[inline(always)]
-    fn begin_variant(&mut self, alloc: Global) -> Result<(String, ByteLevel), Refusal> {
+    fn begin_variant(&mut self, alloc: Global) -> Result<(String, ByteLevel), BareReadError> {
         self.begin_variant(alloc)
     }
 
@@ -113,32 +113,32 @@ impl<'a, R, A: Access<R>> Source for ByteSource<'a, R, A> {
     }
 
     #[inline(always)]
-    fn begin_seq(&mut self, alloc: Global) -> Result<ByteSeq, Refusal> {
+    fn begin_seq(&mut self, alloc: Global) -> Result<ByteSeq, BareReadError> {
         self.begin_seq(alloc)
     }
 
     #[inline(always)]
-    fn begin_map(&mut self) -> Result<ByteSeq, Refusal> {
+    fn begin_map(&mut self) -> Result<ByteSeq, BareReadError> {
         self.begin_map()
     }
 
     #[inline(always)]
-    fn next(&mut self, seq: &mut ByteSeq) -> Result<bool, Refusal> {
+    fn next(&mut self, seq: &mut ByteSeq) -> Result<bool, BareReadError> {
         self.next_part(seq)
     }
 
     #[inline(always)]
-    fn value(&mut self, alloc: Global) -> Result<Value, Refusal> {
+    fn value(&mut self, alloc: Global) -> Result<Value, BareReadError> {
         self.value(alloc)
     }
 
     #[inline(always)]
-    fn skip(&mut self, alloc: Global) -> Result<(), Refusal> {
+    fn skip(&mut self, alloc: Global) -> Result<(), BareReadError> {
         self.skip(alloc)
     }
 
     #[inline(always)]
-    fn refuse(&self, kind: Kind) -> Refusal {
+    fn refuse(&self, kind: Kind) -> BareReadError {
         Error::Semantic(None, kind)
     }
 
@@ -151,12 +151,12 @@ impl<'a, R, A: Access<R>> Source for ByteSource<'a, R, A> {
     }
 
     #[inline(always)]
-    fn refuse_at(&self, offset: Option<usize>, kind: Kind) -> Refusal {
+    fn refuse_at(&self, offset: Option<usize>, kind: Kind) -> BareReadError {
         Error::Semantic(offset, kind)
     }
 
     #[inline(always)]
-    fn memory(&self) -> Refusal {
+    fn memory(&self) -> BareReadError {
         Error::Memory
     }
 }

@@ -5,7 +5,7 @@ ghost use Rattle.std.specs.Prelude.{OnErr, OnOk, Some, false, length, string_byt
 ghost use Rattle.ciborium_ll.specs.Decoding.{HasSameReader};
 ghost use Rattle.ciborium_ll.specs.StringRefusal.{of_bytes, of_text};
 ghost use Rattle.ciborium_value.specs.Sources.{IsGrantedFault, TakesOnly};
-ghost use Rattle.ciborium_value.specs.Taken.{taken_text};
+ghost use Rattle.ciborium_value.specs.Given.{given_text};
 ghost use Rattle.ciborium.specs.inner.ByteSources.{HasTaken, IsUnread, bytes_weight, end_at};
 ghost use Rattle.ciborium.specs.inner.ByteSources.{AnswersItem, PassesItem, weight_left};
 ghost use Rattle.ciborium.specs.inner.ByteSources.{fault_at};
@@ -13,14 +13,14 @@ ghost use Rattle.ciborium.specs.inner.StringContents.{DeniesContent, DeniesJust,
 ghost use Rattle.ciborium.specs.inner.StringContents.{TakesJust};
 
 use crate::de::byte_source::ByteSource;
-use crate::de::error::{Error, Refusal};
+use crate::de::error::{BareReadError, Error};
 use ciborium_ll::{Access, Header, Visitor};
 use ciborium_value::Kind;
 use std::alloc::Global;
 
 impl<'a, R, A: Access<R>> ByteSource<'a, R, A> {
     /// Fills the buffer with the next bytes.
-    pub(crate) fn fill(&mut self, buffer: &mut [u8]) -> Result<(), Refusal>
+    pub(crate) fn fill(&mut self, buffer: &mut [u8]) -> Result<(), BareReadError>
         requires { self.old.pending ≡ None }
         ensures same_reader { HasSameReader self.old.decoder self.new.decoder }
         ensures only { TakesOnly (HasTaken A.remaining) self.old.decoder self.new.decoder }
@@ -46,7 +46,7 @@ impl<'a, R, A: Access<R>> ByteSource<'a, R, A> {
         &mut self,
         n: usize,
         visitor: &V,
-    ) -> Result<Option<V::Value>, Refusal>
+    ) -> Result<Option<V::Value>, BareReadError>
         requires { self.old.pending ≡ None }
         ensures same_reader { HasSameReader self.old.decoder self.new.decoder }
         ensures only { TakesOnly (HasTaken A.remaining) self.old.decoder self.new.decoder }
@@ -80,7 +80,7 @@ impl<'a, R, A: Access<R>> ByteSource<'a, R, A> {
         &mut self,
         alloc: Global,
         len: Option<usize>,
-    ) -> Result<Vec<u8>, Refusal>
+    ) -> Result<Vec<u8>, BareReadError>
         requires { self.old.pending ≡ None }
         ensures same_reader { HasSameReader self.old.decoder self.new.decoder }
         ensures only { TakesOnly (HasTaken A.remaining) self.old.decoder self.new.decoder }
@@ -107,7 +107,7 @@ impl<'a, R, A: Access<R>> ByteSource<'a, R, A> {
         &mut self,
         alloc: Global,
         len: Option<usize>,
-    ) -> Result<String, Refusal>
+    ) -> Result<String, BareReadError>
         requires { self.old.pending ≡ None }
         ensures same_reader { HasSameReader self.old.decoder self.new.decoder }
         ensures only { TakesOnly (HasTaken A.remaining) self.old.decoder self.new.decoder }
@@ -128,10 +128,10 @@ impl<'a, R, A: Access<R>> ByteSource<'a, R, A> {
     }
 
     #[inline(always)]
-    pub(crate) fn text(&mut self, alloc: Global) -> Result<String, Refusal>
+    pub(crate) fn text(&mut self, alloc: Global) -> Result<String, BareReadError>
         ensures keeps { PassesItem A.remaining self.old self.new result }
         ensures answer { AnswersItem A.can_fail A.remaining self.old self.new (Some self.old.levels)
-            taken_text string_bytes result }
+            given_text string_bytes result }
     {
         let (header, offset) = self.bare_head(false)?;
         match header {

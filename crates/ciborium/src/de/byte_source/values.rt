@@ -4,14 +4,14 @@ ghost use Rattle.std.specs.Prelude.{◌≡◌, ◌<◌, ◌≤◌, MatchOption, 
 ghost use Rattle.ciborium_ll.specs.Decoding.{HasSameReader};
 ghost use Rattle.ciborium_value.specs.Sources.{TakesOnly};
 ghost use Rattle.ciborium_value.specs.View.{read_as, tree_of};
-ghost use Rattle.ciborium_value.specs.Taken.{taken_value};
+ghost use Rattle.ciborium_value.specs.Given.{given_value};
 ghost use Rattle.ciborium.specs.inner.ByteSources.{HasTaken, MeansTree, ReadsValue, is_portable};
 ghost use Rattle.ciborium.specs.inner.ByteSources.{weight_left, AnswersItem};
 
 use crate::de::building::read_value;
 use crate::de::byte_source::ByteSource;
 use crate::de::byte_source::scalars::is_null;
-use crate::de::error::Refusal;
+use crate::de::error::BareReadError;
 use crate::de::spelling::AnySpelling;
 use ciborium_ll::{Access, Decoder, Header};
 use ciborium_value::{Integer, Value};
@@ -36,7 +36,7 @@ fn portable_value(header: Header) -> Option<Value>
 }
 
 impl<'a, R, A: Access<R>> ByteSource<'a, R, A> {
-    pub(crate) fn value(&mut self, alloc: Global) -> Result<Value, Refusal>
+    pub(crate) fn value(&mut self, alloc: Global) -> Result<Value, BareReadError>
         ensures same_reader { OnOk result (HasSameReader self.old.decoder self.new.decoder) }
         ensures only { TakesOnly (HasTaken A.remaining) self.old.decoder self.new.decoder }
         ensures no_more { OnErr result (weight_left self.new ≤ weight_left self.old) }
@@ -44,7 +44,7 @@ impl<'a, R, A: Access<R>> ByteSource<'a, R, A> {
         ensures pending { OnOk result (self.new.pending ≡ None) }
         ensures fewer { OnOk result (weight_left self.new < weight_left self.old) }
         ensures answer { AnswersItem A.can_fail A.remaining self.old self.new (Some self.old.levels)
-            taken_value tree_of result }
+            given_value tree_of result }
         ensures reads { ReadsValue A.can_fail A.remaining self.old self.new
             (read_as tree_of result) }
     {

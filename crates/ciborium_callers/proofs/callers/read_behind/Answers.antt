@@ -4,7 +4,7 @@ use Rattle.ciborium.specs.Bytes.{greatest_offset}
 use Rattle.ciborium.specs.Errors.{fault_of}
 use Rattle.ciborium.specs.Sources.{IsFaultOf}
 use Rattle.ciborium.specs.View.{read_as}
-use Rattle.ciborium.specs.Taken.{Outcome}
+use Rattle.ciborium.specs.Given.{Outcome}
 use Rattle.ciborium.specs.declared.de.error.Error.{Error}
 use Rattle.ciborium.specs.declared.de.error.Error.TheVariants.{TooLong}
 use Rattle.ciborium_callers.proofs.callers.read_behind.Goals as goal

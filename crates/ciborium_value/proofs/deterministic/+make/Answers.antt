@@ -3,7 +3,7 @@ use Rattle.std.proofs.lemmas.List.{get_or_default, get_or-set_other, length-set}
 use Rattle.std.proofs.lemmas.Result.{IfOk-weaker, IfErr-weaker}
 use Rattle.ciborium_value.specs.DeterministicForms.{deterministic_form, deterministic_forms, pair_forms}
 use Rattle.ciborium_value.specs.SameContents as same
-use Rattle.ciborium_value.specs.Taken.{gives, refuses}
+use Rattle.ciborium_value.specs.Given.{gives, refuses}
 use Rattle.ciborium_value.specs.Folded.{tree_folding_bytes}
 use Rattle.ciborium_value.specs.Meaning.{bignum_meaning, without_zeros}
 use Rattle.ciborium_value.specs.Tree as trees

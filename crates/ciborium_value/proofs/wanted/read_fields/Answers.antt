@@ -2,7 +2,7 @@
 use Rattle.std.proofs.Common.{arith, ◌∙◌, subst, sym}
 use Rattle.ciborium_value.specs.Ahead.{end_of}
 use Rattle.ciborium_value.specs.Sources.{IsFaultOf}
-use Rattle.ciborium_value.specs.StructReadings.{taken_fields}
+use Rattle.ciborium_value.specs.StructReadings.{given_fields}
 use Rattle.ciborium_value.proofs.Sources.Sequences.{so, takes, blames, passes_on}
 use Rattle.ciborium_value.proofs.Sources.Dictionaries.{owed_pair, owed_pairs}
 use Rattle.ciborium_value.proofs.Sources.NamedFields.{fields_more, fields_blame_next, fields_blame_name}
@@ -14,7 +14,7 @@ returns-in_err-next g c =
     let e = g.S.Source.cause c.next.new.self c.in_err-next.field-0.0 in
     let fields = g.F.WantedFields.fields c.args.fields.now in
     passes_on _ c.in_err-next.field-0.0 c.from_residual-in_err-next.ensures.1
-    (blames g.S.Source.stands_before (taken_fields fields (g.F.WantedFields.content c.args.fields.now)) e
+    (blames g.S.Source.stands_before (given_fields fields (g.F.WantedFields.content c.args.fields.now)) e
     (so c.loop-seq.invariant.inside
     (fields_blame_next g.S.Source.stands_before g.S.Source.seq_stands fields
     (g.F.WantedFields.content c.loop-seq.fields) e c.in_err-next.ensures.refused)))
@@ -26,7 +26,7 @@ returns-in_err-place g c =
     let e = g.S.Source.cause c.label.new.self c.in_err-place.field-0.0 in
     let fields = g.F.WantedFields.fields c.args.fields.now in
     passes_on _ c.in_err-place.field-0.0 c.from_residual-in_err-place.ensures.1
-    (blames g.S.Source.stands_before (taken_fields fields (g.F.WantedFields.content c.args.fields.now)) e
+    (blames g.S.Source.stands_before (given_fields fields (g.F.WantedFields.content c.args.fields.now)) e
     (so c.loop-seq.invariant.inside
     (fields_blame_name g.S.Source.stands_before g.S.Source.seq_stands fields
     (g.F.Labels.place_of c.loop-seq.fields) (g.F.WantedFields.content c.loop-seq.fields) e
@@ -44,7 +44,7 @@ returns-in_err-read_field g c =
     let e = g.S.Source.cause c.read_field.new.source c.in_err-read_field.field-0.0 in
     let fields = g.F.WantedFields.fields c.args.fields.now in
     passes_on _ c.in_err-read_field.field-0.0 c.from_residual-in_err-read_field.ensures.1
-    (blames g.S.Source.stands_before (taken_fields fields (g.F.WantedFields.content c.args.fields.now)) e
+    (blames g.S.Source.stands_before (given_fields fields (g.F.WantedFields.content c.args.fields.now)) e
     (so c.loop-seq.invariant.inside
     (fields_blame_field g.S.Source.stands_before g.S.Source.seq_stands fields
     (g.F.Labels.place_of c.loop-seq.fields) (g.F.WantedFields.content c.loop-seq.fields) e
@@ -87,7 +87,7 @@ loop-seq-preserved g c = record {
 
 pub returns : goal.returns
 returns g c = record {
-  ok = takes g.S.Source.stands_before (taken_fields (g.F.WantedFields.fields c.args.fields.now)
+  ok = takes g.S.Source.stands_before (given_fields (g.F.WantedFields.fields c.args.fields.now)
       (g.F.WantedFields.content c.args.fields.now)) (so c.loop-seq.invariant.inside
       (fields_end g.S.Source.stands_before g.S.Source.seq_stands (g.F.WantedFields.fields c.args.fields.now)
       (g.F.WantedFields.content c.loop-seq.fields) (rw c.if-branch.false at c.in_ok-next.ensures.ok)));

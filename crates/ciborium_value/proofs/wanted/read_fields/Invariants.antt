@@ -2,10 +2,10 @@ use Rattle.std.proofs.Common.{◌≡◌, ◌+◌, ◌<◌}
 use Rattle.ciborium_ll.specs.Item.{Item}
 use Rattle.ciborium_value.specs.Labels.{Label}
 use Rattle.ciborium_value.specs.Nesting.{Limit}
-use Rattle.ciborium_value.specs.Taken.{outcome}
+use Rattle.ciborium_value.specs.Given.{outcome}
 use Rattle.ciborium_value.specs.Places.{dictionary}
 use Rattle.ciborium_value.specs.Sources.{TakesTo, TakesOnly}
-use Rattle.ciborium_value.specs.StructReadings.{taken_fields}
+use Rattle.ciborium_value.specs.StructReadings.{given_fields}
 use Rattle.ciborium_value.proofs.Sources.Sequences.{Follows, IsBefore}
 use Rattle.ciborium_value.proofs.Sources.NamedFields.{IsInsideFields}
 use Rattle.ciborium_value.proofs.wanted.read_fields.Given as goal
@@ -16,7 +16,7 @@ invariant-loop-seq g l = record {
   names : (name : Label) (c : g.F.WantedFields.Content) (m : Limit) (i : Item) →
       outcome m (g.F.WantedFields.fields l.fields name c i) ≡ outcome m (g.F.WantedFields.fields l.fn.fields name c i);
   inside : Follows (IsBefore g.S.Source.stands_before l.fn.source
-      (taken_fields (g.F.WantedFields.fields l.fn.fields) (g.F.WantedFields.content l.fn.fields)))
+      (given_fields (g.F.WantedFields.fields l.fn.fields) (g.F.WantedFields.content l.fn.fields)))
       (IsInsideFields g.S.Source.stands_before g.S.Source.seq_stands (g.F.WantedFields.fields l.fn.fields) l.source
       l.seq (g.F.WantedFields.content l.fields));
   owed : TakesTo g.S.Source.is_unread l.fn.source l.source (g.S.Source.owes l.seq dictionary);

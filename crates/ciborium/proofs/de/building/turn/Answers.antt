@@ -3,8 +3,8 @@ use Rattle.std.proofs.lemmas.Result.{err_from_is_err_and}
 use Rattle.ciborium_ll.specs.Decoding.{with_left}
 use Rattle.ciborium_value.specs.inner.Stack.{frames_of}
 use Rattle.ciborium_value.specs.View.{tree_of}
-use Rattle.ciborium.specs.declared.de.front.Part.TheVariants.{Whole, Opened, Ended}
-use Rattle.ciborium.proofs.Turns.Turned.{turn-refused, turn-whole, turn-opened, turn-ended, turn-break, depth-placed}
+use Rattle.ciborium.specs.declared.de.front.Part.TheVariants.{Whole, Begun, Ended}
+use Rattle.ciborium.proofs.Turns.Turned.{turn-refused, turn-whole, turn-begun, turn-ended, turn-break, depth-placed}
 use Rattle.ciborium.proofs.Turns.Turned.{depth-closed}
 use Rattle.ciborium.proofs.de.building.turn.Goals as goal
 
@@ -48,11 +48,11 @@ returns-in-Ok-clause-turn g c =
       t.0,
       t.1,
       t.2,
-      λ z xs p s. turn-opened {E = Unit} g.S.Rules.spelling Some (with_left c.args.decoder.now (t.0 ++ z))
+      λ z xs p s. turn-begun {E = Unit} g.S.Rules.spelling Some (with_left c.args.decoder.now (t.0 ++ z))
           (with_left c.next.new.decoder z) (frames_of c.args.stack.now) c.args.levels xs p c.depth.result
           c.depth.ensures (Ok c.in_ok-value.field-0)
-          (Ok (Opened c.in-Opened.opening)) (ap Ok c.in-Opened.is) (t.3 z) s c.in-Opened.opening
-          (frames_of c.open.new.self) refl c.in-Ok.ensures.ok,
+          (Ok (Begun c.in-Begun.frame)) (ap Ok c.in-Begun.is) (t.3 z) s c.in-Begun.frame
+          (frames_of c.begin_frame.new.self) refl c.in-Ok.ensures.ok,
       t.4,
     )
 

@@ -4,7 +4,7 @@ use Rattle.ciborium_ll.specs.Decoding.{ReadsNothing, with_left}
 use Rattle.ciborium_ll.proofs.Decoders.{unread-with}
 use Rattle.ciborium.specs.inner.Parts.{IsFolding}
 use Rattle.ciborium.specs.inner.Rules.{head_fault}
-use Rattle.ciborium.proofs.Turns.AfterTag.{BignumSo, bignum-refused, got-bignum, tag-faulty, tag-no-level, tag-opened}
+use Rattle.ciborium.proofs.Turns.AfterTag.{BignumSo, bignum-refused, got-bignum, tag-faulty, tag-no-level, tag-begun}
 use Rattle.ciborium.proofs.Turns.AfterTag.{tag-refused}
 use Rattle.ciborium.proofs.Turns.Fronts.{PullsSo}
 use Rattle.ciborium.proofs.Readers.WhateverFollows.{so-both, so-unread}
@@ -103,7 +103,7 @@ returns-clause-part g c =
       t.1,
       t.2,
       λ z xs p a here. let m = t.3 z in
-          tag-opened Some (with_left c.args.decoder.now (t.0 ++ z)) c.args.tag c.args.levels xs p c.requires
+          tag-begun Some (with_left c.args.decoder.now (t.0 ++ z)) c.args.tag c.args.levels xs p c.requires
           g.S.Rules.spelling Unit (with_left c.pull.new.decoder m.0) (with_left c.push.new.self z) c.in_ok-next.next
           c.offset-at.result
           m.1 (subst (λ o. IsFolding c.args.tag c.in_ok-next.next o) c.in_default.is c.find_folding.ensures)

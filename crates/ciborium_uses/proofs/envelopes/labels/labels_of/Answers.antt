@@ -1,5 +1,5 @@
 use Rattle.std.proofs.Common.{ap, rules, sym, ◌∙◌, ◌≡◌, length}
-use Rattle.ciborium.specs.Taken.{gives}
+use Rattle.ciborium.specs.Given.{gives}
 use Rattle.ciborium.specs.View.{tree_pairs_of}
 use Rattle.ciborium_uses.proofs.KeptLabels.{read-kept}
 use Rattle.ciborium_uses.proofs.LabelMaps.{counted, miscounted}

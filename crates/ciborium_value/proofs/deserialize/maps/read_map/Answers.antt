@@ -1,7 +1,7 @@
 -- A map is read pair by pair.
 use Rattle.std.proofs.Common.{arith, map, sym, refl, ap, ◌≡◌, ◌∙◌, ◌&&◌, Bool, List, subst}
 use Rattle.ciborium_value.specs.Sources.{RefusesAhead, of_kind}
-use Rattle.ciborium_value.specs.TakenParts.{has_key, taken_map}
+use Rattle.ciborium_value.specs.GivenParts.{has_key, given_map}
 use Rattle.ciborium_value.specs.declared.kind.Kind.TheVariants as kinds
 use Rattle.ciborium_value.specs.lemmas.ReadsBackMaps.{one-has, one-put}
 use Rattle.ciborium_value.proofs.Sources.Sequences.{so, Follows, IsBefore, takes, blames, passes_on}
@@ -35,7 +35,7 @@ returns-in_err-next g c =
     let e = g.S.Source.cause c.next.new.self c.in_err-next.field-0.0 in
     passes_on _ c.in_err-next.field-0.0 c.from_residual-in_err-next.ensures.1
     (blames g.S.Source.stands_before
-    (taken_map c.args.once g.K.Deserialize.reading.order g.K.Deserialize.reading.taken g.V.Deserialize.reading.taken) e
+    (given_map c.args.once g.K.Deserialize.reading.order g.K.Deserialize.reading.taken g.V.Deserialize.reading.taken) e
     (so c.loop-entries.invariant.inside
     (map_blames_next g.S.Source.stands_before g.S.Source.seq_stands c.args.once g.K.Deserialize.reading.order
     g.K.Deserialize.reading.taken g.V.Deserialize.reading.taken
@@ -53,7 +53,7 @@ returns-in_err-key g c =
     let e = g.S.Source.cause c.deserialize.new.source c.in_err-key.field-0.0 in
     passes_on _ c.in_err-key.field-0.0 c.from_residual-in_err-key.ensures.1
     (blames g.S.Source.stands_before
-    (taken_map c.args.once g.K.Deserialize.reading.order g.K.Deserialize.reading.taken g.V.Deserialize.reading.taken) e
+    (given_map c.args.once g.K.Deserialize.reading.order g.K.Deserialize.reading.taken g.V.Deserialize.reading.taken) e
     (so c.loop-entries.invariant.inside
     (map_blames_key g.S.Source.stands_before g.S.Source.seq_stands c.args.once g.K.Deserialize.reading.order
     g.K.Deserialize.reading.taken g.V.Deserialize.reading.taken
@@ -74,7 +74,7 @@ returns-in_err-value g c =
     let e = g.S.Source.cause c.deserialize-in-loop-entries.new.source c.in_err-value.field-0.0 in
     passes_on _ c.in_err-value.field-0.0 c.from_residual-in_err-value.ensures.1
     (blames g.S.Source.stands_before
-    (taken_map c.args.once g.K.Deserialize.reading.order g.K.Deserialize.reading.taken g.V.Deserialize.reading.taken) e
+    (given_map c.args.once g.K.Deserialize.reading.order g.K.Deserialize.reading.taken g.V.Deserialize.reading.taken) e
     (so c.loop-entries.invariant.inside
     (map_blames_value g.S.Source.stands_before g.S.Source.seq_stands c.args.once g.K.Deserialize.reading.order
     g.K.Deserialize.reading.taken g.V.Deserialize.reading.taken
@@ -97,10 +97,10 @@ pub returns-then-occurs_again : goal.returns-then-occurs_again
 returns-then-occurs_again g c =
     passes_on _ c.refuse_at.result refl
     (subst (RefusesAhead g.S.Source.stands_before c.args.source.now
-    (taken_map c.args.once g.K.Deserialize.reading.order g.K.Deserialize.reading.taken g.V.Deserialize.reading.taken))
+    (given_map c.args.once g.K.Deserialize.reading.order g.K.Deserialize.reading.taken g.V.Deserialize.reading.taken))
     (sym c.refuse_at.ensures)
     (blames g.S.Source.stands_before
-    (taken_map c.args.once g.K.Deserialize.reading.order g.K.Deserialize.reading.taken g.V.Deserialize.reading.taken)
+    (given_map c.args.once g.K.Deserialize.reading.order g.K.Deserialize.reading.taken g.V.Deserialize.reading.taken)
     (of_kind kinds.DuplicateKey)
     (so c.loop-entries.invariant.inside
     (map_blames_again g.S.Source.stands_before g.S.Source.seq_stands c.args.once g.K.Deserialize.reading.order
@@ -121,7 +121,7 @@ returns-then-occurs_again g c =
 pub loop-entries-preserved : goal.loop-entries-preserved
 loop-entries-preserved g c = record {
   inside = subst (λ es. Follows (IsBefore g.S.Source.stands_before c.args.source.now
-      (taken_map c.args.once g.K.Deserialize.reading.order g.K.Deserialize.reading.taken g.V.Deserialize.reading.taken))
+      (given_map c.args.once g.K.Deserialize.reading.order g.K.Deserialize.reading.taken g.V.Deserialize.reading.taken))
       (IsInsideMap g.S.Source.stands_before g.S.Source.seq_stands c.args.once g.K.Deserialize.reading.order
       g.K.Deserialize.reading.taken g.V.Deserialize.reading.taken c.deserialize-in-loop-entries.new.source
       c.next.new.seq es))
@@ -153,7 +153,7 @@ loop-entries-preserved g c = record {
 pub returns : goal.returns
 returns g c = record {
   ok = takes g.S.Source.stands_before
-      (taken_map c.args.once g.K.Deserialize.reading.order g.K.Deserialize.reading.taken g.V.Deserialize.reading.taken)
+      (given_map c.args.once g.K.Deserialize.reading.order g.K.Deserialize.reading.taken g.V.Deserialize.reading.taken)
       (so c.loop-entries.invariant.inside
       (map_ends g.S.Source.stands_before g.S.Source.seq_stands c.args.once g.K.Deserialize.reading.order
       g.K.Deserialize.reading.taken g.V.Deserialize.reading.taken

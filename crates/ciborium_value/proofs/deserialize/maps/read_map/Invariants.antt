@@ -1,7 +1,7 @@
 use Rattle.std.proofs.Common.{◌+◌, ◌<◌, map}
 use Rattle.ciborium_value.specs.Places.{dictionary}
 use Rattle.ciborium_value.specs.Sources.{TakesTo, TakesOnly}
-use Rattle.ciborium_value.specs.TakenParts.{taken_map}
+use Rattle.ciborium_value.specs.GivenParts.{given_map}
 use Rattle.ciborium_value.proofs.Sources.Sequences.{Follows, IsBefore}
 use Rattle.ciborium_value.proofs.Sources.Dictionaries.{IsInsideMap}
 use Rattle.ciborium_value.proofs.deserialize.maps.read_map.Given as goal
@@ -10,7 +10,7 @@ use Rattle.ciborium_value.proofs.deserialize.maps.read_map.Given as goal
 abbrev pub invariant-loop-entries : goal.invariant-loop-entries
 invariant-loop-entries g l = record {
   inside : Follows (IsBefore g.S.Source.stands_before l.fn.source
-      (taken_map l.fn.once g.K.Deserialize.reading.order g.K.Deserialize.reading.taken g.V.Deserialize.reading.taken))
+      (given_map l.fn.once g.K.Deserialize.reading.order g.K.Deserialize.reading.taken g.V.Deserialize.reading.taken))
       (IsInsideMap g.S.Source.stands_before g.S.Source.seq_stands l.fn.once g.K.Deserialize.reading.order
       g.K.Deserialize.reading.taken g.V.Deserialize.reading.taken l.source l.seq
       (map (λ e. (g.K.Deserialize.reading.content e.0, g.V.Deserialize.reading.content e.1)) l.entries.entries));

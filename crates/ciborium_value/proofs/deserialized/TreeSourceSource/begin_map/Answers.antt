@@ -1,20 +1,20 @@
 -- The pairs of the map are ahead.
 use Rattle.std.proofs.Common.{◌≡◌, ◌+◌, sym, ap, ◌∙◌, subst, arith}
 use Rattle.ciborium_value.specs.Ahead.{counted}
-use Rattle.ciborium_value.specs.Taken.{taken_pairs, untagged}
+use Rattle.ciborium_value.specs.Given.{given_pairs, untagged}
 use Rattle.ciborium_value.specs.inner.TreeSources.{IsPending, pair_items, value_weight, pending_tree_weight}
 use Rattle.ciborium_value.specs.inner.TreeSources.{pending_due, due_weight, left_weight}
 use Rattle.ciborium_value.specs.TreeAnswers.{value_item}
 use Rattle.ciborium_value.specs.declared.deserialized.Left.TheVariants as left
 use Rattle.ciborium_value.specs.Counts.{tree_pairs_node_count, tree_pairs_payload_size}
 use Rattle.ciborium_value.specs.View.{tree_pairs_of}
-use Rattle.ciborium_value.proofs.Sources.TreeReading.{map_of, opened, pairs_weigh_less}
+use Rattle.ciborium_value.proofs.Sources.TreeReading.{map_of, begun, pairs_weigh_less}
 use Rattle.ciborium_value.proofs.deserialized.TreeSourceSource.begin_map.Goals as goal
 
 pub returns-in-Map-clause-ok : goal.returns-in-Map-clause-ok
 returns-in-Map-clause-ok c l i f st =
     let here : value_item c.in-Whole.value.now ≡ i = subst (λ o. IsPending o i) (sym c.in-Whole.ensures.ahead) st.1.0 in
-    opened taken_pairs counted pair_items c.in-Map.pairs.items _ c.deref.ensures.value _ _ c.take-due.ensures.value l i
+    begun given_pairs counted pair_items c.in-Map.pairs.items _ c.deref.ensures.value _ _ c.take-due.ensures.value l i
     f st.0 st.1.1 (map_of c.skip_tags.result.now c.in-Map.pairs i c.in-Map.is
     (c.skip_tags.ensures.item ∙ ap untagged here))
 

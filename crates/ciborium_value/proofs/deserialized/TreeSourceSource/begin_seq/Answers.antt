@@ -1,15 +1,15 @@
 -- The items of the array are ahead.
 use Rattle.std.proofs.Common.{◌≡◌, sym, ap, ◌∙◌, subst}
 use Rattle.ciborium_value.specs.Ahead.{counted}
-use Rattle.ciborium_value.specs.Taken.{taken_seq, untagged}
+use Rattle.ciborium_value.specs.Given.{given_seq, untagged}
 use Rattle.ciborium_value.specs.inner.TreeSources.{IsPending}
 use Rattle.ciborium_value.specs.TreeAnswers.{value_item}
-use Rattle.ciborium_value.proofs.Sources.TreeReading.{opened, seq_of}
+use Rattle.ciborium_value.proofs.Sources.TreeReading.{begun, seq_of}
 use Rattle.ciborium_value.proofs.deserialized.TreeSourceSource.begin_seq.Goals as goal
 
 pub returns-in-Array-clause-ok : goal.returns-in-Array-clause-ok
 returns-in-Array-clause-ok c l i f st =
     let here : value_item c.in-Whole.value.now ≡ i = subst (λ o. IsPending o i) (sym c.in-Whole.ensures.ahead) st.1.0 in
-    opened taken_seq counted value_item c.in-Array.values.items _ c.deref.ensures.value _ _ c.take-due.ensures.value l i
+    begun given_seq counted value_item c.in-Array.values.items _ c.deref.ensures.value _ _ c.take-due.ensures.value l i
     f st.0 st.1.1 (seq_of c.skip_tags.result.now c.in-Array.values i c.in-Array.is
     (c.skip_tags.ensures.item ∙ ap untagged here))

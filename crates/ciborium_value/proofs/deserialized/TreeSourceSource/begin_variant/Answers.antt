@@ -2,7 +2,7 @@
 use Rattle.std.proofs.Common.{◌≡◌, ◌+◌, None, refl, sym, ap, ◌∙◌, subst, arith}
 use Rattle.ciborium_value.specs.Ahead.{end_of}
 use Rattle.ciborium_value.specs.Sources.{RefusesAhead, IsFaultOf}
-use Rattle.ciborium_value.specs.Taken.{taken_variant, taken_name, untagged, deeper, outcome, outcome_map}
+use Rattle.ciborium_value.specs.Given.{given_variant, given_name, untagged, deeper, outcome, outcome_map}
 use Rattle.ciborium_value.specs.inner.TreeSources.{IsTreeAt, IsPending, IsDueValue, value_weight, pending_tree_weight}
 use Rattle.ciborium_value.specs.inner.TreeSources.{due_weight}
 use Rattle.ciborium_value.specs.TreeAnswers.{tree_fault, value_item}
@@ -18,23 +18,23 @@ use Rattle.ciborium_value.proofs.deserialized.TreeSourceSource.begin_variant.Goa
 pub returns-in_err-name-in-Some-clause-refused : goal.returns-in_err-name-in-Some-clause-refused
 returns-in_err-name-in-Some-clause-refused c =
     let e = c.in_err-name-in-Some.field-0.0 in
-    exits _ e (λ x. RefusesAhead IsTreeAt c.args.self.now taken_variant (tree_fault x))
+    exits _ e (λ x. RefusesAhead IsTreeAt c.args.self.now given_variant (tree_fault x))
     c.from_residual-in_err-name-in-Some.ensures.1
     (λ l i f st.
     let here : value_item c.in-Whole.value.now ≡ i = subst (λ o. IsPending o i) c.in-Whole.is st.1.0 in
     subst (IsFaultOf (end_of f) (tree_fault e))
-    (sym (ap (λ x. outcome x (taken_variant i)) st.0 ∙ variant_of_map c.skip_tags.result.now c.in-Map.pairs
+    (sym (ap (λ x. outcome x (given_variant i)) st.0 ∙ variant_of_map c.skip_tags.result.now c.in-Map.pairs
     c.deref-in-Map.result.now i c.in-Map.is (c.skip_tags.ensures.item ∙ ap untagged here)
     c.deref-in-Map.ensures.value ∙ c.in-Some.ensures.some))
     (fault_map _ (tree_fault e) (λ n. (n, value_item c.in-Some.data.now))
-    (outcome None (taken_name (value_item c.in-Some.key.now)))
+    (outcome None (given_name (value_item c.in-Some.key.now)))
     (fault_error e _ (end_of f) c.in_err-name-in-Some.ensures.refused)))
 
 pub returns-in_ok-name-in-Some-clause-ok : goal.returns-in_ok-name-in-Some-clause-ok
 returns-in_ok-name-in-Some-clause-ok c l i f st =
     let here : value_item c.in-Whole.value.now ≡ i = subst (λ o. IsPending o i) c.in-Whole.is st.1.0 in (
       value_item c.in-Some.data.now,
-      ap (λ x. outcome x (taken_variant i)) st.0 ∙ variant_of_map c.skip_tags.result.now c.in-Map.pairs
+      ap (λ x. outcome x (given_variant i)) st.0 ∙ variant_of_map c.skip_tags.result.now c.in-Map.pairs
           c.deref-in-Map.result.now
           i c.in-Map.is (c.skip_tags.ensures.item ∙ ap untagged here) c.deref-in-Map.ensures.value ∙
           c.in-Some.ensures.some
@@ -46,7 +46,7 @@ returns-in_ok-name-in-Some-clause-ok c l i f st =
 pub returns-in-None-clause-refused : goal.returns-in-None-clause-refused
 returns-in-None-clause-refused c l i f st =
     let here : value_item c.in-Whole.value.now ≡ i = subst (λ o. IsPending o i) c.in-Whole.is st.1.0 in
-    ap (λ x. outcome x (taken_variant i)) st.0 ∙ variant_of_map c.skip_tags.result.now c.in-Map.pairs
+    ap (λ x. outcome x (given_variant i)) st.0 ∙ variant_of_map c.skip_tags.result.now c.in-Map.pairs
     c.deref-in-Map.result.now i
     c.in-Map.is (c.skip_tags.ensures.item ∙ ap untagged here) c.deref-in-Map.ensures.value ∙ c.in-None.ensures.none
 

@@ -1,6 +1,6 @@
 use Rattle.std.proofs.Common.{◌≡◌, None, sym, ap, ◌∙◌, subst, arith}
 use Rattle.ciborium_ll.specs.Item.{simple}
-use Rattle.ciborium_value.specs.Taken.{gives, outcome, taken_value}
+use Rattle.ciborium_value.specs.Given.{gives, outcome, given_value}
 use Rattle.ciborium_value.specs.inner.TreeSources.{IsPending, pending_tree_weight}
 use Rattle.ciborium_value.specs.View.{tree_of}
 use Rattle.ciborium_value.specs.declared.tree.Value as value
@@ -9,7 +9,7 @@ use Rattle.ciborium_value.proofs.Trees.Views.{tree_of-Null}
 use Rattle.ciborium_value.proofs.deserialized.TreeSourceSource.value.Goals as goal
 
 pub returns-in-Whole-clause-takes : goal.returns-in-Whole-clause-takes
-returns-in-Whole-clause-takes c = taken-there taken_value tree_of c.args.self.now c.take.new.self c.take.ensures.next
+returns-in-Whole-clause-takes c = taken-there given_value tree_of c.args.self.now c.take.new.self c.take.ensures.next
     c.take.ensures.due c.in-Whole.value c.in-Whole.ensures.ahead c.fold_value.result c.fold_value.ensures.ok
     c.fold_value.ensures.refused
 
@@ -17,7 +17,7 @@ pub returns-in-Null-clause-takes : goal.returns-in-Null-clause-takes
 unfolding Rattle.ciborium_value.specs.Meaning.simple_meaning
 returns-in-Null-clause-takes c =
     let here = ap pending_tree_weight (sym c.in-Null.ensures.ahead) in
-    given-there taken_value tree_of c.args.self.now c.take.new.self c.take.ensures.next c.take.ensures.due
+    given-there given_value tree_of c.args.self.now c.take.new.self c.take.ensures.next c.take.ensures.due
     (omega (arith, here)) value.Null (λ i is.
     let null : simple 22 ≡ i = subst (λ o. IsPending o i) (sym c.in-Null.ensures.ahead) is in
-    ap (λ j. outcome None (taken_value j)) (sym null) ∙ ap gives (sym tree_of-Null))
+    ap (λ j. outcome None (given_value j)) (sym null) ∙ ap gives (sym tree_of-Null))

@@ -7,7 +7,7 @@ use Rattle.ciborium_value.specs.declared.deserialized.folding.Part.TheVariants a
 use Rattle.ciborium_value.specs.Counts.{node_count}
 use Rattle.ciborium_value.specs.inner.Frames.{more, placed, done}
 use Rattle.ciborium_value.specs.inner.Stack.{frames_of}
-use Rattle.ciborium_value.specs.Taken.{outcome, taken_value}
+use Rattle.ciborium_value.specs.Given.{outcome, given_value}
 use Rattle.ciborium_value.specs.TreeAnswers.{IsErrorOf, tree_fault, value_item}
 use Rattle.ciborium_value.specs.View.{tree_of}
 use Rattle.ciborium_value.proofs.FoldedTrees.FoldedCopies.{copied-done, refused_as, path_last, nodes-append}
@@ -23,7 +23,7 @@ returns-in_err-whole-clause-refused c =
     λ h. sym c.values.invariant ∙ (ap (copied (more (frames_of c.values.stack))) ahead ∙
     ap (λ o. where_folded o (λ v. copied (placed (frames_of c.values.stack) v) (path_trees c.next.new.path.items)))
     h) in
-    exits _ c.in_err-whole.field-0.0 (λ e. IsErrorOf e (outcome None (taken_value (value_item c.args.value.now))))
+    exits _ c.in_err-whole.field-0.0 (λ e. IsErrorOf e (outcome None (given_value (value_item c.args.value.now))))
     c.from_residual-in_err-whole.ensures.1
     (error_fault c.in_err-whole.field-0.0 _ 0 (refused_as 0 (tree_fault c.in_err-whole.field-0.0)
     (folded (tree_of c.in-Some.value.now)) (tree_of c.args.value.now) c.in_err-whole.ensures.refused none))
@@ -45,14 +45,14 @@ pub values-smaller : goal.values-smaller
 values-smaller c =
     let ahead : path_trees c.values.path.items ≡ tree_of c.in-Some.value.now ∷ path_trees c.next.new.path.items =
     rw c.in-Some.is at c.in_ok-value.ensures in
-    let begun : IsCopyBegun (tree_of c.in-Some.value.now) (part.Opened c.in-Opened.opening c.in-Opened.coming) =
-    rw c.in-Opened.is at c.in_ok-whole.ensures.ok in
-    let behind : path_trees c.append-in-Opened.new.path.items ≡ coming_trees c.in-Opened.coming ++ path_trees
+    let begun : IsCopyBegun (tree_of c.in-Some.value.now) (part.Begun c.in-Begun.frame c.in-Begun.coming) =
+    rw c.in-Begun.is at c.in_ok-whole.ensures.ok in
+    let behind : path_trees c.append-in-Begun.new.path.items ≡ coming_trees c.in-Begun.coming ++ path_trees
     c.next.new.path.items =
-    ap path_trees c.in_ok-append-in-Opened.ensures ∙ path_last c.next.new.path.items c.in-Opened.coming in
+    ap path_trees c.in_ok-append-in-Begun.ensures ∙ path_last c.next.new.path.items c.in-Begun.coming in
     let before : nodes_of (path_trees c.values.path.items) ≡ node_count (tree_of c.in-Some.value.now) + nodes_of
     (path_trees c.next.new.path.items) = ap nodes_of ahead in
-    let after : nodes_of (path_trees c.append-in-Opened.new.path.items) ≡ nodes_of (coming_trees c.in-Opened.coming) +
+    let after : nodes_of (path_trees c.append-in-Begun.new.path.items) ≡ nodes_of (coming_trees c.in-Begun.coming) +
     nodes_of (path_trees c.next.new.path.items) =
-    ap nodes_of behind ∙ nodes-append (coming_trees c.in-Opened.coming) (path_trees c.next.new.path.items) in
+    ap nodes_of behind ∙ nodes-append (coming_trees c.in-Begun.coming) (path_trees c.next.new.path.items) in
     omega (arith, before, after, begun.1)

@@ -1,5 +1,5 @@
 use Rattle.std.proofs.Common.{None, ap, sym, ◌∙◌}
-use Rattle.ciborium_value.specs.Taken.{gives}
+use Rattle.ciborium_value.specs.Given.{gives}
 use Rattle.ciborium_value.specs.TreeAnswers.{value_item}
 use Rattle.ciborium_value.proofs.Sources.SkippedItems.{other-place}
 use Rattle.ciborium_value.proofs.deserialized.parts.find_place.Goals as goal

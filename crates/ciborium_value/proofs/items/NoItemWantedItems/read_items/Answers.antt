@@ -1,7 +1,7 @@
 -- What is left of a sequence is dropped item by item.
 use Rattle.std.proofs.Common.{arith}
 use Rattle.ciborium_value.specs.EnteredSequences.{RefusesInTurn}
-use Rattle.ciborium_value.specs.TakenParts.{no_part_taken}
+use Rattle.ciborium_value.specs.GivenParts.{no_part_given}
 use Rattle.ciborium_value.proofs.Writing.Progress.{exits}
 use Rattle.ciborium_value.proofs.Sources.Sequences.{so, blames_next, drop_more, drop_blames, drop_ends, dropped_more}
 use Rattle.ciborium_value.proofs.Sources.Sequences.{dropped_all, refuses_parts, takes_parts}
@@ -11,18 +11,18 @@ pub returns-in_err-next-clause-refused : goal.returns-in_err-next-clause-refused
 returns-in_err-next-clause-refused g c =
     let e = g.S.Source.cause c.next.new.self c.in_err-next.field-0.0 in
     exits _ c.in_err-next.field-0.0 (λ x. RefusesInTurn g.S.Source.stands_before g.S.Source.seq_stands
-    c.args.source.now c.args.seq.now no_part_taken (g.S.Source.cause c.next.new.self x)) c.from_residual.ensures.1
-    (refuses_parts g.S.Source.stands_before g.S.Source.seq_stands no_part_taken e
-    (so c.loop-source.invariant.inside (blames_next g.S.Source.stands_before g.S.Source.seq_stands no_part_taken e
+    c.args.source.now c.args.seq.now no_part_given (g.S.Source.cause c.next.new.self x)) c.from_residual.ensures.1
+    (refuses_parts g.S.Source.stands_before g.S.Source.seq_stands no_part_given e
+    (so c.loop-source.invariant.inside (blames_next g.S.Source.stands_before g.S.Source.seq_stands no_part_given e
     c.in_err-next.ensures.refused)))
 
 pub returns-in_err-value-clause-refused : goal.returns-in_err-value-clause-refused
 returns-in_err-value-clause-refused g c =
     let e = g.S.Source.cause c.value.new.self c.in_err-value.field-0.0 in
     exits _ c.in_err-value.field-0.0 (λ x. RefusesInTurn g.S.Source.stands_before g.S.Source.seq_stands
-    c.args.source.now c.args.seq.now no_part_taken (g.S.Source.cause c.value.new.self x))
+    c.args.source.now c.args.seq.now no_part_given (g.S.Source.cause c.value.new.self x))
     c.from_residual-in_err-value.ensures.1
-    (refuses_parts g.S.Source.stands_before g.S.Source.seq_stands no_part_taken e
+    (refuses_parts g.S.Source.stands_before g.S.Source.seq_stands no_part_given e
     (so c.loop-source.invariant.inside (drop_blames g.S.Source.stands_before g.S.Source.seq_stands e
     (rw c.if-branch.true at c.in_ok-next.ensures.ok) c.in_err-value.ensures.takes.refused)))
 
@@ -38,7 +38,7 @@ loop-source-preserved g c = record {
 
 pub returns-clause-ok : goal.returns-clause-ok
 returns-clause-ok g c =
-    takes_parts g.S.Source.stands_before g.S.Source.seq_stands no_part_taken
+    takes_parts g.S.Source.stands_before g.S.Source.seq_stands no_part_given
     (so c.loop-source.invariant.inside (drop_ends g.S.Source.stands_before g.S.Source.seq_stands
     (rw c.if-branch.false at c.in_ok-next.ensures.ok)))
 

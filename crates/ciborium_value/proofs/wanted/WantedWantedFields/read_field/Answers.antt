@@ -2,7 +2,7 @@
 use Rattle.std.proofs.Common.{ap, ◌∙◌}
 use Rattle.std.proofs.lemmas.Result.{on_ok_weaker}
 use Rattle.std.specs.Option.{option_map}
-use Rattle.ciborium_value.specs.Taken.{outcome_map}
+use Rattle.ciborium_value.specs.Given.{outcome_map}
 use Rattle.ciborium_value.proofs.Sources.NamedFields.{behind_first}
 use Rattle.ciborium_value.proofs.Sources.Sequences.{fault_map}
 use Rattle.ciborium_value.proofs.Sources.TreeReading.{if_err_so}

@@ -3,7 +3,7 @@ use Rattle.std.proofs.lemmas.Result.{err_from_is_err_and}
 use Rattle.std.specs.Vec.Iter.{into_iter_items}
 use Rattle.ciborium_ll.specs.declared.header.Header.TheVariants as header
 use Rattle.ciborium_ll.specs.StringRefusal.{of_bytes}
-use Rattle.ciborium_value.specs.Taken.{bare_seq, taken_seq, give}
+use Rattle.ciborium_value.specs.Given.{bare_seq, given_seq, give}
 use Rattle.ciborium_value.specs.declared.kind.Kind.TheVariants as kinds
 use Rattle.ciborium.specs.inner.ByteSources.{IsUnread, fault_at}
 use Rattle.ciborium.specs.inner.Skips.{TakesBare}
@@ -16,7 +16,7 @@ use Rattle.ciborium.proofs.de.byte_source.ByteSource.begin_seq.Goals as goal
 pub returns-in_err-header-clause-denied : goal.returns-in_err-header-clause-denied
 returns-in_err-header-clause-denied g c =
     let exit = err_from_is_err_and c.from_residual.result c.from_residual.ensures.1 in
-    rw (exit.1, exit.2) (head-denied g.A.Access.remaining c.args.self.now taken_seq
+    rw (exit.1, exit.2) (head-denied g.A.Access.remaining c.args.self.now given_seq
     (fault_at g.A.Access.can_fail g.A.Access.remaining c.bare_head.new.self c.in_err-header.field-0.0)
     c.in_err-header.ensures.denied)
 
@@ -25,8 +25,8 @@ returns-in_ok-seq-in-Array-clause-ok g c =
     let enter = c.in_ok-seq-in-Array.ensures in
     let same = c.in_ok-header.ensures.reads.levels in
     array-entered g.A.Access.remaining c.args.self.now c.bare_head.new.self c.enter.new.self c.in-Array.count
-    c.in_ok-seq-in-Array.seq same (enter.decoder, enter.pending, enter.some, enter.levels, enter.left) taken_seq
-    (λ form is. give (takes_level form, is))
+    c.in_ok-seq-in-Array.seq same (enter.decoder, enter.pending, enter.some, enter.levels, enter.left) given_seq
+    (λ span is. give (takes_level span, is))
     (subst (TakesBare (IsUnread g.A.Access.remaining) c.args.self.now c.bare_head.new.self false) c.in-Array.is
     c.in_ok-header.ensures.head) (seq-given c.args.self.now.levels (λ z. enter.some (same ∙ z))
     c.in-Array.count)
@@ -35,7 +35,7 @@ pub returns-in_err-seq-in-Array-clause-denied : goal.returns-in_err-seq-in-Array
 returns-in_err-seq-in-Array-clause-denied g c =
     let exit = err_from_is_err_and c.from_residual-in_err-seq-in-Array.result
     c.from_residual-in_err-seq-in-Array.ensures.1 in
-    rw (exit.1, exit.2) (nested-denied g.A.Access.remaining c.args.self.now taken_seq c.bare_head.new.self
+    rw (exit.1, exit.2) (nested-denied g.A.Access.remaining c.args.self.now given_seq c.bare_head.new.self
     c.in_ok-header.header c.in_ok-header.ensures.head g.A.Access.can_fail c.enter.new.self
     (header.Array c.in-Array.count) c.in-Array.is
     c.in_err-seq-in-Array.field-0.0 c.in_err-seq-in-Array.ensures.err (array-nests bare_seq (λ o is. refl)
@@ -56,13 +56,13 @@ pub returns-in_err-seq-in-Bytes-clause-denied : goal.returns-in_err-seq-in-Bytes
 returns-in_err-seq-in-Bytes-clause-denied g c =
     let exit = err_from_is_err_and c.from_residual-in_err-seq-in-Bytes.result
     c.from_residual-in_err-seq-in-Bytes.ensures.1 in
-    rw (exit.1, exit.2) (string-denied g.A.Access.remaining c.args.self.now taken_seq c.bare_head.new.self
+    rw (exit.1, exit.2) (string-denied g.A.Access.remaining c.args.self.now given_seq c.bare_head.new.self
     c.in_ok-header.header c.in_ok-header.ensures.head of_bytes c.in-Bytes.len c.in-Bytes.is
     c.in_ok-header.ensures.reads.only (fault_at g.A.Access.can_fail g.A.Access.remaining c.open_bytes.new.self
     c.in_err-seq-in-Bytes.field-0.0) c.in_err-seq-in-Bytes.ensures.denied)
 
 pub returns-in_default-clause-denied : goal.returns-in_default-clause-denied
 returns-in_default-clause-denied g c =
-    other-denied g.A.Access.remaining c.args.self.now taken_seq c.bare_head.new.self c.in_ok-header.header
+    other-denied g.A.Access.remaining c.args.self.now given_seq c.bare_head.new.self c.in_ok-header.header
     c.in_ok-header.ensures.head kinds.Array (seq-other (Some c.args.self.now.levels) c.in_ok-header.header
     c.in_ok-header.ensures.reads.bare c.in_default.not-Array c.in_default.not-Bytes)

@@ -2,12 +2,12 @@ use Rattle.std.proofs.Common.{◌≡◌, ap, ◌∙◌, sym, Some, false, subst,
 use Rattle.std.proofs.lemmas.Result.{err_from_is_err_and}
 use Rattle.ciborium_ll.specs.Header.{SpellsHeader}
 use Rattle.ciborium_value.specs.Sources.{of_kind, of_nesting}
-use Rattle.ciborium_value.specs.Taken.{taken_outer_tag}
+use Rattle.ciborium_value.specs.Given.{given_outer_tag}
 use Rattle.ciborium_value.specs.declared.kind.Kind.TheVariants as kinds
 use Rattle.ciborium.specs.inner.ByteSources.{HasTaken, IsUnread, IsUnreadBy, end_at, fault_at}
 use Rattle.ciborium.specs.inner.FrontItems.{Denies, TakesHead}
 use Rattle.ciborium.proofs.Containers.EnteredContainers.{same-unread}
-use Rattle.ciborium.proofs.Containers.HeldLevels.{none-opened, tag-nests, tag-opened}
+use Rattle.ciborium.proofs.Containers.DueLevels.{none-begun, tag-nests, tag-begun}
 use Rattle.ciborium.proofs.Containers.NextParts.{aside-unread}
 use Rattle.ciborium.proofs.Items.SkippedTags.{denies-item, denies-break, denies-of-item, skips-none}
 use Rattle.ciborium.proofs.de.byte_source.ByteSource.begin_tag.Goals as goal
@@ -17,7 +17,7 @@ returns-in_err-header-clause-denied g c =
     let exit = err_from_is_err_and c.from_residual.result c.from_residual.ensures.1 in
     let U = IsUnread g.A.Access.remaining in
     let fault = fault_at g.A.Access.can_fail g.A.Access.remaining c.next_head.new.self c.in_err-header.field-0.0 in
-    rw (exit.1, exit.2) (denies-of-item U (end_at g.A.Access.remaining) (Some c.args.self.now.levels) taken_outer_tag
+    rw (exit.1, exit.2) (denies-of-item U (end_at g.A.Access.remaining) (Some c.args.self.now.levels) given_outer_tag
     c.args.self.now fault
     (denies-item U (end_at g.A.Access.remaining) c.args.self.now c.args.self.now false fault (λ b u. refl)
     (skips-none U c.args.self.now false) c.in_err-header.ensures.denied))
@@ -25,7 +25,7 @@ returns-in_err-header-clause-denied g c =
 pub returns-in-Break-clause-denied : goal.returns-in-Break-clause-denied
 returns-in-Break-clause-denied g c =
     let U = IsUnread g.A.Access.remaining in
-    denies-of-item U (end_at g.A.Access.remaining) (Some c.args.self.now.levels) taken_outer_tag c.args.self.now
+    denies-of-item U (end_at g.A.Access.remaining) (Some c.args.self.now.levels) given_outer_tag c.args.self.now
     (of_kind kinds.Break)
     (denies-break U (end_at g.A.Access.remaining) c.args.self.now c.args.self.now c.next_head.new.self false
     (of_kind kinds.Break) (skips-none U c.args.self.now false)
@@ -37,7 +37,7 @@ returns-in_ok-level-in-Tag-clause-ok g c =
     let level = c.in_ok-level-in-Tag.ensures in
     let less = level.some.1 in
     let same = c.in_ok-header.ensures.levels in
-    tag-opened U c.args.self.now c.next_head.new.self c.take_level.new.self c.args.self.now.levels
+    tag-begun U c.args.self.now c.next_head.new.self c.take_level.new.self c.args.self.now.levels
     (λ z. absurd (omega (arith, z, less, same))) c.in-Tag.tag
     (subst (TakesHead U c.args.self.now c.next_head.new.self) c.in-Tag.is c.in_ok-header.ensures.head)
     (same-unread g.A.Access.remaining c.next_head.new.self c.take_level.new.self level.decoder level.pending)
@@ -50,7 +50,7 @@ returns-in_err-level-in-Tag-clause-denied g c =
     c.in_err-level-in-Tag.field-0.0 ≡ of_nesting =
     ap (fault_at g.A.Access.can_fail g.A.Access.remaining c.take_level.new.self) c.in_err-level-in-Tag.ensures.err in
     rw (exit.1, exit.2) (subst (Denies (IsUnread g.A.Access.remaining) (end_at g.A.Access.remaining) c.args.self.now
-    (Some c.args.self.now.levels) taken_outer_tag) (sym fault)
+    (Some c.args.self.now.levels) given_outer_tag) (sym fault)
     (tag-nests (IsUnread g.A.Access.remaining) (end_at g.A.Access.remaining) c.args.self.now c.args.self.now.levels
     (sym c.in_ok-header.ensures.levels ∙ c.in_err-level-in-Tag.ensures.none)))
 
@@ -64,7 +64,7 @@ returns-in_err-level-in_default-clause-denied g c =
     ap (fault_at g.A.Access.can_fail g.A.Access.remaining c.take_level-in_default.new.self)
     c.in_err-level-in_default.ensures.err in
     rw (exit.1, exit.2) (subst (Denies (IsUnread g.A.Access.remaining) (end_at g.A.Access.remaining) c.args.self.now
-    (Some c.args.self.now.levels) taken_outer_tag) (sym fault)
+    (Some c.args.self.now.levels) given_outer_tag) (sym fault)
     (tag-nests (IsUnread g.A.Access.remaining) (end_at g.A.Access.remaining) c.args.self.now c.args.self.now.levels
     (sym c.in_ok-header.ensures.levels ∙ c.in_err-level-in_default.ensures.none)))
 
@@ -91,7 +91,7 @@ returns-in_ok-level-in_default g c =
       no_more = tt;
       level = (level.some.0 ∙ same, sym same ∙ less);
       fewer = omega (arith, fewer, count);
-      ok = none-opened U c.args.self.now mid (record taken { pending = Some (h, c.in_ok-header.offset) })
+      ok = none-begun U c.args.self.now mid (record taken { pending = Some (h, c.in_ok-header.offset) })
           c.args.self.now.levels (λ z. absurd (omega (arith, z, less, same))) h c.in_default.not-Tag head.head aside;
       denied = tt;
       memory = tt;

@@ -2,7 +2,7 @@ use Rattle.std.proofs.Common.{true, false, subst, Some, ap}
 use Rattle.std.proofs.lemmas.Result.{err_from_is_err_and}
 use Rattle.ciborium_ll.specs.Item.{simple}
 use Rattle.ciborium_ll.specs.declared.header.Header.TheVariants as header
-use Rattle.ciborium_value.specs.Taken.{boolean_of, taken_boolean}
+use Rattle.ciborium_value.specs.Given.{boolean_of, given_boolean}
 use Rattle.ciborium_value.specs.declared.kind.Kind.TheVariants as kinds
 use Rattle.ciborium.specs.inner.ByteSources.{IsUnread, fault_at}
 use Rattle.ciborium.specs.inner.Skips.{TakesBare}
@@ -14,7 +14,7 @@ use Rattle.ciborium.proofs.de.byte_source.ByteSource.boolean.Goals as goal
 pub returns-in_err-header-clause-answer : goal.returns-in_err-header-clause-answer
 returns-in_err-header-clause-answer g c =
     let exit = err_from_is_err_and c.from_residual.result c.from_residual.ensures.1 in
-    rw (exit.1, exit.2) (head-denied g.A.Access.remaining c.args.self.now taken_boolean
+    rw (exit.1, exit.2) (head-denied g.A.Access.remaining c.args.self.now given_boolean
     (fault_at g.A.Access.can_fail g.A.Access.remaining c.bare_head.new.self c.in_err-header.field-0.0)
     c.in_err-header.ensures.denied)
 
@@ -22,7 +22,7 @@ pub returns-then-number-eq-FALSE-clause-answer : goal.returns-then-number-eq-FAL
 returns-then-number-eq-FALSE-clause-answer g c =
     let l = Some c.args.self.now.levels in
     let n = c.in-Simple.number in
-    reads-whole (IsUnread g.A.Access.remaining) false (header.Simple n) l taken_boolean c.args.self.now
+    reads-whole (IsUnread g.A.Access.remaining) false (header.Simple n) l given_boolean c.args.self.now
     c.bare_head.new.self false (simple n)
     (subst (TakesBare (IsUnread g.A.Access.remaining) c.args.self.now c.bare_head.new.self false) c.in-Simple.is
     c.in_ok-header.ensures.head) (λ x hd. hd) (boolean-gives l n false (ap boolean_of c.if-number-eq-FALSE.true))
@@ -31,20 +31,20 @@ pub returns-then-number-eq-TRUE-clause-answer : goal.returns-then-number-eq-TRUE
 returns-then-number-eq-TRUE-clause-answer g c =
     let l = Some c.args.self.now.levels in
     let n = c.in-Simple.number in
-    reads-whole (IsUnread g.A.Access.remaining) false (header.Simple n) l taken_boolean c.args.self.now
+    reads-whole (IsUnread g.A.Access.remaining) false (header.Simple n) l given_boolean c.args.self.now
     c.bare_head.new.self true (simple n)
     (subst (TakesBare (IsUnread g.A.Access.remaining) c.args.self.now c.bare_head.new.self false) c.in-Simple.is
     c.in_ok-header.ensures.head) (λ x hd. hd) (boolean-gives l n true (ap boolean_of c.if-number-eq-TRUE.true))
 
 pub returns-else-number-eq-TRUE-clause-answer : goal.returns-else-number-eq-TRUE-clause-answer
 returns-else-number-eq-TRUE-clause-answer g c =
-    other-denied g.A.Access.remaining c.args.self.now taken_boolean c.bare_head.new.self c.in_ok-header.header
+    other-denied g.A.Access.remaining c.args.self.now given_boolean c.bare_head.new.self c.in_ok-header.header
     c.in_ok-header.ensures.head kinds.Bool (boolean-other (Some c.args.self.now.levels) c.in_ok-header.header
     c.in_ok-header.ensures.reads.bare (boolean-none c.in_ok-header.header c.in-Simple.number c.in-Simple.is
     c.if-number-eq-FALSE.false c.if-number-eq-TRUE.false))
 
 pub returns-in_default-clause-answer : goal.returns-in_default-clause-answer
 returns-in_default-clause-answer g c =
-    other-denied g.A.Access.remaining c.args.self.now taken_boolean c.bare_head.new.self c.in_ok-header.header
+    other-denied g.A.Access.remaining c.args.self.now given_boolean c.bare_head.new.self c.in_ok-header.header
     c.in_ok-header.ensures.head kinds.Bool (boolean-other (Some c.args.self.now.levels) c.in_ok-header.header
     c.in_ok-header.ensures.reads.bare (λ n e. absurd (c.in_default.not-Simple n e)))

@@ -6,7 +6,7 @@ use Rattle.ciborium_ll.specs.Accesses.{left_at_failure}
 use Rattle.ciborium_ll.specs.StringRefusal.{of_text}
 use Rattle.ciborium_ll.specs.declared.header.Header.TheVariants as header
 use Rattle.ciborium_value.specs.Sources.{of_kind}
-use Rattle.ciborium_value.specs.Taken.{taken_character, lone_character, settled}
+use Rattle.ciborium_value.specs.Given.{given_character, lone_character, settled}
 use Rattle.ciborium_value.specs.declared.kind.Kind.TheVariants as kinds
 use Rattle.ciborium_value.proofs.Sources.Sequences.{fault_outside}
 use Rattle.ciborium.specs.inner.ByteSources.{IsUnread, end_at, fault_at}
@@ -25,7 +25,7 @@ short n h = grind (arith, common_steps)
 pub returns-in_err-header-clause-answer : goal.returns-in_err-header-clause-answer
 returns-in_err-header-clause-answer g c =
     let exit = err_from_is_err_and c.from_residual.result c.from_residual.ensures.1 in
-    rw (exit.1, exit.2) (head-denied g.A.Access.remaining c.args.self.now taken_character
+    rw (exit.1, exit.2) (head-denied g.A.Access.remaining c.args.self.now given_character
     (fault_at g.A.Access.can_fail g.A.Access.remaining c.bare_head.new.self c.in_err-header.field-0.0)
     c.in_err-header.ensures.denied)
 
@@ -46,12 +46,12 @@ returns-in_ok-character-in-Some-clause-answer g c =
     let n = c.in-Some.n in
     let payload = c.fill.new.buffer in
     let size : length payload ≡ n = c.fill.auto.buffer ∙ short n c.if-n-gt-GREATEST_CHARACTER_SIZE.false in
-    reads-bare (IsUnread g.A.Access.remaining) false (header.Text (Some n)) l taken_character c.args.self.now
+    reads-bare (IsUnread g.A.Access.remaining) false (header.Text (Some n)) l given_character c.args.self.now
     c.bare_head.new.self c.fill.new.self c.in_ok-character-in-Some.character
     (subst (TakesBare (IsUnread g.A.Access.remaining) c.args.self.now c.bare_head.new.self false)
     (c.in-Text.is ∙ ap header.Text c.in-Some.is) c.in_ok-header.ensures.head)
     (string-behind (IsUnread g.A.Access.remaining) c.bare_head.new.self c.fill.new.self of_text
-    (Some n) l taken_character
+    (Some n) l given_character
     payload c.in_ok-character-in-Some.character
     (payload-taken (IsUnread g.A.Access.remaining c.bare_head.new.self)
     (IsUnread g.A.Access.remaining c.fill.new.self) n
@@ -100,13 +100,13 @@ returns-in_err-character-in-Some-clause-answer g c =
 pub returns-in-None-clause-answer : goal.returns-in-None-clause-answer
 returns-in-None-clause-answer g c =
     let l = Some c.args.self.now.levels in
-    denies-bare (IsUnread g.A.Access.remaining) false (header.Text None) l taken_character (end_at g.A.Access.remaining)
+    denies-bare (IsUnread g.A.Access.remaining) false (header.Text None) l given_character (end_at g.A.Access.remaining)
     c.args.self.now c.bare_head.new.self (of_kind kinds.Char)
     (subst (TakesBare (IsUnread g.A.Access.remaining) c.args.self.now c.bare_head.new.self false)
     (c.in-Text.is ∙ ap header.Text c.in-None.is) c.in_ok-header.ensures.head) (λ end. character-open l)
 
 pub returns-in_default-clause-answer : goal.returns-in_default-clause-answer
 returns-in_default-clause-answer g c =
-    other-denied g.A.Access.remaining c.args.self.now taken_character c.bare_head.new.self c.in_ok-header.header
+    other-denied g.A.Access.remaining c.args.self.now given_character c.bare_head.new.self c.in_ok-header.header
     c.in_ok-header.ensures.head kinds.Char (character-other (Some c.args.self.now.levels) c.in_ok-header.header
     c.in_ok-header.ensures.reads.bare c.in_default.not-Text)

@@ -4,7 +4,7 @@ use Rattle.std.specs.Int.{complement_if}
 use Rattle.ciborium_ll.specs.Header.{SpellsHeader}
 use Rattle.ciborium_ll.specs.Item.{negative, unsigned}
 use Rattle.ciborium_value.specs.Labels.{numbered, placed}
-use Rattle.ciborium_value.specs.Taken.{gives}
+use Rattle.ciborium_value.specs.Given.{gives}
 use Rattle.ciborium.specs.inner.ByteSources.{IsUnread, end_at, fault_at}
 use Rattle.ciborium.specs.inner.FrontItems.{Denies, Reads}
 use Rattle.ciborium.proofs.Containers.Labels.{key-of-kind, key-text, key-whole, no-key, no-key-of-kind, no-key-text}

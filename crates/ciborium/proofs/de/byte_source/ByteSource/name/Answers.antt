@@ -3,7 +3,7 @@ use Rattle.std.proofs.lemmas.Result.{err_from_is_err_and}
 use Rattle.std.proofs.lemmas.Str.{IsUtf8-string_bytes}
 use Rattle.std.specs.Str.{IsUtf8}
 use Rattle.ciborium_ll.specs.StringRefusal.{of_bytes, of_text}
-use Rattle.ciborium_value.specs.Taken.{bare_name, taken_name, outcome, settled}
+use Rattle.ciborium_value.specs.Given.{bare_name, given_name, outcome, settled}
 use Rattle.ciborium_value.specs.declared.kind.Kind.TheVariants as kinds
 use Rattle.ciborium.specs.inner.ByteSources.{IsUnread, end_at, fault_at}
 use Rattle.ciborium.specs.inner.Skips.{TakesBare}
@@ -17,7 +17,7 @@ use Rattle.ciborium.proofs.de.byte_source.ByteSource.name.Goals as goal
 pub returns-in_err-header-clause-answer : goal.returns-in_err-header-clause-answer
 returns-in_err-header-clause-answer g c =
     let exit = err_from_is_err_and c.from_residual.result c.from_residual.ensures.1 in
-    rw (exit.1, exit.2) (head-denied g.A.Access.remaining c.args.self.now taken_name
+    rw (exit.1, exit.2) (head-denied g.A.Access.remaining c.args.self.now given_name
     (fault_at g.A.Access.can_fail g.A.Access.remaining c.bare_head.new.self c.in_err-header.field-0.0)
     c.in_err-header.ensures.denied)
 
@@ -25,7 +25,7 @@ pub returns-in_err-name-in-Text-clause-answer : goal.returns-in_err-name-in-Text
 returns-in_err-name-in-Text-clause-answer g c =
     let exit = err_from_is_err_and c.from_residual-in_err-name-in-Text.result
     c.from_residual-in_err-name-in-Text.ensures.1 in
-    rw (exit.1, exit.2) (string-denied g.A.Access.remaining c.args.self.now taken_name c.bare_head.new.self
+    rw (exit.1, exit.2) (string-denied g.A.Access.remaining c.args.self.now given_name c.bare_head.new.self
     c.in_ok-header.header c.in_ok-header.ensures.head of_text c.in-Text.len c.in-Text.is
     c.in_ok-header.ensures.reads.only (fault_at g.A.Access.can_fail g.A.Access.remaining c.text_content.new.self
     c.in_err-name-in-Text.field-0.0) c.in_err-name-in-Text.ensures.denied)
@@ -33,7 +33,7 @@ returns-in_err-name-in-Text-clause-answer g c =
 pub returns-in-Text-clause-answer : goal.returns-in-Text-clause-answer
 returns-in-Text-clause-answer g c =
     let payload = string_bytes c.in_ok-name-in-Text.name in
-    string-read g.A.Access.remaining c.args.self.now taken_name c.bare_head.new.self c.in_ok-header.header
+    string-read g.A.Access.remaining c.args.self.now given_name c.bare_head.new.self c.in_ok-header.header
     c.in_ok-header.ensures.head of_text c.in-Text.len c.in-Text.is c.text_content.new.self payload payload
     c.in_ok-name-in-Text.ensures.ok (λ ts all. ap (λ j. settled (bare_name j))
     (untagged-under ts (string_item of_text c.in-Text.len payload)))
@@ -42,7 +42,7 @@ pub returns-in_err-bytes-in-Bytes-clause-answer : goal.returns-in_err-bytes-in-B
 returns-in_err-bytes-in-Bytes-clause-answer g c =
     let exit = err_from_is_err_and c.from_residual-in_err-bytes-in-Bytes.result
     c.from_residual-in_err-bytes-in-Bytes.ensures.1 in
-    rw (exit.1, exit.2) (string-denied g.A.Access.remaining c.args.self.now taken_name c.bare_head.new.self
+    rw (exit.1, exit.2) (string-denied g.A.Access.remaining c.args.self.now given_name c.bare_head.new.self
     c.in_ok-header.header c.in_ok-header.ensures.head of_bytes c.in-Bytes.len c.in-Bytes.is
     c.in_ok-header.ensures.reads.only (fault_at g.A.Access.can_fail g.A.Access.remaining c.bytes_content.new.self
     c.in_err-bytes-in-Bytes.field-0.0)
@@ -54,11 +54,11 @@ returns-in-Ok-clause-answer g c =
     let payload = c.in_ok-bytes-in-Bytes.bytes.items in
     let same : string_bytes c.in-Ok.name ≡ payload = ap (λ v. v.items) c.in-Ok.ensures.ok in
     let utf8 : IsUtf8 payload = subst IsUtf8 same (IsUtf8-string_bytes c.in-Ok.name) in
-    string-read g.A.Access.remaining c.args.self.now taken_name c.bare_head.new.self c.in_ok-header.header
+    string-read g.A.Access.remaining c.args.self.now given_name c.bare_head.new.self c.in_ok-header.header
     c.in_ok-header.ensures.head of_bytes c.in-Bytes.len c.in-Bytes.is c.bytes_content.new.self payload (string_bytes
     c.in-Ok.name) c.in_ok-bytes-in-Bytes.ensures.ok (λ ts all. subst (λ b. outcome l
-    (taken_name (Rattle.ciborium.specs.inner.Skips.under ts (string_item of_bytes c.in-Bytes.len payload))) ≡
-    Rattle.ciborium_value.specs.Taken.gives b) (sym same) (bytes-name ts l (is_open c.in-Bytes.len) payload utf8))
+    (given_name (Rattle.ciborium.specs.inner.Skips.under ts (string_item of_bytes c.in-Bytes.len payload))) ≡
+    Rattle.ciborium_value.specs.Given.gives b) (sym same) (bytes-name ts l (is_open c.in-Bytes.len) payload utf8))
 
 pub returns-in-Bytes-clause-answer : goal.returns-in-Bytes-clause-answer
 returns-in-Bytes-clause-answer g c =
@@ -70,6 +70,6 @@ returns-in-Bytes-clause-answer g c =
 
 pub returns-clause-answer : goal.returns-clause-answer
 returns-clause-answer g c =
-    other-denied g.A.Access.remaining c.args.self.now taken_name c.bare_head.new.self c.in_ok-header.header
+    other-denied g.A.Access.remaining c.args.self.now given_name c.bare_head.new.self c.in_ok-header.header
     c.in_ok-header.ensures.head kinds.Name (name-other (Some c.args.self.now.levels) c.in_ok-header.header
     c.in_ok-header.ensures.reads.bare c.in_default.not-Text c.in_default.not-Bytes)

@@ -2,7 +2,7 @@ use Rattle.std.proofs.Common.{◌≡◌, ◌∙◌, ap, sym, Some, false, subst}
 use Rattle.std.proofs.lemmas.Result.{err_from_is_err_and}
 use Rattle.std.specs.Str.{IsUtf8}
 use Rattle.ciborium_ll.specs.StringRefusal.{of_bytes, of_text}
-use Rattle.ciborium_value.specs.Taken.{bare_name, gives, outcome_map, taken_name, outcome, settled}
+use Rattle.ciborium_value.specs.Given.{bare_name, gives, outcome_map, given_name, outcome, settled}
 use Rattle.ciborium_value.specs.Sources.{of_kind}
 use Rattle.ciborium_value.specs.declared.kind.Kind.TheVariants as kinds
 use Rattle.ciborium_value.proofs.Sources.Sequences.{fault_map}
@@ -73,7 +73,7 @@ returns-in-Ok-clause-answer g c =
 pub returns-in-Bytes-clause-answer : goal.returns-in-Bytes-clause-answer
 returns-in-Bytes-clause-answer g c b s z i end u sp e fits =
     fault_map end (of_kind kinds.Name)
-    (name_place (g.N.Labels.place_of c.args.labels.now)) (outcome (Some c.args.self.now.levels) (taken_name i))
+    (name_place (g.N.Labels.place_of c.args.labels.now)) (outcome (Some c.args.self.now.levels) (given_name i))
     (bytes-no-name (IsUnread g.A.Access.remaining) (end_at g.A.Access.remaining) c.args.self.now c.bare_head.new.self
     c.bytes_content.new.self c.in-Bytes.len (Some c.args.self.now.levels) c.in_ok-bytes-in-Bytes.bytes.items
     (λ u. c.in-Err.ensures.cases.0 (subst IsUtf8 (sym c.deref.ensures.value) u))

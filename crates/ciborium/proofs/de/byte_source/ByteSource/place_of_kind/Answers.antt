@@ -2,7 +2,7 @@ use Rattle.std.proofs.Common.{sym, Some, subst}
 use Rattle.std.proofs.lemmas.Result.{err_from_is_err_and}
 use Rattle.std.specs.Int.{complement_if}
 use Rattle.ciborium_value.specs.Labels.{numbered, other, placed}
-use Rattle.ciborium_value.specs.Taken.{taken_integer, taken_skip}
+use Rattle.ciborium_value.specs.Given.{given_integer, given_skip}
 use Rattle.ciborium.specs.inner.ByteSources.{IsUnread, end_at, fault_at}
 use Rattle.ciborium.specs.inner.FrontItems.{Denies}
 use Rattle.ciborium.proofs.Containers.Labels.{denies-mapped}
@@ -18,7 +18,7 @@ returns-in_err-negative-in-Number-clause-answer g c =
     c.in_err-negative-in-Number.field-0.0 in
     rw (exit.1, exit.2) (subst (λ k. Denies (IsUnread g.A.Access.remaining) (end_at g.A.Access.remaining)
     c.args.self.now l (placed place k) fault) (sym c.in-Number.is)
-    (denies-mapped (IsUnread g.A.Access.remaining) (end_at g.A.Access.remaining) c.args.self.now l taken_integer
+    (denies-mapped (IsUnread g.A.Access.remaining) (end_at g.A.Access.remaining) c.args.self.now l given_integer
     (λ n. place (numbered (complement_if n.0 n.1))) fault c.in_err-negative-in-Number.ensures.answer))
 
 pub returns-in_err-skip-in-Other-clause-answer : goal.returns-in_err-skip-in-Other-clause-answer
@@ -30,5 +30,5 @@ returns-in_err-skip-in-Other-clause-answer g c =
     let fault = fault_at g.A.Access.can_fail g.A.Access.remaining c.skip.new.self c.in_err-skip-in-Other.field-0.0 in
     rw (exit.1, exit.2) (subst (λ k. Denies (IsUnread g.A.Access.remaining) (end_at g.A.Access.remaining)
     c.args.self.now l (placed place k) fault) (sym c.in-Other.is)
-    (denies-mapped (IsUnread g.A.Access.remaining) (end_at g.A.Access.remaining) c.args.self.now l taken_skip
+    (denies-mapped (IsUnread g.A.Access.remaining) (end_at g.A.Access.remaining) c.args.self.now l given_skip
     (λ n. place other) fault c.in_err-skip-in-Other.ensures.answer))

@@ -4,7 +4,7 @@ use Rattle.std.proofs.lemmas.Result.{err_from_is_err_and}
 use Rattle.ciborium_ll.specs.Item.{unsigned, negative}
 use Rattle.ciborium_ll.specs.declared.header.Header.TheVariants as header
 use Rattle.ciborium_value.specs.Sources.{of_kind}
-use Rattle.ciborium_value.specs.Taken.{taken_integer}
+use Rattle.ciborium_value.specs.Given.{given_integer}
 use Rattle.ciborium_value.specs.declared.kind.Kind.TheVariants as kinds
 use Rattle.ciborium.specs.inner.ByteSources.{IsUnread, end_at, fault_at}
 use Rattle.ciborium.specs.inner.FrontItems.{Reads}
@@ -18,7 +18,7 @@ use Rattle.ciborium.proofs.de.byte_source.ByteSource.read_integer.Goals as goal
 pub returns-in_err-header-clause-answer : goal.returns-in_err-header-clause-answer
 returns-in_err-header-clause-answer g c =
     let exit = err_from_is_err_and c.from_residual.result c.from_residual.ensures.1 in
-    rw (exit.1, exit.2) (head-denied g.A.Access.remaining c.args.self.now taken_integer
+    rw (exit.1, exit.2) (head-denied g.A.Access.remaining c.args.self.now given_integer
     (fault_at g.A.Access.can_fail g.A.Access.remaining c.bare_head.new.self c.in_err-header.field-0.0)
     c.in_err-header.ensures.denied)
 
@@ -33,13 +33,13 @@ returns-in-Positive-clause-answer g c =
     let l = Some c.args.self.now.levels in
     let n = c.in-Positive.n in
     let v : Bool × ℕ = (c.is_negative-negative.result, c.from.result) in
-    either-sign c.in_ok-header.header n (Reads U c.args.self.now c.bare_head.new.self l taken_integer v)
+    either-sign c.in_ok-header.header n (Reads U c.args.self.now c.bare_head.new.self l given_integer v)
     c.in-Positive.is
-    (λ is. reads-whole U true (header.Positive n) l taken_integer c.args.self.now c.bare_head.new.self v (unsigned n)
+    (λ is. reads-whole U true (header.Positive n) l given_integer c.args.self.now c.bare_head.new.self v (unsigned n)
     (subst (TakesBare U c.args.self.now c.bare_head.new.self true) is c.in_ok-header.ensures.head) (λ x hd. hd)
     (integer-gives l (unsigned n) v (ap (λ s. Ok (s, n)) (sym (c.is_negative-negative.ensures.positive n is)) ∙
     ap (λ m. Ok (c.is_negative-negative.result, m)) (sym c.from.ensures))))
-    (λ is. reads-whole U true (header.Negative n) l taken_integer c.args.self.now c.bare_head.new.self v (negative n)
+    (λ is. reads-whole U true (header.Negative n) l given_integer c.args.self.now c.bare_head.new.self v (negative n)
     (subst (TakesBare U c.args.self.now c.bare_head.new.self true) is c.in_ok-header.ensures.head) (λ x hd. hd)
     (integer-gives l (negative n) v (ap (λ s. Ok (s, n)) (sym (c.is_negative-negative.ensures.negative n is)) ∙
     ap (λ m. Ok (c.is_negative-negative.result, m)) (sym c.from.ensures))))
@@ -50,9 +50,9 @@ returns-in_ok-number-in-Tag-clause-answer g c =
     let t = c.in-Tag.tag in
     let bare : IsBare true (header.Tag t) = subst (IsBare true) c.in-Tag.is c.in_ok-header.ensures.reads.bare in
     let v = c.in_ok-number-in-Tag.number.0 in
-    subst (λ negative. Reads (IsUnread g.A.Access.remaining) c.args.self.now c.read_tagged.new.self l taken_integer
+    subst (λ negative. Reads (IsUnread g.A.Access.remaining) c.args.self.now c.read_tagged.new.self l given_integer
     (negative, v.1)) (sym c.in_ok-number-in-Tag.ensures.sign)
-    (reads-bare (IsUnread g.A.Access.remaining) true (header.Tag t) l taken_integer c.args.self.now c.bare_head.new.self
+    (reads-bare (IsUnread g.A.Access.remaining) true (header.Tag t) l given_integer c.args.self.now c.bare_head.new.self
     c.read_tagged.new.self (t == 3, v.1)
     (subst (TakesBare (IsUnread g.A.Access.remaining) c.args.self.now c.bare_head.new.self true) c.in-Tag.is
     c.in_ok-header.ensures.head)
@@ -76,7 +76,7 @@ returns-in_err-number-in-Tag-clause-answer g c =
 pub returns-in_default-clause-answer : goal.returns-in_default-clause-answer
 returns-in_default-clause-answer g c =
     let l = Some c.args.self.now.levels in
-    denies-bare (IsUnread g.A.Access.remaining) true c.in_ok-header.header l taken_integer (end_at g.A.Access.remaining)
+    denies-bare (IsUnread g.A.Access.remaining) true c.in_ok-header.header l given_integer (end_at g.A.Access.remaining)
     c.args.self.now c.bare_head.new.self (of_kind kinds.Integer) c.in_ok-header.ensures.head
     (λ end. integer-other l c.in_ok-header.header c.in_default.not-Positive c.in_default.not-Negative
     c.in_default.not-Tag)

@@ -1,7 +1,7 @@
 use Rattle.std.proofs.Common.{[], ◌∷◌, IfOk, OnOk, Result, Ok, Err, refl}
 use Rattle.std.proofs.lemmas.Result.{err_from_is_err_and, MatchResult-from_both}
 use Rattle.ciborium_ll.specs.declared.levels.Level.TheVariants.{Items}
-use Rattle.ciborium_value.specs.Taken.{taken_skip}
+use Rattle.ciborium_value.specs.Given.{given_skip}
 use Rattle.ciborium_value.proofs.Sources.TreeReading.{if_err_so}
 use Rattle.ciborium.specs.inner.ByteSources.{IsUnread, end_at, fault_at}
 use Rattle.ciborium.proofs.Containers.HeadsAside.{answers-aside}
@@ -47,5 +47,5 @@ returns-clause-answer g c =
     let mid = c.next_head.new.self in
     let head = c.in_ok-header.ensures in
     answers-aside g.A.Access.remaining c.args.self.now mid c.in_ok-header.header head.head c.in_ok-header.offset
-    head.pending head.counted head.levels head.only g.A.Access.can_fail taken_skip (λ v. v) c.skip_heads.new.self
+    head.pending head.counted head.levels head.only g.A.Access.can_fail given_skip (λ v. v) c.skip_heads.new.self
     c.skip_heads.result c.skip_heads.ensures.answer

@@ -16,18 +16,18 @@ returns-in_err-fill-clause-denied g c =
     let end = end_at g.A.Access.remaining mid in
     let fault = fault_at g.A.Access.can_fail g.A.Access.remaining c.fill.new.self c.in_err-fill.field-0.0 in
     let least = c.min-size.ensures in
-    let long : length c.loop-left.room ≡ 64 = search rules in
+    let long : length c.loop-left.buffer ≡ 64 = search rules in
     rw (exit.1, exit.2) (piece-denied (IsUnread g.A.Access.remaining old) (IsUnread g.A.Access.remaining mid)
     (end_at g.A.Access.remaining old) end fault (header.Bytes (Some c.args.len)) c.args.len c.loop-left.left size
     (λ p is. is.0) (omega (arith, least)) (same-end g.A.Access.remaining old mid c.loop-left.invariant.only)
     c.loop-left.invariant.took (subst (λ k. DeniesJust (IsUnread g.A.Access.remaining mid) end k fault)
-    (length-take-le size c.loop-left.room (omega (arith, least, long))) c.in_err-fill.ensures.outside))
+    (length-take-le size c.loop-left.buffer (omega (arith, least, long))) c.in_err-fill.ensures.outside))
 
 pub loop-left-preserved : goal.loop-left-preserved
 loop-left-preserved g c =
     let size = c.min-size.result in
     let least = c.min-size.ensures in
-    let long : length c.loop-left.room ≡ 64 = search rules in record {
+    let long : length c.loop-left.buffer ≡ 64 = search rules in record {
       same_reader = c.in_ok-fill.ensures.same_reader ∙ c.loop-left.invariant.same_reader;
       only = λ first h. c.in_ok-fill.ensures.only first (c.loop-left.invariant.only first h);
       levels = c.in_ok-fill.ensures.levels ∙ c.loop-left.invariant.levels;
@@ -36,7 +36,7 @@ loop-left-preserved g c =
       took = some-more (IsUnread g.A.Access.remaining c.args.self.now) (IsUnread g.A.Access.remaining c.loop-left.self)
           (IsUnread g.A.Access.remaining c.fill.new.self) c.args.len c.loop-left.left size c.fill.new.buffer
           (omega (arith, least))
-          (c.fill.auto.buffer ∙ length-take-le size c.loop-left.room (omega (arith, least, long)))
+          (c.fill.auto.buffer ∙ length-take-le size c.loop-left.buffer (omega (arith, least, long)))
           c.in_ok-fill.ensures.ok c.loop-left.invariant.took;
     }
 

@@ -16,7 +16,7 @@ returns-in_err-fill-clause-denied g c =
     let exit = err_from_is_err_and c.from_residual.result c.from_residual.ensures.1 in
     let old = c.args.self.now in
     let mid = c.loop-left.self in
-    let room = c.loop-left.room in
+    let room = c.loop-left.buffer in
     let kept = c.loop-left.kept in
     let size = c.min-size.result in
     let P = IsUnread g.A.Access.remaining old in
@@ -34,7 +34,7 @@ returns-in_err-fill-clause-denied g c =
 
 pub loop-left-preserved : goal.loop-left-preserved
 loop-left-preserved g c =
-    let room = c.loop-left.room in
+    let room = c.loop-left.buffer in
     let kept = c.loop-left.kept in
     let size = c.min-size.result in
     let buffer = c.fill.new.buffer in
@@ -67,7 +67,7 @@ loop-left-preserved g c =
 
 pub returns-in-None-clause-denied : goal.returns-in-None-clause-denied
 returns-in-None-clause-denied g c =
-    let room = c.loop-left.room in
+    let room = c.loop-left.buffer in
     let kept = c.loop-left.kept in
     let size = c.min-size.result in
     let buffer = c.fill.new.buffer in
@@ -85,20 +85,20 @@ pub returns-then-kept-gt0-clause-denied : goal.returns-then-kept-gt0-clause-deni
 returns-then-kept-gt0-clause-denied g c =
     cut-text (IsUnread g.A.Access.remaining c.args.self.now) (IsUnread g.A.Access.remaining c.loop-left.self)
     (end_at g.A.Access.remaining c.args.self.now) c.args.len c.loop-left.left c.loop-left.kept of_syntax
-    (take c.loop-left.kept c.loop-left.room) c.loop-left-test.false c.if-kept-gt0.true c.loop-left.invariant.cut
+    (take c.loop-left.kept c.loop-left.buffer) c.loop-left-test.false c.if-kept-gt0.true c.loop-left.invariant.cut
     c.loop-left.invariant.took
 
 pub returns-clause-ok : goal.returns-clause-ok
 returns-clause-ok g c =
     text-taken (IsUnread g.A.Access.remaining c.args.self.now) (IsUnread g.A.Access.remaining c.loop-left.self)
-    c.args.len c.loop-left.left c.loop-left.kept c.loop-left.room c.loop-left-test.false c.if-kept-gt0.false
+    c.args.len c.loop-left.left c.loop-left.kept c.loop-left.buffer c.loop-left-test.false c.if-kept-gt0.false
     c.loop-left.invariant.took
 
 pub returns-in_err-skip_pieces-in-None-clause-denied : goal.returns-in_err-skip_pieces-in-None-clause-denied
 returns-in_err-skip_pieces-in-None-clause-denied g c =
     let exit = err_from_is_err_and c.from_residual-in_err-skip_pieces-in-None.result
     c.from_residual-in_err-skip_pieces-in-None.ensures.1 in
-    let room = c.loop-left.room in
+    let room = c.loop-left.buffer in
     let kept = c.loop-left.kept in
     let size = c.min-size.result in
     let buffer = c.fill.new.buffer in

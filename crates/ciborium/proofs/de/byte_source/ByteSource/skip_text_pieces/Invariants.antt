@@ -13,9 +13,9 @@ invariant-loop-left g l = record {
   pending : l.self.pending ≡ None;
   fewer : bytes_weight l.self ≤ bytes_weight l.fn.self;
   few : l.kept < 4;
-  cut : IsUtf8 (take l.kept l.room) → l.kept ≡ 0;
+  cut : IsUtf8 (take l.kept l.buffer) → l.kept ≡ 0;
   took : TookText (IsUnread g.A.Access.remaining l.fn.self) (IsUnread g.A.Access.remaining l.self) l.len l.left
-      (take l.kept l.room);
+      (take l.kept l.buffer);
 }
 
 abbrev pub decreases-loop-left : goal.decreases-loop-left

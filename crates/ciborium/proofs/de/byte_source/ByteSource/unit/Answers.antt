@@ -2,7 +2,7 @@ use Rattle.std.proofs.Common.{false, subst, Some, sym, ◌∙◌}
 use Rattle.std.proofs.lemmas.Result.{err_from_is_err_and}
 use Rattle.ciborium_ll.specs.Item.{simple}
 use Rattle.ciborium_ll.specs.declared.header.Header.TheVariants as header
-use Rattle.ciborium_value.specs.Taken.{taken_unit}
+use Rattle.ciborium_value.specs.Given.{given_unit}
 use Rattle.ciborium_value.specs.declared.kind.Kind.TheVariants as kinds
 use Rattle.ciborium.specs.inner.ByteSources.{IsUnread, fault_at}
 use Rattle.ciborium.specs.inner.Skips.{TakesBare}
@@ -14,7 +14,7 @@ use Rattle.ciborium.proofs.de.byte_source.ByteSource.unit.Goals as goal
 pub returns-in_err-header-clause-answer : goal.returns-in_err-header-clause-answer
 returns-in_err-header-clause-answer g c =
     let exit = err_from_is_err_and c.from_residual.result c.from_residual.ensures.1 in
-    rw (exit.1, exit.2) (head-denied g.A.Access.remaining c.args.self.now taken_unit
+    rw (exit.1, exit.2) (head-denied g.A.Access.remaining c.args.self.now given_unit
     (fault_at g.A.Access.can_fail g.A.Access.remaining c.bare_head.new.self c.in_err-header.field-0.0)
     c.in_err-header.ensures.denied)
 
@@ -22,7 +22,7 @@ pub returns-then-is_null-clause-answer : goal.returns-then-is_null-clause-answer
 returns-then-is_null-clause-answer g c =
     let l = Some c.args.self.now.levels in
     let n = c.in-Simple.number in
-    reads-whole (IsUnread g.A.Access.remaining) false (header.Simple n) l taken_unit c.args.self.now
+    reads-whole (IsUnread g.A.Access.remaining) false (header.Simple n) l given_unit c.args.self.now
     c.bare_head.new.self
     tt (simple n)
     (subst (TakesBare (IsUnread g.A.Access.remaining) c.args.self.now c.bare_head.new.self false) c.in-Simple.is
@@ -30,13 +30,13 @@ returns-then-is_null-clause-answer g c =
 
 pub returns-else-is_null-clause-answer : goal.returns-else-is_null-clause-answer
 returns-else-is_null-clause-answer g c =
-    other-denied g.A.Access.remaining c.args.self.now taken_unit c.bare_head.new.self c.in_ok-header.header
+    other-denied g.A.Access.remaining c.args.self.now given_unit c.bare_head.new.self c.in_ok-header.header
     c.in_ok-header.ensures.head kinds.Unit (unit-other (Some c.args.self.now.levels) c.in_ok-header.header
     c.in_ok-header.ensures.reads.bare (unit-none c.in_ok-header.header c.in-Simple.number c.in-Simple.is (sym
     c.is_null.ensures ∙ c.if-is_null.false)))
 
 pub returns-in_default-clause-answer : goal.returns-in_default-clause-answer
 returns-in_default-clause-answer g c =
-    other-denied g.A.Access.remaining c.args.self.now taken_unit c.bare_head.new.self c.in_ok-header.header
+    other-denied g.A.Access.remaining c.args.self.now given_unit c.bare_head.new.self c.in_ok-header.header
     c.in_ok-header.ensures.head kinds.Unit (unit-other (Some c.args.self.now.levels) c.in_ok-header.header
     c.in_ok-header.ensures.reads.bare (λ n e. absurd (c.in_default.not-Simple n e)))

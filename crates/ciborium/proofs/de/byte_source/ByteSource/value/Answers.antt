@@ -9,7 +9,7 @@ use Rattle.ciborium.proofs.Items.FrontReads.{failed-fault}
 use Rattle.ciborium.proofs.Items.WholeValues.{ahead-by, known-read, portable-ahead, portable-reads, pushed-ahead}
 use Rattle.ciborium.proofs.Items.WholeValues.{whole-faults, whole-reads, whole-end}
 use Rattle.ciborium_value.specs.Sources.{IsFaultOf}
-use Rattle.ciborium_value.specs.Taken.{taken_value, outcome}
+use Rattle.ciborium_value.specs.Given.{given_value, outcome}
 use Rattle.ciborium.proofs.de.byte_source.ByteSource.value.Goals as goal
 
 pub returns-in-Some-portable_value-clause-answer : goal.returns-in-Some-portable_value-clause-answer
@@ -62,7 +62,7 @@ returns-in_err-value-in-None-portable_value-clause-answer g c =
     let unread = subst (λ o. IsUnreadBy g.A.Access.remaining d o b) (sym c.take.ensures.value ∙ c.in-Some.is) u in
     let ahead = ahead-by g.A.Access.remaining d c.push.new.self pending b c.in-None-portable_value.ensures
     c.push.ensures.pushed c.push.ensures.unread unread in
-    subst (λ o. IsFaultOf end o (outcome (Some c.args.self.now.levels) (taken_value i)))
+    subst (λ o. IsFaultOf end o (outcome (Some c.args.self.now.levels) (given_value i)))
     (failed-fault g.A.Access.can_fail
     (left_of g.A.Access.remaining f) error c.in_err-value-in-None-portable_value.ensures.ended)
     (whole-faults (left_of g.A.Access.remaining f) error c.args.self.now.levels
@@ -81,7 +81,7 @@ returns-in_err-value-in-None-clause-answer g c =
     rw (exit.1, exit.2) (λ b s z i end u sp e fits.
     let unread = subst (λ o. IsUnreadBy g.A.Access.remaining d o b) (sym c.take.ensures.value ∙ c.in-None.is) u in
     let ahead = ahead-by g.A.Access.remaining d d None b tt c.args.self.now.unpushed (refl, refl) unread in
-    subst (λ o. IsFaultOf end o (outcome (Some c.args.self.now.levels) (taken_value i)))
+    subst (λ o. IsFaultOf end o (outcome (Some c.args.self.now.levels) (given_value i)))
     (failed-fault g.A.Access.can_fail
     (left_of g.A.Access.remaining f) error c.in_err-value-in-None.ensures.ended)
     (whole-faults (left_of g.A.Access.remaining f) error c.args.self.now.levels d.counter.count end b s z i sp e

@@ -1,5 +1,5 @@
 use Rattle.std.proofs.Common.{ap}
-use Rattle.ciborium_value.specs.Taken.{settled}
+use Rattle.ciborium_value.specs.Given.{settled}
 use Rattle.ciborium.proofs.Payloads.LoneCharacters.{more-characters, one-character}
 use Rattle.ciborium.proofs.de.byte_source.characters.only_character.Goals as goal
 

@@ -1,7 +1,7 @@
 -- A list is read item by item.
 use Rattle.std.proofs.Common.{arith, map, [], ◌∷◌, sym, ap, ◌∙◌, subst}
 use Rattle.std.proofs.lemmas.List.{map-append}
-use Rattle.ciborium_value.specs.TakenParts.{taken_list}
+use Rattle.ciborium_value.specs.GivenParts.{given_list}
 use Rattle.ciborium_value.proofs.Sources.Sequences.{so, Follows, IsBefore, IsInside, takes, blames, blames_next}
 use Rattle.ciborium_value.proofs.Sources.Sequences.{list_from, list_begins, list_more, list_blames, list_ends}
 use Rattle.ciborium_value.proofs.Sources.Sequences.{owed_more, owed_all, passes_on}
@@ -20,7 +20,7 @@ pub returns-in_err-next-clause-takes : goal.returns-in_err-next-clause-takes
 returns-in_err-next-clause-takes g c =
     let e = g.S.Source.cause c.next.new.self c.in_err-next.field-0.0 in
     passes_on _ c.in_err-next.field-0.0 c.from_residual-in_err-next.ensures.1
-    (blames g.S.Source.stands_before (taken_list g.T.Deserialize.reading.taken) e (so c.loop-values.invariant.inside
+    (blames g.S.Source.stands_before (given_list g.T.Deserialize.reading.taken) e (so c.loop-values.invariant.inside
     (blames_next g.S.Source.stands_before g.S.Source.seq_stands
     (list_from g.T.Deserialize.reading.taken (map g.T.Deserialize.reading.content c.loop-values.values.items)) e
     c.in_err-next.ensures.refused)))
@@ -31,7 +31,7 @@ pub returns-in_err-value-clause-takes : goal.returns-in_err-value-clause-takes
 returns-in_err-value-clause-takes g c =
     let e = g.S.Source.cause c.deserialize.new.source c.in_err-value.field-0.0 in
     passes_on _ c.in_err-value.field-0.0 c.from_residual-in_err-value.ensures.1
-    (blames g.S.Source.stands_before (taken_list g.T.Deserialize.reading.taken) e (so c.loop-values.invariant.inside
+    (blames g.S.Source.stands_before (given_list g.T.Deserialize.reading.taken) e (so c.loop-values.invariant.inside
     (list_blames g.S.Source.stands_before g.S.Source.seq_stands g.T.Deserialize.reading.taken _ e
     (rw c.if-branch.true at c.in_ok-next.ensures.ok) c.in_err-value.ensures.takes.refused)))
     (λ first h. c.deserialize.ensures.takes.only first
@@ -46,7 +46,7 @@ returns-in_err-value-clause-takes g c =
 pub loop-values-preserved : goal.loop-values-preserved
 loop-values-preserved g c = record {
   inside = subst (λ vs. Follows (IsBefore g.S.Source.stands_before c.args.source.now
-      (taken_list g.T.Deserialize.reading.taken)) (IsInside g.S.Source.stands_before g.S.Source.seq_stands
+      (given_list g.T.Deserialize.reading.taken)) (IsInside g.S.Source.stands_before g.S.Source.seq_stands
       c.deserialize.new.source c.next.new.seq (list_from g.T.Deserialize.reading.taken vs)))
       (sym (ap (map g.T.Deserialize.reading.content) c.in-Ok.ensures.items ∙
       map-append g.T.Deserialize.reading.content c.loop-values.values.items (c.in_ok-value.value ∷ [])))
@@ -61,7 +61,7 @@ loop-values-preserved g c = record {
 
 pub returns-clause-takes : goal.returns-clause-takes
 returns-clause-takes g c = record {
-  ok = takes g.S.Source.stands_before (taken_list g.T.Deserialize.reading.taken) (so c.loop-values.invariant.inside
+  ok = takes g.S.Source.stands_before (given_list g.T.Deserialize.reading.taken) (so c.loop-values.invariant.inside
       (list_ends g.S.Source.stands_before g.S.Source.seq_stands g.T.Deserialize.reading.taken _
       (rw c.if-branch.false at c.in_ok-next.ensures.ok)));
   refused = tt;

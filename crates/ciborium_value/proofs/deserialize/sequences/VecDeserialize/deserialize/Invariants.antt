@@ -1,14 +1,14 @@
 use Rattle.std.proofs.Common.{◌+◌, ◌<◌, map}
 use Rattle.ciborium_value.specs.Places.{sequence}
 use Rattle.ciborium_value.specs.Sources.{TakesTo, TakesOnly}
-use Rattle.ciborium_value.specs.TakenParts.{taken_list}
+use Rattle.ciborium_value.specs.GivenParts.{given_list}
 use Rattle.ciborium_value.proofs.Sources.Sequences.{Follows, IsBefore, IsInside, list_from}
 use Rattle.ciborium_value.proofs.deserialize.sequences.VecDeserialize.deserialize.Given as goal
 
 -- the items that were read are the first, and the others are left
 abbrev pub invariant-loop-values : goal.invariant-loop-values
 invariant-loop-values g l = record {
-  inside : Follows (IsBefore g.S.Source.stands_before l.fn.source (taken_list g.T.Deserialize.reading.taken))
+  inside : Follows (IsBefore g.S.Source.stands_before l.fn.source (given_list g.T.Deserialize.reading.taken))
       (IsInside g.S.Source.stands_before g.S.Source.seq_stands l.source l.seq
       (list_from g.T.Deserialize.reading.taken (map g.T.Deserialize.reading.content l.values.items)));
   owed : TakesTo g.S.Source.is_unread l.fn.source l.source (g.S.Source.owes l.seq sequence);

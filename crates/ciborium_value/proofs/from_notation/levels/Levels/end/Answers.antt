@@ -1,5 +1,5 @@
 use Rattle.std.proofs.Common.{rules}
-use Rattle.ciborium_value.proofs.Denoting.Opened.{some_open}
+use Rattle.ciborium_value.proofs.Denoting.BegunLevels.{some_open}
 use Rattle.ciborium_value.proofs.Denoting.Steps.{ends}
 use Rattle.ciborium_value.proofs.from_notation.levels.Levels.end.Goals as goal
 

@@ -1,6 +1,6 @@
 use Rattle.std.proofs.Common.{rules, length}
 use Rattle.ciborium_value.specs.inner.ReadTokens.{IsRoom, await_of}
-use Rattle.ciborium_value.proofs.Denoting.Opened.{array_ended, first_misplaced, first_taken, room_from}
+use Rattle.ciborium_value.proofs.Denoting.BegunLevels.{array_ended, first_misplaced, first_taken, room_from}
 use Rattle.ciborium_value.proofs.from_notation.levels.Levels.take_array_part.Goals as goal
 
 pub returns-in-EndArray-clause-taken : goal.returns-in-EndArray-clause-taken

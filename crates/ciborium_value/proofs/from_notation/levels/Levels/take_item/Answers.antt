@@ -1,6 +1,7 @@
 use Rattle.std.proofs.Common.{rules}
 use Rattle.ciborium_value.specs.inner.ReadTokens.{token_read}
-use Rattle.ciborium_value.proofs.Denoting.Opened.{array_begun, leaf_read, map_begun, no_item_begun, tag_begun, too_deep}
+use Rattle.ciborium_value.proofs.Denoting.BegunLevels.{array_begun, leaf_read, map_begun, no_item_begun, tag_begun}
+use Rattle.ciborium_value.proofs.Denoting.BegunLevels.{too_deep}
 use Rattle.ciborium_value.proofs.Denoting.Steps.{begun}
 use Rattle.ciborium_value.proofs.from_notation.levels.Levels.take_item.Goals as goal
 

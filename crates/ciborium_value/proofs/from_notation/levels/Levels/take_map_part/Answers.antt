@@ -1,6 +1,6 @@
 use Rattle.std.proofs.Common.{rules, length}
 use Rattle.ciborium_value.specs.inner.ReadTokens.{IsRoom, await_of}
-use Rattle.ciborium_value.proofs.Denoting.Opened.{key_misplaced, key_taken, map_ended, room_from}
+use Rattle.ciborium_value.proofs.Denoting.BegunLevels.{key_misplaced, key_taken, map_ended, room_from}
 use Rattle.ciborium_value.proofs.from_notation.levels.Levels.take_map_part.Goals as goal
 
 pub returns-in-EndMap-clause-taken : goal.returns-in-EndMap-clause-taken

@@ -1,5 +1,5 @@
 use Rattle.ciborium.proofs.Containers.EnteredContainers.{enters-map}
-use Rattle.ciborium_value.specs.Taken.{taken_pairs}
+use Rattle.ciborium_value.specs.Given.{given_pairs}
 use Rattle.ciborium.specs.inner.ByteSources.{fault_at}
 use Rattle.ciborium.proofs.Containers.ByteItems.{refuses-denied}
 use Rattle.ciborium.proofs.de.byte_source.source.ByteSourceSource.begin_map.Goals as goal
@@ -13,5 +13,5 @@ returns-clause-ok g c =
 
 pub returns-clause-refused : goal.returns-clause-refused
 returns-clause-refused g c = IfErr-weaker c.begin_map.result _ _
-    (λ e h. refuses-denied g.A.Access.remaining c.args.self.now taken_pairs
+    (λ e h. refuses-denied g.A.Access.remaining c.args.self.now given_pairs
     (fault_at g.A.Access.can_fail g.A.Access.remaining c.begin_map.new.self e) h) c.begin_map.ensures.denied

@@ -1,5 +1,5 @@
 use Rattle.ciborium.proofs.Containers.EnteredContainers.{enters}
-use Rattle.ciborium_value.specs.Taken.{taken_seq}
+use Rattle.ciborium_value.specs.Given.{given_seq}
 use Rattle.ciborium.specs.inner.ByteSources.{fault_at}
 use Rattle.ciborium.proofs.Containers.ByteItems.{refuses-denied}
 use Rattle.ciborium.proofs.de.byte_source.source.ByteSourceSource.begin_seq.Goals as goal
@@ -13,5 +13,5 @@ returns-clause-ok g c =
 
 pub returns-clause-refused : goal.returns-clause-refused
 returns-clause-refused g c = IfErr-weaker c.begin_seq.result _ _
-    (λ e h. refuses-denied g.A.Access.remaining c.args.self.now taken_seq
+    (λ e h. refuses-denied g.A.Access.remaining c.args.self.now given_seq
     (fault_at g.A.Access.can_fail g.A.Access.remaining c.begin_seq.new.self e) h) c.begin_seq.ensures.denied

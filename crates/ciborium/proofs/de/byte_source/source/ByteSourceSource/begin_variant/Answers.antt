@@ -1,6 +1,6 @@
 use Rattle.std.proofs.Common.{Some, string_bytes}
-use Rattle.ciborium_value.specs.Taken.{taken_variant}
-use Rattle.ciborium.proofs.Containers.HeldLevels.{completes-opened, holds-opened, ok-map-two, on-ok-so}
+use Rattle.ciborium_value.specs.Given.{given_variant}
+use Rattle.ciborium.proofs.Containers.DueLevels.{completes-begun, holds-begun, ok-map-two, on-ok-so}
 use Rattle.ciborium.specs.inner.ByteSources.{fault_at}
 use Rattle.ciborium.proofs.Containers.ByteItems.{refuses-denied}
 use Rattle.ciborium.proofs.de.byte_source.source.ByteSourceSource.begin_variant.Goals as goal
@@ -9,16 +9,16 @@ use Rattle.std.proofs.lemmas.Result.{IfErr-weaker}
 pub returns-clause-ok : goal.returns-clause-ok
 returns-clause-ok g c =
     ok-map-two c.begin_variant.result c.begin_variant.ensures.level c.begin_variant.ensures.ok
-    (λ p level k. holds-opened g.A.Access.remaining c.args.self.now c.begin_variant.new.self taken_variant
+    (λ p level k. holds-begun g.A.Access.remaining c.args.self.now c.begin_variant.new.self given_variant
     (string_bytes p.0) p.1 (c.begin_variant.ensures.same_reader, c.begin_variant.ensures.only) level k)
 
 pub returns-clause-took : goal.returns-clause-took
 returns-clause-took g c =
     on-ok-so c.begin_variant.result c.begin_variant.ensures.ok
-    (λ p k. completes-opened g.A.Access.remaining c.args.self.now c.begin_variant.new.self
-    (Some c.args.self.now.levels) taken_variant (string_bytes p.0) k)
+    (λ p k. completes-begun g.A.Access.remaining c.args.self.now c.begin_variant.new.self
+    (Some c.args.self.now.levels) given_variant (string_bytes p.0) k)
 
 pub returns-clause-refused : goal.returns-clause-refused
 returns-clause-refused g c = IfErr-weaker c.begin_variant.result _ _
-    (λ e h. refuses-denied g.A.Access.remaining c.args.self.now taken_variant
+    (λ e h. refuses-denied g.A.Access.remaining c.args.self.now given_variant
     (fault_at g.A.Access.can_fail g.A.Access.remaining c.begin_variant.new.self e) h) c.begin_variant.ensures.denied

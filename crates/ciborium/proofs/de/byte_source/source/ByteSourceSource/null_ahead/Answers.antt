@@ -1,7 +1,7 @@
 use Rattle.std.proofs.Common.{◌≡◌, ◌∙◌, ◌++◌, Some, arith}
 use Rattle.std.proofs.lemmas.Result.{err_from_is_err_and}
 use Rattle.ciborium_ll.specs.Header.{SpellsHeader}
-use Rattle.ciborium_value.specs.Taken.{is_null}
+use Rattle.ciborium_value.specs.Given.{is_null}
 use Rattle.ciborium.specs.inner.ByteSources.{IsUnread, IsUnreadBy, fault_at}
 use Rattle.ciborium.proofs.Containers.NextParts.{aside-unread}
 use Rattle.ciborium.proofs.Containers.NullAhead.{null-head, refuses-to-tell, takes-nothing, tells}

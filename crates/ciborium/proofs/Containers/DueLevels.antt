@@ -6,7 +6,7 @@ use Rattle.ciborium_ll.specs.declared.header.Header.TheVariants as header
 use Rattle.ciborium_ll.specs.Header.{SpellsHeader}
 use Rattle.ciborium_ll.specs.Item.{Item, tag}
 use Rattle.ciborium_value.specs.Sources.{Completes, Holds, GivesBack, TakesTo}
-use Rattle.ciborium_value.specs.Taken.{Taken, gives, deeper, outcome, within_level, outer_tag, taken_outer_tag}
+use Rattle.ciborium_value.specs.Given.{Given, gives, deeper, outcome, within_level, outer_tag, given_outer_tag}
 use Rattle.ciborium.specs.declared.de.byte_source.ByteSource.{ByteSource}
 use Rattle.ciborium.specs.declared.de.byte_source.ByteLevel.{ByteLevel}
 use Rattle.ciborium.specs.inner.ByteSources.{IsUnread, StandsBefore, LevelStands, TakesLevel}
@@ -20,17 +20,17 @@ use Rattle.ciborium.proofs.Items.TakenOnly.{IsKept, kept-reader}
 -- ---- where the source then stands
 
 module _ {S W : Type 0} (remaining : S → Option (List ℕ)) (old new : ByteSource S W) where
-  pub completes-opened : {A : Type 0} (l : _) (taken : Taken (A × Item)) (v : A) →
+  pub completes-begun : {A : Type 0} (l : _) (taken : Given (A × Item)) (v : A) →
       EntersLevelUnread (IsUnread remaining) old new l taken v → TakesTo (IsUnread remaining) old new Completes
-  completes-opened l taken v h b u =
+  completes-begun l taken v h b u =
       let (w, un, leads) = h b u in
       (w, un, λ z (i, s, sp, e). let (j, t, sq, f) = leads.outward i s z sp e in (j, t, sq, f))
 
-  pub holds-opened : {A : Type 0} (taken : Taken (A × Item)) (v : A) (level : ByteLevel) → IsKept remaining old new →
+  pub holds-begun : {A : Type 0} (taken : Given (A × Item)) (v : A) (level : ByteLevel) → IsKept remaining old new →
       TakesLevel old new level →
       EntersLevelUnread (IsUnread remaining) old new (Some old.levels) taken v →
       Holds (StandsBefore remaining) LevelStands old new taken v level
-  holds-opened taken v level kept (back, less) h l i f (b, u, (s, r, sp, rest, e), is, ahead) =
+  holds-begun taken v level kept (back, less) h l i f (b, u, (s, r, sp, rest, e), is, ahead) =
       let (w, un, leads) = h b u in
       let (j, t, give, sq, split) = leads.inward i s r sp e in (
         j,
@@ -49,10 +49,10 @@ module _ {S W : Type 0} (remaining : S → Option (List ℕ)) (old new : ByteSou
 
 module _ {S : Type 0} (IsUnread : S → List ℕ → Type 0) (old mid new : S) (m : ℕ) (some : m ≢ 0) where
   -- the head of a tag was taken
-  pub tag-opened : (t : ℕ) → TakesHead IsUnread old mid (header.Tag t) →
+  pub tag-begun : (t : ℕ) → TakesHead IsUnread old mid (header.Tag t) →
       ((y : List ℕ) → IsUnread mid y → IsUnread new y) →
-      EntersLevelUnread IsUnread old new (Some m) taken_outer_tag (Some t)
-  tag-opened t took keeps b u =
+      EntersLevelUnread IsUnread old new (Some m) given_outer_tag (Some t)
+  tag-begun t took keeps b u =
       let (x, y, hd, e, un) = took b u in (
         y,
         keeps y un,
@@ -77,10 +77,10 @@ module _ {S : Type 0} (IsUnread : S → List ℕ → Type 0) (old mid new : S) (
       (λ o is k. refl) (λ o ps k. refl) (λ n k. refl) (λ raw k. refl) (λ t j k. absurd (p t k)) i e
 
   -- another head was looked at
-  pub none-opened : (h : Header) → ((t : ℕ) → h ≡ header.Tag t → ⊥) → TakesHead IsUnread old mid h →
+  pub none-begun : (h : Header) → ((t : ℕ) → h ≡ header.Tag t → ⊥) → TakesHead IsUnread old mid h →
       ((b x y : List ℕ) → IsUnread old b → SpellsHeader x h → b ≡ x ++ y → IsUnread mid y → IsUnread new b) →
-      EntersLevelUnread IsUnread old new (Some m) taken_outer_tag None
-  none-opened h p took aside b u =
+      EntersLevelUnread IsUnread old new (Some m) given_outer_tag None
+  none-begun h p took aside b u =
       let (x, y, hd, e, un) = took b u in (
         b,
         aside b x y u hd e un,
@@ -99,7 +99,7 @@ module _ {S : Type 0} (IsUnread : S → List ℕ → Type 0) (old mid new : S) (
 
 -- no level is left for it
 pub tag-nests : {S : Type 0} (IsUnread : S → List ℕ → Type 0) (End : S → ℕ) (old : S) (m : ℕ) → m ≡ 0 →
-    Denies IsUnread End old (Some m) taken_outer_tag Rattle.ciborium_value.specs.Sources.of_nesting
+    Denies IsUnread End old (Some m) given_outer_tag Rattle.ciborium_value.specs.Sources.of_nesting
 tag-nests IsUnread End old m none b s z i end u sp e fits = ap (λ n. within_level (Some n) (gives (outer_tag i))) none
 
 pub ok-map-two : {T E : Type 0} {N P Q : T → Type 0} (r : Result T E) → IfOk r N → IfOk r P →

@@ -38,9 +38,9 @@ pub data Steps : Type 0 → Type 1 where
   -- the others inside the level that the first took, where the test of its value is true
   then_inside : {A B : Type 0} → (A → Bool) → Steps A → (A → Steps B) → Steps B
 
--- what reading an item takes
-abbrev pub Taken : Type 0 → Type 1
-Taken A = Item → Steps A
+-- what reading an item gives
+abbrev pub Given : Type 0 → Type 1
+Given A = Item → Steps A
 
 abbrev pub give : {A : Type 0} → A → Steps A
 give v = decided (Ok v)
@@ -130,8 +130,8 @@ abbrev pub bignum_of : Item → Result ℕ Kind
 bignum_of (bytes open_ b) = magnitude b
 bignum_of _ = Err kinds.Bytes
 
-abbrev pub taken_bignum : Taken ℕ
-taken_bignum i = decided (bignum_of i)
+abbrev pub given_bignum : Given ℕ
+given_bignum i = decided (bignum_of i)
 
 abbrev pub with_sign : Bool → Result ℕ Kind → Result (Bool × ℕ) Kind
 with_sign s (Ok n) = Ok (s, n)
@@ -148,8 +148,8 @@ number_of (negative n) = Ok (true, n)
 number_of (tag t i) = number_under t i (number_of i)
 number_of _ = Err kinds.Integer
 
-abbrev pub taken_integer : Taken (Bool × ℕ)
-taken_integer i = decided (number_of i)
+abbrev pub given_integer : Given (Bool × ℕ)
+given_integer i = decided (number_of i)
 
 -- a number from 0 on that is below the bound
 abbrev pub number_below : ℕ → Bool × ℕ → Steps ℕ
@@ -170,8 +170,8 @@ abbrev pub bare_boolean : Item → Result Bool Kind
 bare_boolean (simple n) = boolean_of n
 bare_boolean _ = Err kinds.Bool
 
-abbrev pub taken_boolean : Taken Bool
-taken_boolean i = decided (bare_boolean (untagged i))
+abbrev pub given_boolean : Given Bool
+given_boolean i = decided (bare_boolean (untagged i))
 
 -- null and undefined (section 3.3)
 abbrev pub is_null_simple : ℕ → Bool
@@ -184,8 +184,8 @@ abbrev pub bare_unit : Item → Result (Unit {0}) Kind
 bare_unit (simple n) = unit_of n
 bare_unit _ = Err kinds.Unit
 
-abbrev pub taken_unit : Taken (Unit {0})
-taken_unit i = decided (bare_unit (untagged i))
+abbrev pub given_unit : Given (Unit {0})
+given_unit i = decided (bare_unit (untagged i))
 
 -- null or undefined, under no tag
 abbrev pub is_null : Item → Bool
@@ -206,8 +206,8 @@ abbrev pub bare_character : Item → Result ℕ Kind
 bare_character (text open_ b) = definite_character open_ b
 bare_character _ = Err kinds.Char
 
-abbrev pub taken_character : Taken ℕ
-taken_character i = decided (bare_character (untagged i))
+abbrev pub given_character : Given ℕ
+given_character i = decided (bare_character (untagged i))
 
 -- ---- strings
 
@@ -216,52 +216,52 @@ bare_text (text open_ b) = Ok b
 bare_text _ = Err kinds.Text
 
 -- a text, definite or open, by the bytes of its UTF-8
-abbrev pub taken_text : Taken (List ℕ)
-taken_text i = decided (bare_text (untagged i))
+abbrev pub given_text : Given (List ℕ)
+given_text i = decided (bare_text (untagged i))
 
 abbrev pub unpack : Items → List Item
 unpack items.no_items = []
 unpack (items.item i is) = i ∷ unpack is
 
 -- a number from 0 to 255
-abbrev pub taken_byte : Taken ℕ
-taken_byte i = then_read (taken_integer i) (number_below 256)
+abbrev pub given_byte : Given ℕ
+given_byte i = then_read (given_integer i) (number_below 256)
 
-abbrev pub bare_bytes : Taken (List ℕ)
+abbrev pub bare_bytes : Given (List ℕ)
 bare_bytes (bytes open_ b) = give b
-bare_bytes (array open_ is) = leveled (take_each taken_byte (unpack is))
+bare_bytes (array open_ is) = leveled (take_each given_byte (unpack is))
 bare_bytes _ = refuse kinds.Bytes
 
 -- a byte string, definite or open; or, with a level, an array of numbers from 0 to 255
-abbrev pub taken_bytes : Taken (List ℕ)
-taken_bytes i = bare_bytes (untagged i)
+abbrev pub given_bytes : Given (List ℕ)
+given_bytes i = bare_bytes (untagged i)
 
 -- ---- containers
 
-abbrev pub bare_seq : Taken (Bool × List Item)
+abbrev pub bare_seq : Given (Bool × List Item)
 bare_seq (bytes open_ b) = give (false, map unsigned b)
 bare_seq (array open_ is) = leveled (give (true, unpack is))
 bare_seq _ = refuse kinds.Array
 
 -- the items of an array, with a level, or the bytes of a byte string, without one; and whether they
 -- took a level
-abbrev pub taken_seq : Taken (Bool × List Item)
-taken_seq i = bare_seq (untagged i)
+abbrev pub given_seq : Given (Bool × List Item)
+given_seq i = bare_seq (untagged i)
 
 abbrev pub unpack_pairs : Pairs → List (Item × Item)
 unpack_pairs items.no_pairs = []
 unpack_pairs (items.pair k v ps) = (k, v) ∷ unpack_pairs ps
 
-abbrev pub bare_pairs : Taken (Bool × List (Item × Item))
+abbrev pub bare_pairs : Given (Bool × List (Item × Item))
 bare_pairs (items.map open_ ps) = leveled (give (true, unpack_pairs ps))
 bare_pairs _ = refuse kinds.Map
 
 -- the pairs of a map, which took a level
-abbrev pub taken_pairs : Taken (Bool × List (Item × Item))
-taken_pairs i = bare_pairs (untagged i)
+abbrev pub given_pairs : Given (Bool × List (Item × Item))
+given_pairs i = bare_pairs (untagged i)
 
 -- what is read of the parts of a container, inside the level that it took
-abbrev pub read_inside : {X A : Type 0} → Taken (Bool × X) → (X → Steps A) → Taken A
+abbrev pub read_inside : {X A : Type 0} → Given (Bool × X) → (X → Steps A) → Given A
 read_inside entered f i = then_inside (λ p. p.0) (entered i) (λ p. f p.1)
 
 -- ---- names, tags and variants
@@ -272,12 +272,12 @@ bare_name (text open_ b) = Ok b
 bare_name _ = Err kinds.Name
 
 -- a text, or a byte string that is UTF-8 once its parts are joined, by its bytes
-abbrev pub taken_name : Taken (List ℕ)
-taken_name i = decided (bare_name (untagged i))
+abbrev pub given_name : Given (List ℕ)
+given_name i = decided (bare_name (untagged i))
 
 -- the place of such a name
-abbrev pub taken_place : {P : Type 0} → (List ℕ → P) → Taken P
-taken_place place i = mapped place (taken_name i)
+abbrev pub given_place : {P : Type 0} → (List ℕ → P) → Given P
+given_place place i = mapped place (given_name i)
 
 -- the outermost tag, if there is one, and what it stands before (section 3.4)
 abbrev pub outer_tag : Item → Option ℕ × Item
@@ -292,62 +292,62 @@ outer_tag (simple n) = (None, simple n)
 outer_tag (float raw) = (None, float raw)
 
 -- the same, with a level, tag or none
-abbrev pub taken_outer_tag : Taken (Option ℕ × Item)
-taken_outer_tag i = leveled (give (outer_tag i))
+abbrev pub given_outer_tag : Given (Option ℕ × Item)
+given_outer_tag i = leveled (give (outer_tag i))
 
 -- one pair: its key as a name, with a level, and its value
 abbrev pub lone_pair : Pairs → Steps (List ℕ × Item)
 lone_pair items.no_pairs = refuse kinds.Variant
-lone_pair (items.pair k v items.no_pairs) = leveled (mapped (λ name. (name, v)) (taken_name k))
+lone_pair (items.pair k v items.no_pairs) = leveled (mapped (λ name. (name, v)) (given_name k))
 lone_pair (items.pair k v (items.pair k' v' ps)) = refuse kinds.Variant
 
 abbrev pub definite_pair : Bool → Pairs → Steps (List ℕ × Item)
 definite_pair false ps = lone_pair ps
 definite_pair true ps = refuse kinds.Variant
 
-abbrev pub bare_variant : Taken (List ℕ × Item)
+abbrev pub bare_variant : Given (List ℕ × Item)
 bare_variant (text open_ b) = leveled (give (b, simple 22))
 bare_variant (items.map open_ ps) = definite_pair open_ ps
 bare_variant _ = refuse kinds.Variant
 
 -- a text, which names a variant and stands for null as its data; or a definite map of one pair, a
 -- name and the data
-abbrev pub taken_variant : Taken (List ℕ × Item)
-taken_variant i = bare_variant (untagged i)
+abbrev pub given_variant : Given (List ℕ × Item)
+given_variant i = bare_variant (untagged i)
 
 -- ---- whatever is ahead
 
 -- an item of any kind, whether it has a meaning or not, where it nests within the levels
-abbrev pub taken_skip : Taken (Unit {0})
-taken_skip i = within_levels (nesting i) (give tt)
+abbrev pub given_skip : Given (Unit {0})
+given_skip i = within_levels (nesting i) (give tt)
 
 -- ---- whatever is ahead, as a tree
 
 -- a tag: a number over the bytes on which it folds, else with a level the tag over what its item
 -- gives
-abbrev pub taken_tag : ℕ → Option (List ℕ) → Steps Tree → Steps Tree
-taken_tag t (Some b) s = decided (ok_or (bignum_meaning t b) kinds.TooLarge)
-taken_tag t None s = leveled (mapped (trees.tag t) s)
+abbrev pub given_tag : ℕ → Option (List ℕ) → Steps Tree → Steps Tree
+given_tag t (Some b) s = decided (ok_or (bignum_meaning t b) kinds.TooLarge)
+given_tag t None s = leveled (mapped (trees.tag t) s)
 
 abbrev mutual
   -- the meaning of an item within the levels, or in order the first reason why it has none
-  pub taken_value : Item → Steps Tree
-  taken_value (items.unsigned n) = give (trees.integer (pos n))
-  taken_value (items.negative n) = give (trees.integer (negsuc n))
-  taken_value (items.bytes open_ b) = give (trees.bytes b)
-  taken_value (items.text open_ b) = give (trees.text b)
-  taken_value (items.array open_ is) = leveled (mapped trees.array (taken_items is))
-  taken_value (items.map open_ ps) = leveled (mapped trees.map (taken_tree_pairs ps))
-  taken_value (items.tag t i) = taken_tag t (folding_bytes t i) (taken_value i)
-  taken_value (items.simple n) = decided (ok_or (simple_meaning n) kinds.Simple)
-  taken_value (items.float raw) = refuse kinds.Float
+  pub given_value : Item → Steps Tree
+  given_value (items.unsigned n) = give (trees.integer (pos n))
+  given_value (items.negative n) = give (trees.integer (negsuc n))
+  given_value (items.bytes open_ b) = give (trees.bytes b)
+  given_value (items.text open_ b) = give (trees.text b)
+  given_value (items.array open_ is) = leveled (mapped trees.array (given_items is))
+  given_value (items.map open_ ps) = leveled (mapped trees.map (given_tree_pairs ps))
+  given_value (items.tag t i) = given_tag t (folding_bytes t i) (given_value i)
+  given_value (items.simple n) = decided (ok_or (simple_meaning n) kinds.Simple)
+  given_value (items.float raw) = refuse kinds.Float
 
-  pub taken_items : Items → Steps Trees
-  taken_items items.no_items = give trees.no_trees
-  taken_items (items.item i is) = then_read (taken_value i)
-      (λ v. mapped (trees.tree v) (taken_items is))
+  pub given_items : Items → Steps Trees
+  given_items items.no_items = give trees.no_trees
+  given_items (items.item i is) = then_read (given_value i)
+      (λ v. mapped (trees.tree v) (given_items is))
 
-  pub taken_tree_pairs : Pairs → Steps TreePairs
-  taken_tree_pairs items.no_pairs = give trees.no_tree_pairs
-  taken_tree_pairs (items.pair k v ps) = then_read (taken_value k) (λ x. then_read (taken_value v)
-      (λ y. mapped (trees.tree_pair x y) (taken_tree_pairs ps)))
+  pub given_tree_pairs : Pairs → Steps TreePairs
+  given_tree_pairs items.no_pairs = give trees.no_tree_pairs
+  given_tree_pairs (items.pair k v ps) = then_read (given_value k) (λ x. then_read (given_value v)
+      (λ y. mapped (trees.tree_pair x y) (given_tree_pairs ps)))

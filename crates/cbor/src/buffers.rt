@@ -7,7 +7,7 @@ use std::alloc::{AllocError, Global};
 /// The buffers for a line. They are made once and used again for each line, so that they grow to
 /// the longest line and then take no more memory.
 #[derive(Drop)]
-pub struct Rooms {
+pub struct Buffers {
     /// The bytes of the line, and then the encoding of its item.
     pub bytes: Vec<u8>,
     /// The encoding of an item of a sequence.
@@ -16,10 +16,10 @@ pub struct Rooms {
     pub text: Vec<u8>,
 }
 
-impl Rooms {
+impl Buffers {
     /// Empty buffers, which take no memory.
-    pub fn new(alloc: Global) -> Rooms {
-        Rooms {
+    pub fn new(alloc: Global) -> Buffers {
+        Buffers {
             bytes: Vec::new(alloc),
             encoding: Vec::new(alloc),
             text: Vec::new(alloc),

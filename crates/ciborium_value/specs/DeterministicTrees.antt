@@ -8,11 +8,11 @@ use Rattle.ciborium_value.specs.Tree.{Tree}
 use Rattle.ciborium_value.specs.declared.key_order.KeyOrder.{KeyOrder}
 
 -- a tree that has one: a program can hold it, folding changes nothing, and its maps' keys rise
-pub record IsCanonicalTree (o : KeyOrder) (v : Tree) : Type 0 where
+pub record IsDeterministicTree (o : KeyOrder) (v : Tree) : Type 0 where
   pub proper : IsProperTree v
   pub folds : folded v ≡ Some v
   pub rises : HasRisingKeys o v
 
 -- b is the deterministic spelling of v: its one shortest definite encoding
 abbrev pub IsDeterministic : KeyOrder → List ℕ → Tree → Type 0
-IsDeterministic o b v = (b ≡ encoding v) × IsCanonicalTree o v
+IsDeterministic o b v = (b ≡ encoding v) × IsDeterministicTree o v
