@@ -34,23 +34,35 @@ pub fn write_literal(alloc: Global, text: &str) -> Result<Option<String>, AllocE
     }
 }
 
+// The first of these answers that is one.
+macro_rules! first_made {
+    ($($made:expr,)+) => {{
+        $(if let Some(made) = $made {
+            return Some(made);
+        })+
+        None
+    }};
+}
+
 fn find_literal(alloc: Global, text: &str, bytes: &ByteBuf) -> Made {
-    with_null(alloc, text)
-        .or_else(|| nested_null(alloc, text))
-        .or_else(|| with_true(alloc, text))
-        .or_else(|| with_false(alloc, text))
-        .or_else(|| with_positive(alloc, text))
-        .or_else(|| with_negative(alloc, text))
-        .or_else(|| with_text(alloc, text))
-        .or_else(|| nested_text(alloc, text))
-        .or_else(|| with_bytes(alloc, text, bytes))
-        .or_else(|| with_empty_list(alloc, text))
-        .or_else(|| with_list(alloc, text))
-        .or_else(|| with_empty_map(alloc, text))
-        .or_else(|| with_map(alloc, text))
-        .or_else(|| with_expressions(alloc, text))
-        .or_else(|| with_all(alloc, text, bytes))
-        .or_else(|| between_others(alloc, text))
+    first_made!(
+        with_null(alloc, text),
+        nested_null(alloc, text),
+        with_true(alloc, text),
+        with_false(alloc, text),
+        with_positive(alloc, text),
+        with_negative(alloc, text),
+        with_text(alloc, text),
+        nested_text(alloc, text),
+        with_bytes(alloc, text, bytes),
+        with_empty_list(alloc, text),
+        with_list(alloc, text),
+        with_empty_map(alloc, text),
+        with_map(alloc, text),
+        with_expressions(alloc, text),
+        with_all(alloc, text, bytes),
+        between_others(alloc, text),
+    )
 }
 
 // Null alone, and as an item, a key and a value.
