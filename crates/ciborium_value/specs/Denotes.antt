@@ -19,37 +19,46 @@ IsSeparated false t s = s ≡ t
 IsSeparated true t s = IsToken t comma s
 
 mutual
-  -- the text t begins with the notation of a tree, and r follows it
-  pub data Begins : List ℕ → Tree → List ℕ → Type 0 where
-    alone : (v : Tree) (t r : List ℕ) → IsToken t (leaf v) r → Begins t v r
-    tagged : (n : ℕ) (v : Tree) (t s u r : List ℕ) → IsToken t (begin_tag n) s → Begins s v u →
-        IsToken u end_tag r → Begins t (trees.tag n v) r
-    listed : (vs : Trees) (t s r : List ℕ) → IsToken t begin_array s → BeginsItems false s vs r →
-        Begins t (trees.array vs) r
-    mapped : (ps : TreePairs) (t s r : List ℕ) → IsToken t begin_map s → BeginsPairs false s ps r →
-        Begins t (trees.map ps) r
+  -- the text t begins with the notation of a tree, whose arrays, maps and tags nest within so many
+  -- levels, and r follows it
+  pub data Begins : ℕ → List ℕ → Tree → List ℕ → Type 0 where
+    alone : (l : ℕ) (v : Tree) (t r : List ℕ) → IsToken t (leaf v) r → Begins l t v r
+    tagged : (l n : ℕ) (v : Tree) (t s u r : List ℕ) → IsToken t (begin_tag n) s →
+        Begins l s v u → IsToken u end_tag r → Begins (suc l) t (trees.tag n v) r
+    listed : (l : ℕ) (vs : Trees) (t s r : List ℕ) → IsToken t begin_array s →
+        BeginsItems l false s vs r → Begins (suc l) t (trees.array vs) r
+    mapped : (l : ℕ) (ps : TreePairs) (t s r : List ℕ) → IsToken t begin_map s →
+        BeginsPairs l false s ps r → Begins (suc l) t (trees.map ps) r
 
   -- items and the end of their array, with commas between them, where one is due before the first
   -- or none
-  pub data BeginsItems : Bool → List ℕ → Trees → List ℕ → Type 0 where
-    no_item : (due : Bool) (t r : List ℕ) → IsToken t end_array r →
-        BeginsItems due t trees.no_trees r
-    item : (due : Bool) (v : Tree) (vs : Trees) (t s u r : List ℕ) → IsSeparated due t s →
-        Begins s v u → BeginsItems true u vs r → BeginsItems due t (trees.tree v vs) r
+  pub data BeginsItems : ℕ → Bool → List ℕ → Trees → List ℕ → Type 0 where
+    no_item : (l : ℕ) (due : Bool) (t r : List ℕ) → IsToken t end_array r →
+        BeginsItems l due t trees.no_trees r
+    item : (l : ℕ) (due : Bool) (v : Tree) (vs : Trees) (t s u r : List ℕ) → IsSeparated due t s →
+        Begins l s v u → BeginsItems l true u vs r → BeginsItems l due t (trees.tree v vs) r
 
   -- pairs and the end of their map, a colon between each key and its value
-  pub data BeginsPairs : Bool → List ℕ → TreePairs → List ℕ → Type 0 where
-    no_pair : (due : Bool) (t r : List ℕ) → IsToken t end_map r →
-        BeginsPairs due t trees.no_tree_pairs r
-    pair : (due : Bool) (k v : Tree) (ps : TreePairs) (t s u w x r : List ℕ) →
-        IsSeparated due t s → Begins s k u → IsToken u colon w → Begins w v x →
-        BeginsPairs true x ps r → BeginsPairs due t (trees.tree_pair k v ps) r
+  pub data BeginsPairs : ℕ → Bool → List ℕ → TreePairs → List ℕ → Type 0 where
+    no_pair : (l : ℕ) (due : Bool) (t r : List ℕ) → IsToken t end_map r →
+        BeginsPairs l due t trees.no_tree_pairs r
+    pair : (l : ℕ) (due : Bool) (k v : Tree) (ps : TreePairs) (t s u w x r : List ℕ) →
+        IsSeparated due t s → Begins l s k u → IsToken u colon w → Begins l w v x →
+        BeginsPairs l true x ps r → BeginsPairs l due t (trees.tree_pair k v ps) r
 
--- the text denotes the tree: but for blanks nothing follows it
+-- the text denotes the tree within so many levels: but for blanks nothing follows it
+abbrev pub DenotesWithin : ℕ → List ℕ → Tree → Type 0
+DenotesWithin l t v = (r : List ℕ) × Begins l t v r × (behind_blanks r ≡ Some [])
+
 abbrev pub Denotes : List ℕ → Tree → Type 0
-Denotes t v = (r : List ℕ) × Begins t v r × (behind_blanks r ≡ Some [])
+Denotes t v = (l : ℕ) × DenotesWithin l t v
 
--- ---- reading within a limit of levels
+-- why a text that denotes a tree within l levels may be refused: l is more than the limit, or
+-- memory was refused
+abbrev pub MayRefuse : ℕ → NotationError → ℕ → Type 0
+MayRefuse limit (At p TooDeep) l = limit < l
+MayRefuse limit (At p fault) l = ⊥
+MayRefuse limit Memory l = Unit {0}
 
 abbrev mutual
   -- how many arrays, maps and tags a tree nests
@@ -68,9 +77,3 @@ abbrev mutual
   pub depth_of_pairs : TreePairs → ℕ
   depth_of_pairs trees.no_tree_pairs = 0
   depth_of_pairs (trees.tree_pair k v ps) = max (depth k) (max (depth v) (depth_of_pairs ps))
-
--- why a text that denotes v may be refused: it nests deeper than the limit, or memory was refused
-abbrev pub MayRefuse : ℕ → NotationError → Tree → Type 0
-MayRefuse limit (At p TooDeep) v = limit < depth v
-MayRefuse limit (At p fault) v = ⊥
-MayRefuse limit Memory v = Unit {0}

@@ -1,7 +1,7 @@
 //! Values from diagnostic notation (RFC 8949, section 8).
 
-ghost use Rattle.std.specs.Prelude.{◌≡◌, IfErr, IfOk};
-ghost use Rattle.ciborium_value.specs.Denotes.{Denotes, MayRefuse};
+ghost use Rattle.std.specs.Prelude.{◌≡◌, IfErr, IfOk, ℕ};
+ghost use Rattle.ciborium_value.specs.Denotes.{Denotes, DenotesWithin, MayRefuse};
 ghost use Rattle.ciborium_value.specs.Tree.{Tree};
 ghost use Rattle.ciborium_value.specs.View.{tree_of};
 
@@ -31,9 +31,10 @@ impl Value {
     ///
     /// Those of `from_notation_with_limit`.
     pub fn from_notation(alloc: Global, text: &str) -> Result<Value, NotationError>
-        ensures ok { IfOk result (λ v. Denotes text.now (tree_of v)) }
+        ensures ok { IfOk result (λ v. DenotesWithin 256 text.now (tree_of v)) }
         ensures only { IfOk result (λ v. (w : Tree) → Denotes text.now w → w ≡ tree_of v) }
-        ensures refused { IfErr result (λ e. (v : Tree) → Denotes text.now v → MayRefuse 256 e v) }
+        ensures refused { IfErr result (λ e. (l : ℕ) (v : Tree) → DenotesWithin l text.now v →
+            MayRefuse 256 e l) }
     {
         Value::from_notation_with_limit(alloc, text, NOTATION_LIMIT)
     }
@@ -58,10 +59,10 @@ impl Value {
         text: &str,
         limit: usize,
     ) -> Result<Value, NotationError>
-        ensures ok { IfOk result (λ v. Denotes text.now (tree_of v)) }
+        ensures ok { IfOk result (λ v. DenotesWithin limit text.now (tree_of v)) }
         ensures only { IfOk result (λ v. (w : Tree) → Denotes text.now w → w ≡ tree_of v) }
-        ensures refused { IfErr result (λ e. (v : Tree) → Denotes text.now v →
-            MayRefuse limit e v) }
+        ensures refused { IfErr result (λ e. (l : ℕ) (v : Tree) → DenotesWithin l text.now v →
+            MayRefuse limit e l) }
     {
         match read_tree(alloc, text.as_bytes(), limit) {
             Ok(value) => Ok(value),
@@ -72,9 +73,10 @@ impl Value {
 
 // The value that a text denotes. The place of an error is counted from the end of the text.
 fn read_tree(alloc: Global, text: &[u8], limit: usize) -> Result<Value, NotationError>
-    ensures ok { IfOk result (λ v. Denotes text.now (tree_of v)) }
+    ensures ok { IfOk result (λ v. DenotesWithin limit text.now (tree_of v)) }
     ensures only { IfOk result (λ v. (w : Tree) → Denotes text.now w → w ≡ tree_of v) }
-    ensures refused { IfErr result (λ e. (v : Tree) → Denotes text.now v → MayRefuse limit e v) }
+    ensures refused { IfErr result (λ e. (l : ℕ) (v : Tree) → DenotesWithin l text.now v →
+        MayRefuse limit e l) }
 {
     let mut levels = Levels::new(alloc, limit);
     let mut due = Due::Item;

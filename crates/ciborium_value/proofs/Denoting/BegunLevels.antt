@@ -1,5 +1,5 @@
 -- The levels of a text while it is read.
-use Rattle.std.proofs.Common.{true, ◌≡◌, ◌≢◌, ◌<◌, ◌≤◌, IfErr, IfOk, Ok, Err, Result, refl, ℕ, Vec, Global, length}
+use Rattle.std.proofs.Common.{true, ◌≡◌, ◌≢◌, ◌<◌, ◌≤◌, IfErr, IfOk, Ok, Err, Result, refl, ℕ, Vec, Global, Box, length}
 use Rattle.std.proofs.Common.{arith, List, [], ◌∷◌, ◌++◌, map, reverse, ap, ◌∙◌, subst, sym}
 use Rattle.std.proofs.lemmas.List.{length-map, length-reverse, map-append, reverse-append}
 use Rattle.ciborium_value.specs.declared.from_notation.levels.Level.{Level}
@@ -13,8 +13,8 @@ use Rattle.ciborium_value.specs.Tokens.{Token}
 use Rattle.ciborium_value.specs.Tree as trees
 use Rattle.ciborium_value.specs.Tree.{Tree}
 use Rattle.ciborium_value.specs.View.{pair_trees, tree_of, tree_pairs_from, trees_from}
-use Rattle.ciborium_value.specs.inner.ReadTokens.{Around, Await, Leads, around_of, behind, in_array, in_keys, item}
-use Rattle.ciborium_value.specs.inner.ReadTokens.{Completes, IsMisplaced, opens, array_part, await_of, in_values}
+use Rattle.ciborium_value.specs.inner.ReadTokens.{Around, Await, Leads, around_of, behind, in_array, in_keys, in_tag, item}
+use Rattle.ciborium_value.specs.inner.ReadTokens.{Completes, IsMisplaced, IsRoom, opens, array_part, await_of, in_values}
 use Rattle.ciborium_value.specs.inner.ReadTokens.{map_part, token_read}
 use Rattle.ciborium_value.specs.declared.from_notation.error.NotationError.{NotationError}
 use Rattle.ciborium_value.specs.Denotes.{At}
@@ -22,8 +22,9 @@ use Rattle.ciborium_value.specs.declared.from_notation.error.NotationFault.TheVa
 use Rattle.ciborium_value.specs.declared.from_notation.levels.Due.{Due}
 use Rattle.ciborium_value.proofs.Denoting.Steps.{Begun, first-item, first-key, first_leads, key_leads, leads-array}
 use Rattle.ciborium_value.proofs.Denoting.Steps.{leads-comma, leads-end, leads-leaf, leads-map, leads-map-end}
-use Rattle.ciborium_value.proofs.Denoting.Steps.{leads-next-key, leads-no-item, leads-no-pair, leads-tag, opens-deeper}
-use Rattle.ciborium_value.proofs.Trees.Views.{tree_of-Array, tree_of-Map}
+use Rattle.ciborium_value.proofs.Denoting.Steps.{leads-next-key, leads-no-item, leads-no-pair, leads-tag, leads-tag-end}
+use Rattle.ciborium_value.proofs.Denoting.Steps.{opens-deeper}
+use Rattle.ciborium_value.proofs.Trees.Views.{tree_of-Array, tree_of-Map, tree_of-Tag}
 
 -- the innermost level stands last
 pub around_last : (levels : List Level) (level : Level) →
@@ -82,6 +83,13 @@ map_end ps key w levels pairs k end same = leads_as _ _ (ap token_read (sym end)
     (ap (map pair_trees) same ∙ map-append pair_trees ps ((key, w) ∷ [])))))
     (leads-map-end levels (map pair_trees ps) (tree_of key) (tree_of w))
 
+pub content_end : (n : ℕ) (w : Value) (content : Box Value Global) (levels : List Around) (k : Read) →
+    k ≡ read.EndTag → content.value ≡ w →
+    Leads (in_tag n ∷ levels) (behind (tree_of w)) (token_read k) levels (behind (tree_of (value.Tag n content)))
+content_end n w content levels k end same = leads_as _ _ (ap token_read (sym end)) refl
+    (sym (ap behind (tree_of-Tag n content ∙ ap (λ x. trees.tag n (tree_of x)) same)))
+    (leads-tag-end levels n (tree_of w))
+
 -- ---- how many are open
 
 pub open_count : (ls : List Level) → length (map around_of (reverse ls)) ≡ length ls
@@ -109,12 +117,12 @@ tag_begun ls more n k e pushed = leads_as _ _ (ap token_read (sym e)) (sym (open
     (leads-tag (map around_of (reverse ls)) n)
 
 pub no_item_begun : (k : Read) → ((v : Value) → k ≢ read.Leaf v) → ((n : ℕ) → k ≢ read.BeginTag n) →
-    k ≢ read.BeginArray → k ≢ read.BeginMap → (r z : List ℕ) (w : Tree) → Begun (token_read k) r w z → ⊥
-no_item_begun (read.Leaf v) a b c d r z w h = a v refl
-no_item_begun (read.BeginTag n) a b c d r z w h = b n refl
-no_item_begun read.BeginArray a b c d r z w h = c refl
-no_item_begun read.BeginMap a b c d r z w h = d refl
-no_item_begun _ a b c d r z w h = h
+    k ≢ read.BeginArray → k ≢ read.BeginMap → (l : ℕ) (r z : List ℕ) (w : Tree) → Begun (token_read k) l r w z → ⊥
+no_item_begun (read.Leaf v) a b c d l r z w h = a v refl
+no_item_begun (read.BeginTag n) a b c d l r z w h = b n refl
+no_item_begun read.BeginArray a b c d l r z w h = c refl
+no_item_begun read.BeginMap a b c d l r z w h = d refl
+no_item_begun _ a b c d l r z w h = h
 
 -- ---- where the first part of an array or a map is due
 
@@ -177,9 +185,9 @@ pub first_misplaced : (ls begun : List Level) (items : Vec Value Global) (k : Re
     IfErr r (IsMisplaced (map around_of (reverse begun)) item (token_read k) limit) →
     IfErr r (IsMisplaced (map around_of (reverse ls)) array_part (token_read k) limit)
 first_misplaced ls begun items k limit (Ok next) other none pushed h = tt
-first_misplaced ls begun items k limit (Err e) other none pushed h = λ t r v at c.
-    h t r v at (subst (λ o. Completes o item t v) (sym (array_opened ls begun items none pushed))
-    (first-item (map around_of (reverse ls)) (token_read k) t r v (not_array_end k other) at c))
+first_misplaced ls begun items k limit (Err e) other none pushed h = λ l t r v at c.
+    h l t r v at (subst (λ o. Completes l o item t v) (sym (array_opened ls begun items none pushed))
+    (first-item l (map around_of (reverse ls)) (token_read k) t r v (not_array_end k other) at c))
 
 pub key_taken : (ls begun : List Level) (pairs : Vec (Value × Value) Global) (k : Read) (more : List Around)
     (r : Result Due NotationError) → k ≢ read.EndMap → pairs.items ≡ [] → begun ≡ ls ++ level.Keys pairs ∷ [] →
@@ -195,16 +203,16 @@ pub key_misplaced : (ls begun : List Level) (pairs : Vec (Value × Value) Global
     IfErr r (IsMisplaced (map around_of (reverse begun)) item (token_read k) limit) →
     IfErr r (IsMisplaced (map around_of (reverse ls)) map_part (token_read k) limit)
 key_misplaced ls begun pairs k limit (Ok next) other none pushed h = tt
-key_misplaced ls begun pairs k limit (Err e) other none pushed h = λ t r v at c.
-    h t r v at (subst (λ o. Completes o item t v) (sym (map_opened ls begun pairs none pushed))
-    (first-key (map around_of (reverse ls)) (token_read k) t r v (not_map_end k other) at c))
+key_misplaced ls begun pairs k limit (Err e) other none pushed h = λ l t r v at c.
+    h l t r v at (subst (λ o. Completes l o item t v) (sym (map_opened ls begun pairs none pushed))
+    (first-key l (map around_of (reverse ls)) (token_read k) t r v (not_map_end k other) at c))
 
 -- ---- a level more than the limit
 
 pub too_deep : (ls : List Level) (k : Read) (limit : ℕ) (place : ℕ) → opens (token_read k) ≡ true →
     limit ≤ length ls → IsMisplaced (map around_of (reverse ls)) item (token_read k) limit (At place TooDeep)
-too_deep ls k limit place opened full = λ t r v at c.
-    let h = opens-deeper (map around_of (reverse ls)) (token_read k) t r v opened at c in
+too_deep ls k limit place opened full = λ l t r v at c.
+    let h = opens-deeper l (map around_of (reverse ls)) (token_read k) t r v opened at c in
     let count = open_count ls in omega (arith, h, full, count)
 
 -- an answer of which more is known, where less is asked
@@ -212,3 +220,11 @@ pub room_from : {A C : Type 0} (B : Due → Type 0) (r : Result Due NotationErro
     (C → A) → IfOk r (λ next. C → B next)
 room_from B (Ok next) h f = λ c. h (f c)
 room_from B (Err e) h f = tt
+
+-- room behind a token, said of what is open
+pub room_next : (limit most : ℕ) (ls more : List Level) (due next : Await) → limit ≡ most →
+    (IsRoom limit (length ls) due → IsRoom limit (length more) next) →
+    IsRoom most (length (map around_of (reverse ls))) due → IsRoom most (length (map around_of (reverse more))) next
+room_next limit most ls more due next e f h = subst (λ l. IsRoom l (length (map around_of (reverse more))) next) e
+    (subst (λ n. IsRoom limit n next) (sym (open_count more)) (f (subst (λ n. IsRoom limit n due) (open_count ls)
+    (subst (λ l. IsRoom l (length (map around_of (reverse ls))) due) (sym e) h))))

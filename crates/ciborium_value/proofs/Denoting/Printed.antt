@@ -12,8 +12,8 @@ use Rattle.std.proofs.lemmas.Bool.{lt-ltb}
 use Rattle.std.proofs.lemmas.Fmt.{decimal_is_IsNumeral_wide}
 use Rattle.std.proofs.lemmas.Str.{encode_ascii}
 use Rattle.hex.specs.Hex.{encode_lower, encode_with, lower_digits}
-use Rattle.ciborium_value.specs.Denotes.{Begins, BeginsItems, BeginsPairs, Denotes, IsSeparated, IsToken, alone, item}
-use Rattle.ciborium_value.specs.Denotes.{listed, mapped, no_item, no_pair, pair, tagged}
+use Rattle.ciborium_value.specs.Denotes.{Begins, BeginsItems, BeginsPairs, DenotesWithin, IsSeparated, IsToken}
+use Rattle.ciborium_value.specs.Denotes.{alone, depth, depth_of_items, depth_of_pairs, item, listed, mapped, no_item, no_pair, pair, tagged}
 use Rattle.ciborium_value.specs.Notation.{comma as comma_text, escape, escaped, last_break, line_break, needs_escape}
 use Rattle.ciborium_value.specs.Notation.{notation_on, notations_on, one_level_more, pair_notations_on}
 use Rattle.ciborium_value.specs.ProperTrees.{AreProperTreePairs, AreProperTrees, IsProperTree}
@@ -375,11 +375,11 @@ at : (s r : List ℕ) (k : Token) → behind_blanks s ≡ Some s → token_at s 
 at s r k b e = (s, b, e)
 
 -- the same behind other blanks
-past : (t x r : List ℕ) (v : Tree) → behind_blanks t ≡ behind_blanks x → Begins x v r → Begins t v r
-past t x r v b (alone _ _ _ (s, c, e)) = alone v t r (s, b ∙ c, e)
-past t x r v b (tagged n u _ s w _ (y, c, e) d end) = tagged n u t s w r (y, b ∙ c, e) d end
-past t x r v b (listed vs _ s _ (y, c, e) m) = listed vs t s r (y, b ∙ c, e) m
-past t x r v b (mapped ps _ s _ (y, c, e) m) = mapped ps t s r (y, b ∙ c, e) m
+past : (l : ℕ) (t x r : List ℕ) (v : Tree) → behind_blanks t ≡ behind_blanks x → Begins l x v r → Begins l t v r
+past l t x r v b (alone _ _ _ _ (s, c, e)) = alone l v t r (s, b ∙ c, e)
+past l t x r v b (tagged m n u _ s w _ (y, c, e) d end) = tagged m n u t s w r (y, b ∙ c, e) d end
+past l t x r v b (listed m vs _ s _ (y, c, e) d) = listed m vs t s r (y, b ∙ c, e) d
+past l t x r v b (mapped m ps _ s _ (y, c, e) d) = mapped m ps t s r (y, b ∙ c, e) d
 
 past-token : (t x r : List ℕ) (k : Token) → behind_blanks t ≡ behind_blanks x → IsToken x k r → IsToken t k r
 past-token t x r k b (s, c, e) = (s, b ∙ c, e)
@@ -405,14 +405,14 @@ between false lines = []
 between true lines = comma_text lines
 
 -- what stands behind it, past blanks
-separated : (due : Bool) (lines : Option ℕ) (x r : List ℕ) (v : Tree) → Begins x v r →
-    (s : List ℕ) × IsSeparated due (between due lines ++ (line_break lines ++ x)) s × Begins s v r
-separated false lines x r v d = (line_break lines ++ x, refl, past (line_break lines ++ x) x r v (breaks lines x) d)
-separated true None x r v d = (32 ∷ x, at (44 ∷ 32 ∷ x) (32 ∷ x) comma refl refl, past (32 ∷ x) x r v refl d)
-separated true (Some level) x r v d = (
+separated : (l : ℕ) (due : Bool) (lines : Option ℕ) (x r : List ℕ) (v : Tree) → Begins l x v r →
+    (s : List ℕ) × IsSeparated due (between due lines ++ (line_break lines ++ x)) s × Begins l s v r
+separated l false lines x r v d = (line_break lines ++ x, refl, past l (line_break lines ++ x) x r v (breaks lines x) d)
+separated l true None x r v d = (32 ∷ x, at (44 ∷ 32 ∷ x) (32 ∷ x) comma refl refl, past l (32 ∷ x) x r v refl d)
+separated l true (Some level) x r v d = (
   line_break (Some level) ++ x,
   at (44 ∷ (line_break (Some level) ++ x)) (line_break (Some level) ++ x) comma refl refl,
-  past (line_break (Some level) ++ x) x r v (breaks (Some level) x) d,
+  past l (line_break (Some level) ++ x) x r v (breaks (Some level) x) d,
 )
 
 -- ---- what is printed
@@ -440,85 +440,95 @@ regroup : (a b c d x : List ℕ) → (a ++ (b ++ (c ++ d))) ++ x ≡ a ++ (b ++ 
 regroup a b c d x = simp append_assoc
 
 mutual
-  printed : (lines : Option ℕ) (v : Tree) (r : List ℕ) → IsProperTree v → Follows r →
-      Begins (notation_on lines v ++ r) v r
-  printed lines (trees.integer z) r h f = alone _ _ r
+  printed : (l : ℕ) (lines : Option ℕ) (v : Tree) (r : List ℕ) → depth v ≤ l → IsProperTree v → Follows r →
+      Begins l (notation_on lines v ++ r) v r
+  printed l lines (trees.integer z) r _ h f = alone l _ _ r
       (at (signed_decimal z ++ r) r (leaf (trees.integer z)) (number-not-blank z r h) (number-token z r h f))
-  printed lines (trees.bytes b) r h f = subst (λ (t : List ℕ). Begins t (trees.bytes b) r)
+  printed l lines (trees.bytes b) r _ h f = subst (λ (t : List ℕ). Begins l t (trees.bytes b) r)
       (sym (ap (λ (t : List ℕ). 104 ∷ 39 ∷ t) (append_assoc (encode_lower b) (39 ∷ []) r)))
-      (alone _ _ r (at (104 ∷ 39 ∷ (encode_lower b ++ (39 ∷ r))) r (leaf (trees.bytes b)) refl
+      (alone l _ _ r (at (104 ∷ 39 ∷ (encode_lower b ++ (39 ∷ r))) r (leaf (trees.bytes b)) refl
       (ap (token_of trees.bytes) (hex-run b r h.0))))
-  printed lines (trees.text b) r h f = subst (λ (t : List ℕ). Begins t (trees.text b) r)
+  printed l lines (trees.text b) r _ h f = subst (λ (t : List ℕ). Begins l t (trees.text b) r)
       (sym (ap (λ (t : List ℕ). 34 ∷ t) (append_assoc (flat_map escaped b) (34 ∷ []) r)))
-      (alone _ _ r (at (34 ∷ (flat_map escaped b ++ (34 ∷ r))) r (leaf (trees.text b)) refl
+      (alone l _ _ r (at (34 ∷ (flat_map escaped b ++ (34 ∷ r))) r (leaf (trees.text b)) refl
       (ap text_token (text-run b r) ∙ utf8_token b r h.0)))
-  printed lines (trees.boolean true) r h f =
-      alone _ _ r (at (codes "true" ++ r) r (leaf (trees.boolean true)) refl refl)
-  printed lines (trees.boolean false) r h f =
-      alone _ _ r (at (codes "false" ++ r) r (leaf (trees.boolean false)) refl refl)
-  printed lines trees.null r h f = alone _ _ r (at (codes "null" ++ r) r (leaf trees.null) refl refl)
-  printed lines (trees.tag n v) r h f =
-      subst (λ (t : List ℕ). Begins t (trees.tag n v) r)
+  printed l lines (trees.boolean true) r _ h f =
+      alone l _ _ r (at (codes "true" ++ r) r (leaf (trees.boolean true)) refl refl)
+  printed l lines (trees.boolean false) r _ h f =
+      alone l _ _ r (at (codes "false" ++ r) r (leaf (trees.boolean false)) refl refl)
+  printed l lines trees.null r _ h f = alone l _ _ r (at (codes "null" ++ r) r (leaf trees.null) refl refl)
+  printed zero lines (trees.tag n v) r m h f = absurd (omega (arith, m))
+  printed (suc l) lines (trees.tag n v) r m h f =
+      subst (λ (t : List ℕ). Begins (suc l) t (trees.tag n v) r)
       (sym (append_assoc (decimal n) (40 ∷ (notation_on lines v ++ (41 ∷ []))) r ∙
       ap (λ (t : List ℕ). decimal n ++ (40 ∷ t)) (append_assoc (notation_on lines v) (41 ∷ []) r)))
-      (tagged n v _ _ (41 ∷ r) r (at (decimal n ++ (40 ∷ (notation_on lines v ++ (41 ∷ r))))
+      (tagged l n v _ _ (41 ∷ r) r (at (decimal n ++ (40 ∷ (notation_on lines v ++ (41 ∷ r))))
       (notation_on lines v ++ (41 ∷ r)) (begin_tag n) (decimal-not-blank n _ (omega (arith, h.0)))
-      (tag-token n (notation_on lines v ++ (41 ∷ r)) h.0)) (printed lines v (41 ∷ r) h.1 tag_ends)
+      (tag-token n (notation_on lines v ++ (41 ∷ r)) h.0)) (printed l lines v (41 ∷ r) (omega (arith, m)) h.1 tag_ends)
       (at (41 ∷ r) r end_tag refl refl))
-  printed lines (trees.array vs) r h f =
+  printed zero lines (trees.array vs) r n h f = absurd (omega (arith, n))
+  printed (suc l) lines (trees.array vs) r n h f =
       let last = last_break lines (trees_count vs) in
       let rows = notations_on (one_level_more lines) [] vs in
-      subst (λ (t : List ℕ). Begins t (trees.array vs) r)
+      subst (λ (t : List ℕ). Begins (suc l) t (trees.array vs) r)
       (sym (ap (λ (t : List ℕ). 91 ∷ t) (append_assoc rows (last ++ (93 ∷ [])) r ∙
       ap (λ (t : List ℕ). rows ++ t) (append_assoc last (93 ∷ []) r))))
-      (listed vs _ (rows ++ (last ++ (93 ∷ r))) r (at (91 ∷ (rows ++ (last ++ (93 ∷ r)))) _ begin_array refl refl)
-      (printed-items (one_level_more lines) false vs (last ++ (93 ∷ r)) r h.1
+      (listed l vs _ (rows ++ (last ++ (93 ∷ r))) r (at (91 ∷ (rows ++ (last ++ (93 ∷ r)))) _ begin_array refl refl)
+      (printed-items l (one_level_more lines) false vs (last ++ (93 ∷ r)) r (omega (arith, n)) h.1
       (last-follows lines (trees_count vs) 93 r array_ends) (past-token (last ++ (93 ∷ r)) (93 ∷ r) r end_array
       (last-breaks lines (trees_count vs) (93 ∷ r)) (at (93 ∷ r) r end_array refl refl))))
-  printed lines (trees.map ps) r h f =
+  printed zero lines (trees.map ps) r n h f = absurd (omega (arith, n))
+  printed (suc l) lines (trees.map ps) r n h f =
       let last = last_break lines (tree_pairs_count ps) in
       let rows = pair_notations_on (one_level_more lines) [] ps in
-      subst (λ (t : List ℕ). Begins t (trees.map ps) r)
+      subst (λ (t : List ℕ). Begins (suc l) t (trees.map ps) r)
       (sym (ap (λ (t : List ℕ). 123 ∷ t) (append_assoc rows (last ++ (125 ∷ [])) r ∙
       ap (λ (t : List ℕ). rows ++ t) (append_assoc last (125 ∷ []) r))))
-      (mapped ps _ (rows ++ (last ++ (125 ∷ r))) r (at (123 ∷ (rows ++ (last ++ (125 ∷ r)))) _ begin_map refl refl)
-      (printed-pairs (one_level_more lines) false ps (last ++ (125 ∷ r)) r h.1
+      (mapped l ps _ (rows ++ (last ++ (125 ∷ r))) r (at (123 ∷ (rows ++ (last ++ (125 ∷ r)))) _ begin_map refl refl)
+      (printed-pairs l (one_level_more lines) false ps (last ++ (125 ∷ r)) r (omega (arith, n)) h.1
       (last-follows lines (tree_pairs_count ps) 125 r map_ends) (past-token (last ++ (125 ∷ r)) (125 ∷ r) r end_map
       (last-breaks lines (tree_pairs_count ps) (125 ∷ r)) (at (125 ∷ r) r end_map refl refl))))
 
-  printed-items : (lines : Option ℕ) (due : Bool) (vs : Trees) (x r : List ℕ) → AreProperTrees vs → Follows x →
-      IsToken x end_array r → BeginsItems due (notations_on lines (between due lines) vs ++ x) vs r
-  printed-items lines due trees.no_trees x r h f end = no_item due x r end
-  printed-items lines due (trees.tree v vs) x r h f end =
+  printed-items : (l : ℕ) (lines : Option ℕ) (due : Bool) (vs : Trees) (x r : List ℕ) → depth_of_items vs ≤ l →
+      AreProperTrees vs → Follows x → IsToken x end_array r →
+      BeginsItems l due (notations_on lines (between due lines) vs ++ x) vs r
+  printed-items l lines due trees.no_trees x r n h f end = no_item l due x r end
+  printed-items l lines due (trees.tree v vs) x r n h f end =
       let more = notations_on lines (comma_text lines) vs in
-      let (s, apart, first) = separated due lines (notation_on lines v ++ (more ++ x)) (more ++ x) v
-      (printed lines v (more ++ x) h.0 (more-follow lines vs x f)) in
-      subst (λ (t : List ℕ). BeginsItems due t (trees.tree v vs) r)
+      let (s, apart, first) = separated l due lines (notation_on lines v ++ (more ++ x)) (more ++ x) v
+      (printed l lines v (more ++ x) (omega (arith, n)) h.0 (more-follow lines vs x f)) in
+      subst (λ (t : List ℕ). BeginsItems l due t (trees.tree v vs) r)
       (sym (regroup (between due lines) (line_break lines) (notation_on lines v) more x))
-      (item due v vs _ s (more ++ x) r apart first (printed-items lines true vs x r h.1 f end))
+      (item l due v vs _ s (more ++ x) r apart first (printed-items l lines true vs x r (omega (arith, n)) h.1 f end))
 
-  printed-pairs : (lines : Option ℕ) (due : Bool) (ps : TreePairs) (x r : List ℕ) → AreProperTreePairs ps → Follows x →
-      IsToken x end_map r → BeginsPairs due (pair_notations_on lines (between due lines) ps ++ x) ps r
-  printed-pairs lines due trees.no_tree_pairs x r h f end = no_pair due x r end
-  printed-pairs lines due (trees.tree_pair k v ps) x r h f end =
+  printed-pairs : (l : ℕ) (lines : Option ℕ) (due : Bool) (ps : TreePairs) (x r : List ℕ) → depth_of_pairs ps ≤ l →
+      AreProperTreePairs ps → Follows x → IsToken x end_map r →
+      BeginsPairs l due (pair_notations_on lines (between due lines) ps ++ x) ps r
+  printed-pairs l lines due trees.no_tree_pairs x r n h f end = no_pair l due x r end
+  printed-pairs l lines due (trees.tree_pair k v ps) x r n h f end =
       let more = pair_notations_on lines (comma_text lines) ps in
       let rest = notation_on lines v ++ (more ++ x) in
-      let (s, apart, first) = separated due lines (notation_on lines k ++ (58 ∷ 32 ∷ rest)) (58 ∷ 32 ∷ rest) k
-      (printed lines k (58 ∷ 32 ∷ rest) h.0 colon_ends) in
-      subst (λ (t : List ℕ). BeginsPairs due t (trees.tree_pair k v ps) r)
+      let (s, apart, first) = separated l due lines (notation_on lines k ++ (58 ∷ 32 ∷ rest)) (58 ∷ 32 ∷ rest) k
+      (printed l lines k (58 ∷ 32 ∷ rest) (omega (arith, n)) h.0 colon_ends) in
+      subst (λ (t : List ℕ). BeginsPairs l due t (trees.tree_pair k v ps) r)
       (sym (regroup (between due lines) (line_break lines) (notation_on lines k)
       (58 ∷ 32 ∷ (notation_on lines v ++ more)) x ∙
       ap (λ (t : List ℕ). between due lines ++ (line_break lines ++ (notation_on lines k ++ (58 ∷ 32 ∷ t))))
       (append_assoc (notation_on lines v) more x)))
-      (pair due k v ps _ s (58 ∷ 32 ∷ rest) (32 ∷ rest) (more ++ x) r apart first
+      (pair l due k v ps _ s (58 ∷ 32 ∷ rest) (32 ∷ rest) (more ++ x) r apart first
       (at (58 ∷ 32 ∷ rest) (32 ∷ rest) colon refl refl)
-      (past (32 ∷ rest) rest (more ++ x) v refl (printed lines v (more ++ x) h.1 (more-pairs-follow lines ps x f)))
-      (printed-pairs lines true ps x r h.2 f end))
+      (past l (32 ∷ rest) rest (more ++ x) v refl
+      (printed l lines v (more ++ x) (omega (arith, n)) h.1 (more-pairs-follow lines ps x f)))
+      (printed-pairs l lines true ps x r (omega (arith, n)) h.2 f end))
 
 -- what is printed on one line or over lines
-on-lines : (lines : Option ℕ) (v : Tree) → IsProperTree v → Denotes (notation_on lines v) v
-on-lines lines v h =
-    ([], subst (λ (t : List ℕ). Begins t v []) (append-nil (notation_on lines v)) (printed lines v [] h tt), refl)
+on-lines : (lines : Option ℕ) (v : Tree) → IsProperTree v → DenotesWithin (depth v) (notation_on lines v) v
+on-lines lines v h = (
+  [],
+  subst (λ (t : List ℕ). Begins (depth v) t v []) (append-nil (notation_on lines v))
+      (printed (depth v) lines v [] (omega arith) h tt),
+  refl,
+)
 
 pub printed_is_denoted : PrintedIsDenoted
 printed_is_denoted true v h = on-lines (Some 0) v h
@@ -526,4 +536,5 @@ printed_is_denoted false v h = on-lines None v h
 
 pub printed_alike_is_equal : PrintedAlikeIsEqual
 printed_alike_is_equal b v w h k e = one_tree_is_denoted (styled_notation b w) v w
-    (subst (λ t. Denotes t v) e (printed_is_denoted b v h)) (printed_is_denoted b w k)
+    (depth v, subst (λ t. DenotesWithin (depth v) t v) e (printed_is_denoted b v h))
+    (depth w, printed_is_denoted b w k)

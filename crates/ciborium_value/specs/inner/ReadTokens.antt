@@ -1,7 +1,7 @@
 -- What reading diagnostic notation keeps between two tokens, and what it promises of them.
-use Rattle.std.specs.Prelude.{◌≡◌, ℕ, ◌^◌, ◌≤◌, ◌<◌, List, [], ◌∷◌, map, reverse}
-use Rattle.std.specs.Prelude.{Option, Some, None, ◌==◌, if◌then◌else◌, true, Bool, false}
-use Rattle.ciborium_value.specs.Denotes.{Begins, BeginsItems, BeginsPairs, Denotes}
+use Rattle.std.specs.Prelude.{◌≡◌, ℕ, suc, ◌^◌, ◌+◌, ◌≤◌, ◌<◌, List, [], ◌∷◌, length}
+use Rattle.std.specs.Prelude.{Option, Some, None, ◌==◌, if◌then◌else◌, true, Bool, false, map, reverse}
+use Rattle.ciborium_value.specs.Denotes.{Begins, BeginsItems, BeginsPairs, DenotesWithin}
 use Rattle.ciborium_value.specs.Denotes.{IsToken, MayRefuse}
 use Rattle.ciborium_value.specs.Notation.{needs_escape}
 use Rattle.ciborium_value.specs.Tokens as tokens
@@ -118,46 +118,49 @@ abbrev pub pairs_before : List (Tree × Tree) → TreePairs → TreePairs
 pairs_before [] ps = ps
 pairs_before (q ∷ qs) ps = trees.tree_pair q.0 q.1 (pairs_before qs ps)
 
--- behind an item that means w in these levels the text t completes the tree v
-abbrev pub Complete : List Around → Tree → List ℕ → Tree → Type 0
-Complete [] w t v = (behind_blanks t ≡ Some []) × (v ≡ w)
-Complete (in_array ws ∷ levels) w t v = (vs : Trees) × (r : List ℕ) × BeginsItems true t vs r ×
-    Complete levels (trees.array (trees_before ws (trees.tree w vs))) r v
-Complete (in_keys qs ∷ levels) w t v = (x : Tree) × (s : List ℕ) × (u : List ℕ) ×
-    (ps : TreePairs) × (r : List ℕ) × IsToken t tokens.colon s × Begins s x u ×
-    BeginsPairs true u ps r ×
-    Complete levels (trees.map (pairs_before qs (trees.tree_pair w x ps))) r v
-Complete (in_values qs k ∷ levels) w t v = (ps : TreePairs) × (r : List ℕ) ×
-    BeginsPairs true t ps r ×
-    Complete levels (trees.map (pairs_before qs (trees.tree_pair k w ps))) r v
-Complete (in_tag n ∷ levels) w t v = (r : List ℕ) × IsToken t tokens.end_tag r ×
-    Complete levels (trees.tag n w) r v
+-- behind an item that means w in these levels, where m more may be open, the text t completes the
+-- tree v
+abbrev pub Complete : ℕ → List Around → Tree → List ℕ → Tree → Type 0
+Complete m [] w t v = (behind_blanks t ≡ Some []) × (v ≡ w)
+Complete m (in_array ws ∷ levels) w t v = (vs : Trees) × (r : List ℕ) ×
+    BeginsItems m true t vs r ×
+    Complete (suc m) levels (trees.array (trees_before ws (trees.tree w vs))) r v
+Complete m (in_keys qs ∷ levels) w t v = (x : Tree) × (s : List ℕ) × (u : List ℕ) ×
+    (ps : TreePairs) × (r : List ℕ) × IsToken t tokens.colon s × Begins m s x u ×
+    BeginsPairs m true u ps r ×
+    Complete (suc m) levels (trees.map (pairs_before qs (trees.tree_pair w x ps))) r v
+Complete m (in_values qs k ∷ levels) w t v = (ps : TreePairs) × (r : List ℕ) ×
+    BeginsPairs m true t ps r ×
+    Complete (suc m) levels (trees.map (pairs_before qs (trees.tree_pair k w ps))) r v
+Complete m (in_tag n ∷ levels) w t v = (r : List ℕ) × IsToken t tokens.end_tag r ×
+    Complete (suc m) levels (trees.tag n w) r v
 
--- where this is due in these levels, the text t completes the tree v
-abbrev pub Completes : List Around → Await → List ℕ → Tree → Type 0
-Completes levels item t v = (w : Tree) × (r : List ℕ) × Begins t w r × Complete levels w r v
-Completes levels array_part t v = (vs : Trees) × (r : List ℕ) × BeginsItems false t vs r ×
-    Complete levels (trees.array vs) r v
-Completes levels map_part t v = (ps : TreePairs) × (r : List ℕ) × BeginsPairs false t ps r ×
-    Complete levels (trees.map ps) r v
-Completes levels (behind w) t v = Complete levels w t v
+-- where this is due in these levels, the text t completes the tree v within l levels
+abbrev pub Completes : ℕ → List Around → Await → List ℕ → Tree → Type 0
+Completes l levels item t v = (m : ℕ) × (l ≡ m + length levels) × (w : Tree) × (r : List ℕ) ×
+    Begins m t w r × Complete m levels w r v
+Completes l levels array_part t v = (m : ℕ) × (l ≡ suc m + length levels) × (vs : Trees) ×
+    (r : List ℕ) × BeginsItems m false t vs r × Complete (suc m) levels (trees.array vs) r v
+Completes l levels map_part t v = (m : ℕ) × (l ≡ suc m + length levels) × (ps : TreePairs) ×
+    (r : List ℕ) × BeginsPairs m false t ps r × Complete (suc m) levels (trees.map ps) r v
+Completes l levels (behind w) t v = (m : ℕ) × (l ≡ m + length levels) × Complete m levels w t v
 
 -- a token leads from what is due in some levels to what is due in others: a text that it begins
--- completes there just what the text behind it completes here
+-- completes there just what the text behind it completes here, where there is room
 pub record Leads (levels : List Around) (due : Await) (k : Token) (more : List Around)
     (next : Await) : Type 0 where
-  pub on : (t r : List ℕ) (v : Tree) → IsToken t k r → Completes levels due t v →
-      Completes more next r v
-  pub back : (t r : List ℕ) (v : Tree) → IsToken t k r → Completes more next r v →
-      Completes levels due t v
+  pub on : (l : ℕ) (t r : List ℕ) (v : Tree) → IsToken t k r → Completes l levels due t v →
+      Completes l more next r v
+  pub back : (l : ℕ) (t r : List ℕ) (v : Tree) → IsRoom l (length levels) due → IsToken t k r →
+      Completes l more next r v → Completes l levels due t v
 
 -- no text that it begins completes a tree that is read within the limit
 abbrev pub IsMisplaced : List Around → Await → Token → ℕ → NotationError → Type 0
-IsMisplaced levels due k limit e = (t r : List ℕ) (v : Tree) → IsToken t k r →
-    Completes levels due t v → MayRefuse limit e v
+IsMisplaced levels due k limit e = (l : ℕ) (t r : List ℕ) (v : Tree) → IsToken t k r →
+    Completes l levels due t v → MayRefuse limit e l
 
 -- this is due in these levels where t is left of a text that denotes just what is completed here
-pub record IsReached (text : List ℕ) (levels : List Around) (due : Await) (t : List ℕ) :
-    Type 0 where
-  pub on : (v : Tree) → Denotes text v → Completes levels due t v
-  pub back : (v : Tree) → Completes levels due t v → Denotes text v
+pub record IsReached (text : List ℕ) (limit : ℕ) (levels : List Around) (due : Await)
+    (t : List ℕ) : Type 0 where
+  pub on : (l : ℕ) (v : Tree) → DenotesWithin l text v → Completes l levels due t v
+  pub back : (v : Tree) → Completes limit levels due t v → DenotesWithin limit text v

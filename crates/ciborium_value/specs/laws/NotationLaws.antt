@@ -1,14 +1,15 @@
 -- What holds of texts of diagnostic notation (RFC 8949, section 8).
 use Rattle.std.specs.Prelude.{◌≡◌, ℕ, Bool, List}
-use Rattle.ciborium_value.specs.Denotes.{Denotes}
+use Rattle.ciborium_value.specs.Denotes.{Denotes, DenotesWithin, depth}
 use Rattle.ciborium_value.specs.Notation.{styled_notation}
 use Rattle.ciborium_value.specs.ProperTrees.{IsProperTree}
 use Rattle.ciborium_value.specs.Tree.{Tree}
 
 -- what is printed of a tree that a program can hold, on one line or over lines, denotes it
+-- within as many levels as it nests
 abbrev pub PrintedIsDenoted : Type 0
 PrintedIsDenoted = (is_indented : Bool) (v : Tree) → IsProperTree v →
-    Denotes (styled_notation is_indented v) v
+    DenotesWithin (depth v) (styled_notation is_indented v) v
 
 -- a text denotes one tree at most
 abbrev pub OneTreeIsDenoted : Type 0

@@ -4,7 +4,6 @@ ghost use Rattle.std.specs.Prelude.{◌≡◌, ℕ, Some};
 ghost use Rattle.ciborium_value.specs.Denotes.{MayRefuse};
 ghost use Rattle.ciborium_value.specs.RefusalMessages.{notation_error_message};
 ghost use Rattle.ciborium_value.specs.RefusalMessages.{notation_fault_message};
-ghost use Rattle.ciborium_value.specs.Tree.{Tree};
 ghost use Rattle.ciborium_value.specs.Denotes.{Memory};
 
 use std::alloc::{AllocError, AllocFailed};
@@ -87,7 +86,7 @@ impl NotationError {
     // The error whose place is counted from the end of a text of this length, counted from its
     // front.
     pub(super) fn from_front(self, length: usize) -> NotationError
-        ensures { (limit : ℕ) (v : Tree) → MayRefuse limit self v → MayRefuse limit result v }
+        ensures { (limit l : ℕ) → MayRefuse limit self l → MayRefuse limit result l }
     {
         match self {
             NotationError::At(left, fault) => {

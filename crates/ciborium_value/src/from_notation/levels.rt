@@ -71,8 +71,8 @@ impl Levels {
     pub fn end(&self, due: Due) -> Result<Value, NotationError>
         ensures ok { IfOk result (λ v. (open_in self.now ≡ []) ×
             (await_of due ≡ behind (tree_of v))) }
-        ensures refused { IfErr result (λ _. (t : List ℕ) (v : Tree) → behind_blanks t ≡ Some [] →
-            ¬ Completes (open_in self.now) (await_of due) t v) }
+        ensures refused { IfErr result (λ _. (l : ℕ) (t : List ℕ) (v : Tree) →
+            behind_blanks t ≡ Some [] → ¬ Completes l (open_in self.now) (await_of due) t v) }
     {
         let Due::Behind(value) = due else {
             return Err(NotationError::At(0, NotationFault::Item));

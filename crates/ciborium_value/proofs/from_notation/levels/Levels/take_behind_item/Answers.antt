@@ -14,5 +14,5 @@ returns-in_ok-push-in-EndArray-clause-taken c =
     array_end c.args.items.items c.args.value _ c.push-in-EndArray.new.self c.args.token (search rules) (search rules)
 
 pub returns-in_default-clause-refused : goal.returns-in_default-clause-refused
-returns-in_default-clause-refused c = λ t r v at (vs, z, m, more).
-    other-behind-item (token_read c.args.token) t r z vs (search rules) (search rules) at m
+returns-in_default-clause-refused c = λ l t r v at (m, i, (vs, z, b, more)).
+    other-behind-item m (token_read c.args.token) t r z vs (search rules) (search rules) at b

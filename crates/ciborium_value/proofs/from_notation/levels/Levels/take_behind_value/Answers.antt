@@ -14,5 +14,5 @@ returns-in_ok-push-in-EndMap-clause-taken c = map_end c.args.pairs.items c.args.
     c.push-in-EndMap.new.self c.args.token (search rules) (search rules)
 
 pub returns-in_default-clause-refused : goal.returns-in_default-clause-refused
-returns-in_default-clause-refused c = λ t r v at (vs, z, m, more).
-    other-behind-value (token_read c.args.token) t r z vs (search rules) (search rules) at m
+returns-in_default-clause-refused c = λ l t r v at (m, i, (vs, z, b, more)).
+    other-behind-value m (token_read c.args.token) t r z vs (search rules) (search rules) at b
