@@ -1,13 +1,16 @@
 -- One more line of notation is read, and its encoding is written.
 use Rattle.std.proofs.Common.{◌≡◌, ℕ, ◌+◌, List, [], ◌∷◌, ◌++◌, length, Bool, true, false, Option, Some, refl, sym, ap}
-use Rattle.std.proofs.Common.{Result, Ok, Err, IfOk, subst, ◌∙◌, append-nil, arith}
+use Rattle.std.proofs.Common.{Result, Ok, Err, IfOk, subst, ◌∙◌, ◌≢◌, append-nil, arith, inl}
 use Rattle.std.proofs.lemmas.List.{flat_map_more, length_push}
 use Rattle.std.specs.Io.BufRead.{drop_through}
 use Rattle.std.specs.List.{flat_map}
-use Rattle.ciborium_value.specs.Denotes.{Denotes}
+use Rattle.ciborium_value.specs.Denotes.{DenotesWithin}
 use Rattle.ciborium_value.specs.Encoding.{encoding}
 use Rattle.ciborium_value.specs.Tree.{Tree}
-use Rattle.cbor.specs.Encoded.{TellsNoTree}
+use Rattle.ciborium_value.specs.RefusalMessages.{notation_error_message}
+use Rattle.ciborium_value.specs.declared.from_notation.error.NotationError.{NotationError}
+use Rattle.ciborium_value.specs.declared.from_notation.error.NotationError.TheVariants.{At, Memory}
+use Rattle.cbor.specs.Encoded.{RefusesLine, TellsNoTree}
 use Rattle.cbor.specs.EncodedLines.{AreAllEncoded, AreEncoded, AreEncodedUpTo, IsEncodedUpToRefused}
 use Rattle.cbor.specs.Lines as lines
 use Rattle.cbor.specs.Lines.{AreLines, text_line}
@@ -15,20 +18,21 @@ use Rattle.cbor.specs.SortedLines.{refused_line_text}
 use Rattle.cbor.proofs.AnsweredLines.{IsHeld, LineIsRead, line-ahead, none-ahead}
 
 -- the lines of b so far are encoded behind w, the rest is left, and its first line has this number
-abbrev pub AreEncodedSoFar : List ℕ → List ℕ → ℕ → Option (List ℕ) → Option (List ℕ) → Type 0
-AreEncodedSoFar b w n left held = (trees : List Tree) × (rest : List ℕ) × (left ≡ Some rest) ×
-    AreEncodedUpTo b w rest trees held × (n ≡ length trees + 1)
+abbrev pub AreEncodedSoFar : ℕ → List ℕ → List ℕ → ℕ → Option (List ℕ) → Option (List ℕ) → Type 0
+AreEncodedSoFar limit b w n left held = (trees : List Tree) × (rest : List ℕ) × (left ≡ Some rest) ×
+    AreEncodedUpTo limit b w rest trees held × (n ≡ length trees + 1)
 
-pub none-encoded : (b w : List ℕ) (left held : Option (List ℕ)) → left ≡ Some b → held ≡ Some w →
-    AreEncodedSoFar b w 1 left held
-none-encoded b w left held e f = ([], b, e, (lines.none, f ∙ ap Some (sym (append-nil w))), refl)
+pub none-encoded : (limit : ℕ) (b w : List ℕ) (left held : Option (List ℕ)) → left ≡ Some b → held ≡ Some w →
+    AreEncodedSoFar limit b w 1 left held
+none-encoded limit b w left held e f = ([], b, e, (lines.none, f ∙ ap Some (sym (append-nil w))), refl)
 
-module _ (b w : List ℕ) (n : ℕ) (left next held kept : Option (List ℕ)) (line : List ℕ) (more : Bool)
-    (before : AreEncodedSoFar b w n left held) (read : LineIsRead left next line more) (keeps : IsHeld held kept) where
+module _ (limit : ℕ) (b w : List ℕ) (n : ℕ) (left next held kept : Option (List ℕ)) (line : List ℕ)
+    (more : Bool) (before : AreEncodedSoFar limit b w n left held) (read : LineIsRead left next line more)
+    (keeps : IsHeld held kept) where
   -- a line more denotes a tree, whose encoding is put
   pub one-more-encoded : (now : Option (List ℕ)) (shown : List ℕ) (v : Tree) → more ≡ true → shown ≡ line →
-      Denotes shown v → ((ys : List ℕ) → kept ≡ Some ys → now ≡ Some (ys ++ encoding v)) →
-      AreEncodedSoFar b w (n + 1) next now
+      DenotesWithin limit shown v → ((ys : List ℕ) → kept ≡ Some ys → now ≡ Some (ys ++ encoding v)) →
+      AreEncodedSoFar limit b w (n + 1) next now
   one-more-encoded now shown v m same is wrote =
       let (trees, rest, e, (a, f), count) = before in
       let h = line-ahead left next line more rest read m e in
@@ -37,28 +41,29 @@ module _ (b w : List ℕ) (n : ℕ) (left next held kept : Option (List ℕ)) (l
         drop_through 10 rest,
         h.2,
         (
-          lines.next rest trees v a h.0 (subst (λ (l : List ℕ). Denotes l v) (same ∙ h.1) is),
+          lines.next rest trees v a h.0 (subst (λ (l : List ℕ). DenotesWithin limit l v) (same ∙ h.1) is),
           wrote (w ++ flat_map encoding trees) (keeps _ f) ∙ ap Some (flat_map_more encoding w trees v),
         ),
         omega (arith, size, count),
       )
 
   -- no line is left
-  pub all-encoded : more ≡ false → AreAllEncoded b w kept
+  pub all-encoded : more ≡ false → AreAllEncoded limit b w kept
   all-encoded m =
       let (trees, rest, e, (a, f), count) = before in (
         trees,
         (
-          subst (λ (r : List ℕ). AreLines Denotes b r trees) (none-ahead left next line more rest read m e) a,
+          subst (λ (r : List ℕ). AreLines (DenotesWithin limit) b r trees)
+              (none-ahead left next line more rest read m e) a,
           keeps _ f,
         ),
       )
 
   -- the next line is refused
-  pub one-refused : (limit : ℕ) (shown reason told message : List ℕ) → more ≡ true → shown ≡ line →
+  pub one-refused : (shown reason told message : List ℕ) → more ≡ true → shown ≡ line →
       TellsNoTree limit shown reason → told ≡ reason → message ≡ text_line (refused_line_text n told) →
       IsEncodedUpToRefused limit b w kept message
-  one-refused limit shown reason told message m same tells is written =
+  one-refused shown reason told message m same tells is written =
       let (trees, rest, e, (a, f), count) = before in
       let h = line-ahead left next line more rest read m e in (
         trees,
@@ -83,3 +88,10 @@ pub encoded-told : {E : Type 0} (m n : ℕ) (b w : List ℕ) (r : Result Bool E)
 encoded-told m n b w (Ok all) after message same h =
     (message, subst (λ (k : ℕ). AreEncoded k b w all after message) same h)
 encoded-told m n b w (Err x) after message same h = tt
+
+-- the text is the message of an error that refuses the line
+pub told-no-tree : (limit : ℕ) (line shown text : List ℕ) (e : NotationError) → e ≢ Memory → shown ≡ line →
+    RefusesLine limit shown e → text ≡ notation_error_message e → TellsNoTree limit line text
+told-no-tree limit line shown text Memory other same refuses is = absurd (other refl)
+told-no-tree limit line shown text (At p fault) other same refuses is =
+    inl (p, fault, subst (λ (l : List ℕ). RefusesLine limit l (At p fault)) same refuses, is)

@@ -3,7 +3,7 @@
 use Rattle.std.specs.Prelude.{◌≡◌, ◌⊎◌, ℕ, List, ◌++◌, codes, decimal}
 use Rattle.std.specs.Str.{IsValidUpTo}
 use Rattle.hex.specs.Hex.{encode_lower}
-use Rattle.ciborium_value.specs.Denotes.{Denotes, MayRefuse}
+use Rattle.ciborium_value.specs.Denotes.{DenotesWithin, MayRefuse}
 use Rattle.ciborium_value.specs.Encoding.{encoding}
 use Rattle.ciborium_value.specs.RefusalMessages.{notation_error_message}
 use Rattle.ciborium_value.specs.Tree.{Tree}
@@ -11,13 +11,15 @@ use Rattle.ciborium_value.specs.declared.from_notation.error.NotationError.{Nota
 use Rattle.ciborium_value.specs.declared.from_notation.error.NotationError.TheVariants.{At}
 use Rattle.ciborium_value.specs.declared.from_notation.error.NotationFault.{NotationFault}
 
--- a line denotes a tree, and the text is its encoding in lower-case hex (section 4.1)
-abbrev pub IsEncodingText : List ℕ → List ℕ → Type 0
-IsEncodingText line text = (v : Tree) × Denotes line v × (text ≡ encode_lower (encoding v))
+-- a line denotes a tree within so many levels, and the text is its encoding in lower-case hex
+-- (section 4.1)
+abbrev pub IsEncodingText : ℕ → List ℕ → List ℕ → Type 0
+IsEncodingText limit line text = (v : Tree) × DenotesWithin limit line v ×
+    (text ≡ encode_lower (encoding v))
 
--- this error refuses a line within so many levels: it refuses each tree that the line denotes
+-- this error refuses a line within so many levels: however many it denotes a tree within
 abbrev pub RefusesLine : ℕ → List ℕ → NotationError → Type 0
-RefusesLine limit line e = (v : Tree) → Denotes line v → MayRefuse limit e v
+RefusesLine limit line e = (l : ℕ) (v : Tree) → DenotesWithin l line v → MayRefuse limit e l
 
 -- the text that says that the longest front of a line that is UTF-8 has n bytes
 abbrev pub not_utf8_text : ℕ → List ℕ

@@ -50,7 +50,7 @@ IsOkText (Form order limit) line text = IsFormText order line limit text
 IsOkText (Notation layout limit) line text = IsNotationText layout line limit text
 IsOkText Dump line text = IsDumpText line text
 IsOkText Exact line text = IsExactText line text
-IsOkText (Encode limit) line text = IsEncodingText line text
+IsOkText (Encode limit) line text = IsEncodingText limit line text
 
 -- it is not, and the text is the answer that says why
 abbrev pub IsRefusedText : Reading → List ℕ → List ℕ → Type 0

@@ -1,7 +1,7 @@
 //! Lines of diagnostic notation.
 
 ghost use Rattle.std.specs.Prelude.{◌≡◌, IfNone, IfOk, IfSome, OnOk};
-ghost use Rattle.ciborium_value.specs.Denotes.{Denotes};
+ghost use Rattle.ciborium_value.specs.Denotes.{DenotesWithin};
 ghost use Rattle.ciborium_value.specs.RefusalMessages.{notation_error_message};
 ghost use Rattle.ciborium_value.specs.View.{tree_of};
 ghost use Rattle.cbor.specs.Encoded.{TellsNoTree, not_utf8_text};
@@ -25,7 +25,7 @@ pub fn read_notation(
     text: &mut Vec<u8>,
 ) -> Result<Option<Value>, AllocError>
     ensures value { IfOk result (λ found. IfSome found (λ value.
-        Denotes line.now (tree_of value))) }
+        DenotesWithin limit line.now (tree_of value))) }
     ensures refused { IfOk result (λ found. IfNone found
         (TellsNoTree limit line.now text.new.items)) }
 {

@@ -122,7 +122,7 @@ pub fn run<R: Read, O: Opener, W: Write, E: Write>(
     ensures encoded { (limit : ℕ) (b w : List ℕ) →
         AskFor (map string_bytes words.now) (Encode limit) → R.remaining input.old ≡ Some b →
         W.contents output.old ≡ Some w → result ≡ 0 →
-        AreAllEncoded b w (W.contents output.new) }
+        AreAllEncoded limit b w (W.contents output.new) }
     ensures told { (topic : Topic) (w : List ℕ) →
         AskFor (map string_bytes words.now) (Tell topic) → W.contents output.old ≡ Some w →
         result ≡ 0 → W.contents output.new ≡ Some (w ++ topic_text topic) }

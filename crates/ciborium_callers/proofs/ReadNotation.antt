@@ -1,6 +1,6 @@
 -- What is printed of a value is read as that value.
 use Rattle.std.proofs.Common.{◌≡◌, ℕ, List, IfErr, IfOk, Ok, Err, Result, sym}
-use Rattle.ciborium.specs.Denotes.{Denotes, MayRefuse}
+use Rattle.ciborium.specs.Denotes.{Denotes, DenotesWithin, MayRefuse}
 use Rattle.ciborium.specs.Tree.{Tree}
 use Rattle.ciborium.specs.View.{tree_of}
 use Rattle.ciborium_value.specs.declared.from_notation.error.NotationError.{NotationError}
@@ -11,7 +11,7 @@ pub same_read : (r : Result Value NotationError) (t : List ℕ) (v : Tree) → D
 same_read (Ok x) t v d only = sym (only v d)
 same_read (Err e) t v d only = tt
 
-pub may_refuse : (r : Result Value NotationError) (t : List ℕ) (v : Tree) (limit : ℕ) → Denotes t v →
-    IfErr r (λ e. (w : Tree) → Denotes t w → MayRefuse limit e w) → IfErr r (λ e. MayRefuse limit e v)
-may_refuse (Ok x) t v limit d refused = tt
-may_refuse (Err e) t v limit d refused = refused v d
+pub may_refuse : (r : Result Value NotationError) (t : List ℕ) (l : ℕ) (v : Tree) (limit : ℕ) → DenotesWithin l t v →
+    IfErr r (λ e. (m : ℕ) (w : Tree) → DenotesWithin m t w → MayRefuse limit e m) → IfErr r (λ e. MayRefuse limit e l)
+may_refuse (Ok x) t l v limit d refused = tt
+may_refuse (Err e) t l v limit d refused = refused l v d

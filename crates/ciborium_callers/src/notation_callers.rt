@@ -1,6 +1,6 @@
 //! Callers that show values, with contracts.
 ghost use Rattle.std.specs.Prelude.{◌≡◌, ◌++◌, IfErr, IfOk, codes, string_bytes};
-ghost use Rattle.ciborium.specs.Denotes.{MayRefuse};
+ghost use Rattle.ciborium.specs.Denotes.{MayRefuse, depth};
 ghost use Rattle.ciborium.specs.Notation.{indented_notation, notation};
 ghost use Rattle.ciborium.specs.View.{tree_of};
 
@@ -35,7 +35,7 @@ pub fn tell(alloc: Global, value: &Value) -> Result<String, AllocError>
 /// for nothing but its levels or memory.
 pub fn print_and_read(alloc: Global, value: &Value, limit: usize) -> Result<Value, NotationError>
     ensures same { IfOk result (λ again. tree_of again ≡ tree_of value.now) }
-    ensures refused { IfErr result (λ error. MayRefuse limit error (tree_of value.now)) }
+    ensures refused { IfErr result (λ error. MayRefuse limit error (depth (tree_of value.now))) }
 {
     // That a program holds the value is what the law asks.
     let _ = encoded_size(value);
@@ -53,7 +53,7 @@ pub fn print_lines_and_read(
     limit: usize,
 ) -> Result<Value, NotationError>
     ensures same { IfOk result (λ again. tree_of again ≡ tree_of value.now) }
-    ensures refused { IfErr result (λ error. MayRefuse limit error (tree_of value.now)) }
+    ensures refused { IfErr result (λ error. MayRefuse limit error (depth (tree_of value.now))) }
 {
     let _ = encoded_size(value);
     printed_is_denoted();

@@ -13,9 +13,9 @@ use Rattle.ciborium_value.specs.Tokens.{Token}
 use Rattle.ciborium_value.specs.Tree as trees
 use Rattle.ciborium_value.specs.Tree.{Tree}
 use Rattle.ciborium_value.specs.View.{pair_trees, tree_of, tree_pairs_from, trees_from}
-use Rattle.ciborium_value.specs.inner.ReadTokens.{Around, Await, Leads, around_of, behind, in_array, in_keys, in_tag, item}
-use Rattle.ciborium_value.specs.inner.ReadTokens.{Completes, IsMisplaced, IsRoom, opens, array_part, await_of, in_values}
-use Rattle.ciborium_value.specs.inner.ReadTokens.{map_part, token_read}
+use Rattle.ciborium_value.specs.inner.ReadTokens.{Around, Await, Leads, around_of, behind, in_array, in_keys, item}
+use Rattle.ciborium_value.specs.inner.ReadTokens.{Completes, IsMisplaced, IsRoom, array_part, await_of, in_tag}
+use Rattle.ciborium_value.specs.inner.ReadTokens.{in_values, map_part, opens, token_read}
 use Rattle.ciborium_value.specs.declared.from_notation.error.NotationError.{NotationError}
 use Rattle.ciborium_value.specs.Denotes.{At}
 use Rattle.ciborium_value.specs.declared.from_notation.error.NotationFault.TheVariants.{TooDeep}

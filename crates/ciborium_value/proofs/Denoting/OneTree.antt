@@ -58,4 +58,4 @@ mutual
       )
 
 pub one_tree_is_denoted : OneTreeIsDenoted
-one_tree_is_denoted t v w (l, r, d, e) (l', r', d', e') = (one-item l l' t r r' v w d d').0
+one_tree_is_denoted t v w (l, (r, d, e)) (l', (r', d', e')) = (one-item l l' t r r' v w d d').0

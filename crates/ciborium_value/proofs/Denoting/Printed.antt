@@ -13,7 +13,8 @@ use Rattle.std.proofs.lemmas.Fmt.{decimal_is_IsNumeral_wide}
 use Rattle.std.proofs.lemmas.Str.{encode_ascii}
 use Rattle.hex.specs.Hex.{encode_lower, encode_with, lower_digits}
 use Rattle.ciborium_value.specs.Denotes.{Begins, BeginsItems, BeginsPairs, DenotesWithin, IsSeparated, IsToken}
-use Rattle.ciborium_value.specs.Denotes.{alone, depth, depth_of_items, depth_of_pairs, item, listed, mapped, no_item, no_pair, pair, tagged}
+use Rattle.ciborium_value.specs.Denotes.{alone, depth, depth_of_items, depth_of_pairs, item, listed}
+use Rattle.ciborium_value.specs.Denotes.{mapped, no_item, no_pair, pair, tagged}
 use Rattle.ciborium_value.specs.Notation.{comma as comma_text, escape, escaped, last_break, line_break, needs_escape}
 use Rattle.ciborium_value.specs.Notation.{notation_on, notations_on, one_level_more, pair_notations_on}
 use Rattle.ciborium_value.specs.ProperTrees.{AreProperTreePairs, AreProperTrees, IsProperTree}

@@ -247,8 +247,11 @@ leads-comma levels ws w = record {
 pub leads-end : (levels : List Around) (ws : List Tree) (w : Tree) →
     Leads (in_array ws ∷ levels) (behind w) end_array levels (behind (trees.array (trees_from (ws ++ w ∷ []))))
 leads-end levels ws w = record {
-  on = λ l t r x at (m, i, (vs, z, b, c)). let (e, f) = items-end m true t r z vs at b in (suc m, omega (arith, i),
-      moved levels x refl (ap (λ y. trees.array (trees_before ws (trees.tree w y))) e ∙ whole) f c);
+  on = λ l t r x at (m, i, (vs, z, b, c)). let (e, f) = items-end m true t r z vs at b in (
+    suc m,
+    omega (arith, i),
+    moved levels x refl (ap (λ y. trees.array (trees_before ws (trees.tree w y))) e ∙ whole) f c,
+  );
   back = λ l t r x h at (m, i, c). let (k, j) = room l m (length levels) i h in
       (k, omega (arith, i, j), (trees.no_trees, r, no_item k true t r at, moved levels x j (sym whole) refl c));
 }
@@ -279,8 +282,11 @@ leads-next-key levels qs k w = record {
 pub leads-map-end : (levels : List Around) (qs : List (Tree × Tree)) (k w : Tree) →
     Leads (in_values qs k ∷ levels) (behind w) end_map levels (behind (trees.map (tree_pairs_from (qs ++ (k, w) ∷ []))))
 leads-map-end levels qs k w = record {
-  on = λ l t r x at (m, i, (ps, z, b, c)). let (e, f) = pairs-end m true t r z ps at b in (suc m, omega (arith, i),
-      moved levels x refl (ap (λ y. trees.map (pairs_before qs (trees.tree_pair k w y))) e ∙ whole) f c);
+  on = λ l t r x at (m, i, (ps, z, b, c)). let (e, f) = pairs-end m true t r z ps at b in (
+    suc m,
+    omega (arith, i),
+    moved levels x refl (ap (λ y. trees.map (pairs_before qs (trees.tree_pair k w y))) e ∙ whole) f c,
+  );
   back = λ l t r x h at (m, i, c). let (n, j) = room l m (length levels) i h in
       (n, omega (arith, i, j), (trees.no_tree_pairs, r, no_pair n true t r at, moved levels x j (sym whole) refl c));
 }

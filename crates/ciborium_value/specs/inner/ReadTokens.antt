@@ -1,6 +1,7 @@
 -- What reading diagnostic notation keeps between two tokens, and what it promises of them.
 use Rattle.std.specs.Prelude.{◌≡◌, ℕ, suc, ◌^◌, ◌+◌, ◌≤◌, ◌<◌, List, [], ◌∷◌, length}
-use Rattle.std.specs.Prelude.{Option, Some, None, ◌==◌, if◌then◌else◌, true, Bool, false, map, reverse}
+use Rattle.std.specs.Prelude.{Option, Some, None, ◌==◌, if◌then◌else◌, true, Bool, false, map}
+use Rattle.std.specs.Prelude.{reverse}
 use Rattle.ciborium_value.specs.Denotes.{Begins, BeginsItems, BeginsPairs, DenotesWithin}
 use Rattle.ciborium_value.specs.Denotes.{IsToken, MayRefuse}
 use Rattle.ciborium_value.specs.Notation.{needs_escape}

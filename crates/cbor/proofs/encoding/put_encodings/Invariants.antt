@@ -8,5 +8,5 @@ use Rattle.cbor.proofs.encoding.put_encodings.Given as goal
 abbrev pub invariant-lines : goal.invariant-lines
 invariant-lines g l = (b w : List ℕ) → reader_remaining g.R.Read.remaining l.initial.reader ≡ Some b →
     append_known (g.W.Write.contents l.initial.output) l.initial.waiting.items ≡ Some w →
-    AreEncodedSoFar b w l.number (reader_remaining g.R.Read.remaining l.reader)
+    AreEncodedSoFar l.limit b w l.number (reader_remaining g.R.Read.remaining l.reader)
     (append_known (g.W.Write.contents l.output) l.waiting.items)

@@ -14,27 +14,27 @@ tokens-init c = (
 )
 
 pub returns-in_default-clause-refused : goal.returns-in_default-clause-refused
-returns-in_default-clause-refused c = reached-wrong c.args.text.now c.args.limit (open_in c.tokens.levels) (await_of c.tokens.due)
-    c.tokens.rest.now c.tokens.invariant.0
+returns-in_default-clause-refused c = reached-wrong c.args.text.now c.args.limit (open_in c.tokens.levels)
+    (await_of c.tokens.due) c.tokens.rest.now c.tokens.invariant.0
     (no-blanks (open_in c.tokens.levels) (await_of c.tokens.due) c.tokens.rest.now (search rules))
 
 pub returns-then-is_empty-clause-ok : goal.returns-then-is_empty-clause-ok
-returns-then-is_empty-clause-ok c = end_ok c.args.text.now c.args.limit (open_in c.tokens.levels) (await_of c.tokens.due)
-    c.tokens.rest.now c.end.result c.tokens.invariant.0
+returns-then-is_empty-clause-ok c = end_ok c.args.text.now c.args.limit (open_in c.tokens.levels)
+    (await_of c.tokens.due) c.tokens.rest.now c.end.result c.tokens.invariant.0
     (blanks_end c.tokens.rest.now c.in-Some.front.now (search rules) (search rules)) c.end.ensures.ok
 
 pub returns-then-is_empty-clause-only : goal.returns-then-is_empty-clause-only
-returns-then-is_empty-clause-only c = end_only c.args.text.now c.args.limit (open_in c.tokens.levels) (await_of c.tokens.due)
-    c.tokens.rest.now c.end.result c.tokens.invariant.0 c.end.ensures.ok
+returns-then-is_empty-clause-only c = end_only c.args.text.now c.args.limit (open_in c.tokens.levels)
+    (await_of c.tokens.due) c.tokens.rest.now c.end.result c.tokens.invariant.0 c.end.ensures.ok
 
 pub returns-then-is_empty-clause-refused : goal.returns-then-is_empty-clause-refused
-returns-then-is_empty-clause-refused c = end_refused c.args.text.now c.args.limit (open_in c.tokens.levels) (await_of c.tokens.due)
-    c.tokens.rest.now c.end.result c.tokens.invariant.0
+returns-then-is_empty-clause-refused c = end_refused c.args.text.now c.args.limit (open_in c.tokens.levels)
+    (await_of c.tokens.due) c.tokens.rest.now c.end.result c.tokens.invariant.0
     (blanks_end c.tokens.rest.now c.in-Some.front.now (search rules) (search rules)) c.end.ensures.refused
 
 pub returns-in-Err-clause-refused : goal.returns-in-Err-clause-refused
-returns-in-Err-clause-refused c = token_refused c.args.text.now c.args.limit (open_in c.tokens.levels) (await_of c.tokens.due)
-    c.tokens.rest.now c.in-Some.front.now c.in-Err.error c.tokens.invariant.0 (search rules)
+returns-in-Err-clause-refused c = token_refused c.args.text.now c.args.limit (open_in c.tokens.levels)
+    (await_of c.tokens.due) c.tokens.rest.now c.in-Some.front.now c.in-Err.error c.tokens.invariant.0 (search rules)
     (search rules) (search rules)
 
 pub returns-in-Err-take-clause-refused : goal.returns-in-Err-take-clause-refused

@@ -24,6 +24,6 @@ returns-then-is_full-clause-refused c = too_deep c.args.self.now.levels.items c.
     c.args.place (search rules) (search rules)
 
 pub returns-in_default-clause-refused : goal.returns-in_default-clause-refused
-returns-in_default-clause-refused c = λ l t r v at (m, i, w, z, d, more). no_item_begun c.args.token c.in_default.not-Leaf
-    c.in_default.not-BeginTag c.in_default.not-BeginArray c.in_default.not-BeginMap m r z w
-    (begun (token_read c.args.token) m t r z w at d)
+returns-in_default-clause-refused c = λ l t r v at (m, i, w, z, d, more).
+    no_item_begun c.args.token c.in_default.not-Leaf c.in_default.not-BeginTag c.in_default.not-BeginArray
+    c.in_default.not-BeginMap m r z w (begun (token_read c.args.token) m t r z w at d)
