@@ -5,8 +5,9 @@ are read by `typed_model`; here stand the other forms of lines.
     python3 line_model.py answer < LINES    prints `LINE = ANSWER` of each line, or the line where it is not answered
     python3 line_model.py stored FILE       compares the lines of FILE, each `LINE = ANSWER`, with the model's answers
 
-Not answered are how many reads a type takes other than `Value`, how many writes, how many nodes a comparison visits, and calls that fail in turn where
-they are refused anyway.
+Not answered are well-formed `at` lines, `growth`, `asked` but of a `Value` that is read, how many reads a type takes
+other than `Value`, how many writes, how many nodes a comparison visits, and calls that fail in turn where they are
+refused anyway.
 """
 
 import re

@@ -1,22 +1,23 @@
 -- The notation that shows the very heads of an item is appended item by item.
 use Rattle.std.proofs.Common.{◌≡◌, ℕ, ◌+◌, ◌==◌, Bool, true, false, List, [], ◌∷◌, ◌++◌, length, codes}
 use Rattle.std.proofs.Common.{if◌then◌else◌, inl, inr, refl, sym, ap, ◌∙◌, subst, arith, append-nil, append_assoc}
-use Rattle.std.proofs.Common.{drop, add-one, decimal, OnOk, Result, Ok, Err, is_ok, Some, ◌<◌, length-append}
+use Rattle.std.proofs.Common.{drop, add-one, decimal, OnOk, Result, Ok, Err, is_ok, ◌<◌, ◌≤◌, length-append}
+use Rattle.std.proofs.Common.{take-append-drop}
+use Rattle.std.proofs.lemmas.List.{append_cancel_right}
 use Rattle.std.proofs.lemmas.Bool.{eqb-true}
 use Rattle.std.proofs.lemmas.Bool.Decides.{eqb_tells}
 use Rattle.hex.specs.Hex.{encode_lower}
 use Rattle.ciborium_ll.specs.Head.{IsFloat, IsHead, break_byte, open_byte}
 use Rattle.ciborium_ll.specs.Header.{IsFloatOf, SpellsHeader}
-use Rattle.ciborium_ll.specs.ItemHeads.{HasRead, IsHeadRead, unread}
-use Rattle.ciborium_ll.specs.Levels.{IsPayloadOf}
+use Rattle.ciborium_ll.specs.ItemHeads.{HasRead, IsHeadRead, open_in, unread, was_read}
+use Rattle.ciborium_ll.specs.Levels.{AreItem, EndAll, IsPayloadOf}
 use Rattle.ciborium_ll.specs.StringRefusal.{IsAllowed, StringKind, of_bytes, of_text, string_major}
-use Rattle.ciborium_ll.specs.declared.header.Header.{Header}
 use Rattle.ciborium_ll.specs.declared.header.Header.TheVariants as header
 use Rattle.ciborium_ll.specs.declared.item_heads.ItemHead.{ItemHead}
 use Rattle.ciborium_ll.specs.declared.item_heads.ItemHeads.{ItemHeads}
 use Rattle.cbor.specs.Exact.{AreChunksExactly, AreExactly, AreOpenChunks, AreOpenParts, HasPassed, IsExactly}
 use Rattle.cbor.specs.Exact.{IsItemPushed, IsPushed, IsStringExactly, empty_text, head_bytes, lead, mark, open_text}
-use Rattle.cbor.specs.Exact.{IsFrontPushed, TellsNoItem, kind_of, payload_text}
+use Rattle.cbor.specs.Exact.{IsFrontPushed, TellsNoItem, kind_of, payload_text, string_header}
 use Rattle.cbor.specs.Line.{trailing_text}
 use Rattle.cbor.proofs.DumpedHeads.{less-unread}
 
@@ -39,6 +40,10 @@ passed-head old new head (read, is) = record {
   same = is.same;
   front = is.front ∙ sym (append_assoc head.bytes.now head.payload.now (unread new));
 }
+
+pub passed-less : (a b : ItemHeads) (r : List ℕ) → HasPassed a b r → length (unread b) ≤ length (unread a)
+passed-less a b r passed =
+    omega (arith, ap (λ (x : List ℕ). length x) passed.front ∙ length-append r (unread b))
 
 -- ---- items in a row
 
@@ -74,11 +79,6 @@ AreChunksBegun kind n old new text longer = (b : List ℕ) × (u : List ℕ) × 
 
 pub no-chunks : (kind : StringKind) (h : ItemHeads) (t : List ℕ) → HasRead h → AreChunksBegun kind 0 h h t t
 no-chunks kind h t read = ([], [], passed-none h read, AreChunksExactly.none, sym (append-nil t))
-
--- the head of a definite string
-abbrev pub string_header : StringKind → ℕ → Header
-string_header of_bytes n = header.Bytes (Some n)
-string_header of_text n = header.Text (Some n)
 
 definite : (kind : StringKind) (n : ℕ) (h payload : List ℕ) → SpellsHeader h (string_header kind n) →
     IsPayloadOf (string_header kind n) payload → IsHead h (string_major kind) (length payload) × IsAllowed kind payload
@@ -225,6 +225,22 @@ less-left a b c r head before is =
     omega (arith, less-unread b c head is.1, ap (λ (x : List ℕ). length x) before.front ∙ length-append r (unread b))
 
 -- ---- answers
+
+-- where no level is open, what was read is one item
+pub front-pushed : (old new : ItemHeads) (b text longer : List ℕ) (n : ℕ) → old.bytes.now ≡ b → old.offset ≡ 0 →
+    open_in new ≡ [] → n ≡ length (unread new) → IsPushed IsExactly old new text longer → IsFrontPushed b n text longer
+front-pushed old new b text longer n whole at none count (s, t, passed, shows, e) =
+    (s, unread new, t, item, front, count, shows, e)
+  where
+    front : b ≡ s ++ unread new
+    front = sym whole ∙ (ap (λ k. drop k old.bytes.now) (sym at) ∙ passed.front)
+
+    same : was_read new ++ [] ≡ s
+    same = append-nil (was_read new) ∙ append_cancel_right (was_read new) s (unread new)
+        (take-append-drop new.offset new.bytes.now ∙ (passed.same ∙ (whole ∙ front)))
+
+    item : AreItem s
+    item = subst AreItem same (passed.read.levels.complete [] (subst (λ ls. EndAll ls []) (sym none) refl))
 
 -- bytes follow an item
 pub told-trailing : (b before text longer : List ℕ) (n : ℕ) → IsFrontPushed b n before text → 0 < n →

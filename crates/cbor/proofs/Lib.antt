@@ -4,6 +4,7 @@ pub mod DigitPairs
 pub mod DumpedHeads
 pub mod DumpedInputs
 pub mod EncodedLines
+pub mod ExactLevels
 pub mod ExactNotation
 pub mod ExactlyStreamed
 pub mod ItemsInRow

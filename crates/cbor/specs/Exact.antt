@@ -3,14 +3,18 @@
 -- bytes.
 use Rattle.std.specs.Prelude.{◌≡◌, ℕ, suc, ◌+◌, ◌^◌, ◌%◌, ◌<◌, ◌==◌, ◌&&◌, Bool, true, false, List}
 use Rattle.std.specs.Prelude.{[], ◌∷◌, ◌++◌, length, if◌then◌else◌, nat_lt, MatchResult, codes}
-use Rattle.std.specs.Prelude.{decimal}
+use Rattle.std.specs.Prelude.{decimal, None, Some}
 use Rattle.std.specs.Bool.{MatchBool}
 use Rattle.hex.specs.Hex.{decode_of, encode_lower}
 use Rattle.ciborium_ll.specs.Head.{IsFloat, IsHead, IsSimple, break_byte, open_byte}
-use Rattle.ciborium_ll.specs.ItemHeads.{HasRead, unread}
+use Rattle.ciborium_ll.specs.ItemHeads.{HasRead, open_in, unread}
 use Rattle.ciborium_ll.specs.ItemLengths.{IsNoItem}
-use Rattle.ciborium_ll.specs.Levels.{AreItem}
+use Rattle.ciborium_ll.specs.Levels.{AreItem, incomplete}
 use Rattle.ciborium_ll.specs.StringRefusal.{IsAllowed, StringKind, of_bytes, of_text, string_major}
+use Rattle.ciborium_ll.specs.declared.header.Header.{Header}
+use Rattle.ciborium_ll.specs.declared.header.Header.TheVariants as header
+use Rattle.ciborium_ll.specs.declared.levels.Level.{Level}
+use Rattle.ciborium_ll.specs.declared.levels.Level.TheVariants as level
 use Rattle.ciborium_ll.specs.declared.item_heads.ItemHead.{ItemHead}
 use Rattle.ciborium_ll.specs.declared.item_heads.ItemHeads.{ItemHeads}
 use Rattle.ciborium_ll.specs.declared.item_heads.NoItem as reasons
@@ -180,6 +184,37 @@ AreOpenChunks kind b t = (n : ℕ) × (r : List ℕ) × (u : List ℕ) × (b ≡
 
 abbrev pub kind_of : Bool → StringKind
 kind_of is_text = if is_text then of_text else of_bytes
+
+-- the head of a definite string
+abbrev pub string_header : StringKind → ℕ → Header
+string_header of_bytes n = header.Bytes (Some n)
+string_header of_text n = header.Text (Some n)
+
+-- ---- levels
+
+-- the level that an open string opens
+abbrev pub chunk_level : Bool → Level
+chunk_level is_text = if is_text then level.TextChunks else level.ByteChunks
+
+-- the level in an open array or map behind so many parts
+abbrev pub open_level : Bool → ℕ → Level
+open_level is_map n =
+    if is_map then (if n % 2 == 1 then level.OpenValues else level.OpenKeys) else level.OpenItems
+
+-- the levels behind the head of an item that stands where these are left behind it
+abbrev pub behind_begun : Header → List Level → List Level
+behind_begun (header.Bytes None) around = level.ByteChunks ∷ around
+behind_begun (header.Text None) around = level.TextChunks ∷ around
+behind_begun (header.Array (Some n)) around = level.Items n ∷ around
+behind_begun (header.Array None) around = level.OpenItems ∷ around
+behind_begun (header.Map (Some n)) around = level.Items (n + n) ∷ around
+behind_begun (header.Map None) around = level.OpenKeys ∷ around
+behind_begun (header.Tag n) around = level.Items 1 ∷ around
+behind_begun _ around = around
+
+-- the head of an item was read, and behind the item these levels are left
+abbrev pub IsBegun : Header → ItemHeads → List Level → Type 0
+IsBegun header heads around = open_in heads ≡ incomplete (behind_begun header around)
 
 -- an item was shown, and so many bytes follow it
 abbrev pub IsFrontPushed : List ℕ → ℕ → List ℕ → List ℕ → Type 0

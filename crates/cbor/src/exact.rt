@@ -1,15 +1,19 @@
 //! Diagnostic notation that shows the very heads of an item.
 
-ghost use Rattle.std.specs.Prelude.{◌≡◌, ◌≤◌, ◌+◌, ◌==◌, ◌++◌, IfErr, IfOk, List, ℕ, OnOk};
-ghost use Rattle.std.specs.Prelude.{codes, decimal, drop, if◌then◌else◌, length};
+ghost use Rattle.std.specs.Prelude.{◌≡◌, ◌≤◌, ◌+◌, ◌==◌, ◌++◌, ◌∷◌, [], IfErr, IfOk, List, ℕ, OnOk};
+ghost use Rattle.std.specs.Prelude.{codes, decimal, drop, if◌then◌else◌, length, suc};
 ghost use Rattle.hex.specs.Hex.{encode_lower};
 ghost use Rattle.ciborium_ll.specs.Header.{SpellsHeader};
-ghost use Rattle.ciborium_ll.specs.ItemHeads.{HasRead, IsHeadRead};
-ghost use Rattle.ciborium_ll.specs.Levels.{IsPayloadOf};
+ghost use Rattle.ciborium_ll.specs.ItemHeads.{HasRead, IsHeadRead, open_in};
+ghost use Rattle.ciborium_ll.specs.Levels.{IsPayloadOf, incomplete};
+ghost use Rattle.ciborium_ll.specs.declared.header.Header.TheVariants.{Break};
+ghost use Rattle.ciborium_ll.specs.declared.levels.Level.{Level};
+ghost use Rattle.ciborium_ll.specs.declared.levels.Level.TheVariants.{Items};
 ghost use Rattle.cbor.specs.Exact.{AreExactly, AreOpenChunks, AreOpenParts, Explains};
 ghost use Rattle.cbor.specs.Exact.{IsExactAnswer, IsExactly, IsFrontPushed, IsItemPushed, IsPushed};
-ghost use Rattle.cbor.specs.Exact.{IsStringExactly, empty_text, head_bytes, kind_of, lead, mark};
-ghost use Rattle.cbor.specs.Exact.{simple_text, spaced};
+ghost use Rattle.cbor.specs.Exact.{IsBegun, IsStringExactly, chunk_level, empty_text, head_bytes};
+ghost use Rattle.cbor.specs.Exact.{kind_of, lead, mark, open_level, simple_text, spaced};
+ghost use Rattle.cbor.specs.Exact.{string_header};
 ghost use Rattle.cbor.specs.declared.exact.Unshown.TheVariants.{Memory};
 
 use crate::digits::push_digits;
@@ -84,41 +88,41 @@ pub fn push_exact(alloc: Global, bytes: &[u8], text: &mut Vec<u8>) -> Result<usi
 {
     let mut heads = ItemHeads::new(bytes);
     push_next(alloc, &mut heads, text)?;
-    match heads.next() {
-        Ok(None) => Ok(heads.rest().len()),
-        _ => Err(Unshown::Memory),
-    }
+    Ok(heads.rest().len())
 }
 
-// The next head. Nothing here asks for one behind the last, so that `Memory` is unreachable in
-// practice.
+// The next head, inside an item.
 fn next_head<'b>(heads: &mut ItemHeads<'b>) -> Result<ItemHead<'b>, Unshown>
-    requires { HasRead heads.old }
+    requires read { HasRead heads.old }
+    requires inside { ¬ (open_in heads.old ≡ []) }
     ensures read { IfOk result (λ head.
         HasRead heads.new × IsHeadRead heads.old heads.new head) }
     ensures unshown { IfErr result (λ unshown. Explains heads.old.bytes.now unshown) }
 {
     match heads.next() {
         Ok(Some(head)) => Ok(head),
-        Ok(None) => Err(Unshown::Memory),
+        Ok(None) => unreachable!(),
         Err(reason) => Err(Unshown::NoItem(reason)),
     }
 }
 
-// Appends the next item.
+// Appends the next item, of which one is due here at least.
 #[cycle(push_item)]
 fn push_next(alloc: Global, heads: &mut ItemHeads, text: &mut Vec<u8>) -> Result<(), Unshown>
-    requires { HasRead heads.old }
+    requires read { HasRead heads.old }
+    requires due { (n : ℕ) × (around : List Level) × (open_in heads.old ≡ Items (suc n) ∷ around) }
     ensures shown { OnOk result
         (IsPushed IsExactly heads.old heads.new text.old.items text.new.items) }
+    ensures left { OnOk result ((n : ℕ) (around : List Level) →
+        open_in heads.old ≡ Items (suc n) ∷ around →
+        open_in heads.new ≡ incomplete (Items n ∷ around)) }
     ensures unshown { IfErr result (λ unshown. Explains heads.old.bytes.now unshown) }
 {
     let head = next_head(heads)?;
     push_item(alloc, &head, heads, text)
 }
 
-// Appends the item whose head was read. A break is none, and stands where an item may nowhere, so
-// that this `Memory` is unreachable in practice.
+// Appends the item whose head was read.
 #[cycle(push_item)]
 fn push_item(
     alloc: Global,
@@ -128,9 +132,13 @@ fn push_item(
 ) -> Result<(), Unshown>
     requires spelled { SpellsHeader head.now.bytes.now head.now.header }
     requires payload { IsPayloadOf head.now.header head.now.payload.now }
+    requires item { ¬ (head.now.header ≡ Break) }
     requires read { HasRead heads.old }
+    requires due { (around : List Level) × IsBegun head.now.header heads.old around }
     ensures shown { OnOk result
         (IsItemPushed head.now heads.old heads.new text.old.items text.new.items) }
+    ensures left { OnOk result ((around : List Level) →
+        IsBegun head.now.header heads.old around → open_in heads.new ≡ incomplete around) }
     ensures unshown { IfErr result (λ unshown. Explains heads.old.bytes.now unshown) }
 {
     match head.header {
@@ -168,7 +176,7 @@ fn push_item(
         }
         Header::Simple(n) => push_simple(n, text)?,
         Header::Float(_) => push_float(head.bytes, text)?,
-        Header::Break => return Err(Unshown::Memory),
+        Header::Break => unreachable!(),
     }
     Ok(())
 }
@@ -182,9 +190,13 @@ fn push_parts(
     heads: &mut ItemHeads,
     text: &mut Vec<u8>,
 ) -> Result<(), Unshown>
-    requires { HasRead heads.old }
+    requires read { HasRead heads.old }
+    requires due { (around : List Level) × (open_in heads.old ≡ incomplete (Items count ∷ around)) }
     ensures shown { OnOk result
         (IsPushed (AreExactly is_map count) heads.old heads.new text.old.items text.new.items) }
+    ensures left { OnOk result ((around : List Level) →
+        open_in heads.old ≡ incomplete (Items count ∷ around) →
+        open_in heads.new ≡ incomplete around) }
     ensures unshown { IfErr result (λ unshown. Explains heads.old.bytes.now unshown) }
 {
     'parts: for place in 0..count {
@@ -194,8 +206,7 @@ fn push_parts(
     Ok(())
 }
 
-// Appends the items before a break. A break that follows a key, and more items than a `u64`
-// counts, are unreachable in practice.
+// Appends the items before a break.
 #[cycle(push_item)]
 fn push_open_parts(
     alloc: Global,
@@ -203,23 +214,23 @@ fn push_open_parts(
     heads: &mut ItemHeads,
     text: &mut Vec<u8>,
 ) -> Result<(), Unshown>
-    requires { HasRead heads.old }
+    requires read { HasRead heads.old }
+    requires due { (around : List Level) × (open_in heads.old ≡ open_level is_map 0 ∷ around) }
     ensures shown { OnOk result
         (IsPushed (AreOpenParts is_map) heads.old heads.new text.old.items text.new.items) }
+    ensures left { OnOk result ((around : List Level) →
+        open_in heads.old ≡ open_level is_map 0 ∷ around → open_in heads.new ≡ incomplete around) }
     ensures unshown { IfErr result (λ unshown. Explains heads.old.bytes.now unshown) }
 {
-    'parts: for place in 0..u64::MAX {
+    'parts: for place in 0..u128::MAX {
         let head = next_head(heads)?;
         if let Header::Break = head.header {
-            if is_map && place % 2 == 1 {
-                return Err(Unshown::Memory);
-            }
             return Ok(());
         }
-        text.extend_from_slice(lead(is_map, place as u128))?;
+        text.extend_from_slice(lead(is_map, place))?;
         push_item(alloc, &head, heads, text)?;
     }
-    Err(Unshown::Memory)
+    unreachable!()
 }
 
 // Appends the parts of a text or a byte string before a break.
@@ -229,13 +240,16 @@ fn push_chunks(
     heads: &mut ItemHeads,
     text: &mut Vec<u8>,
 ) -> Result<(), Unshown>
-    requires { HasRead heads.old }
+    requires read { HasRead heads.old }
+    requires due { (around : List Level) × (open_in heads.old ≡ chunk_level is_text ∷ around) }
     ensures shown { OnOk result
         (IsPushed (AreOpenChunks (kind_of is_text)) heads.old heads.new text.old.items
         text.new.items) }
+    ensures left { OnOk result ((around : List Level) →
+        open_in heads.old ≡ chunk_level is_text ∷ around → open_in heads.new ≡ incomplete around) }
     ensures unshown { IfErr result (λ unshown. Explains heads.old.bytes.now unshown) }
 {
-    'chunks: for place in 0..u64::MAX {
+    'chunks: for place in 0..u128::MAX {
         let head = next_head(heads)?;
         if let Header::Break = head.header {
             text.extend_from_slice(chunks_end(is_text, place))?;
@@ -244,11 +258,10 @@ fn push_chunks(
         text.extend_from_slice(chunk_lead(place))?;
         push_string(alloc, is_text, &head, text)?;
     }
-    Err(Unshown::Memory)
+    unreachable!()
 }
 
-// Appends a definite string, which is a text or a byte string. Nothing here asks it of another
-// head, so that `AllocError` is then unreachable in practice.
+// Appends a definite string, which is a text or a byte string.
 fn push_string(
     alloc: Global,
     is_text: bool,
@@ -257,13 +270,14 @@ fn push_string(
 ) -> Result<(), AllocError>
     requires spelled { SpellsHeader head.now.bytes.now head.now.header }
     requires payload { IsPayloadOf head.now.header head.now.payload.now }
+    requires string { (n : ℕ) × (head.now.header ≡ string_header (kind_of is_text) n) }
     ensures { OnOk result ((t : List ℕ) × IsStringExactly (kind_of is_text) (head_bytes head.now) t
         × (text.new.items ≡ text.old.items ++ t)) }
 {
     match head.header {
         Header::Bytes(Some(_)) if !is_text => push_bytes(b"h'", head.payload, text)?,
         Header::Text(Some(_)) if is_text => push_quoted(alloc, head.payload, text)?,
-        _ => return Err(AllocError),
+        _ => unreachable!(),
     }
     text.extend_from_slice(mark(head.bytes.len(), head.payload.len() as u64))
 }
@@ -372,14 +386,14 @@ fn mark(size: usize, argument: u64) -> &'static [u8]
 }
 
 // What stands before a part of an open string that n others precede.
-fn chunk_lead(n: u64) -> &'static [u8]
+fn chunk_lead(n: u128) -> &'static [u8]
     ensures { result.now ≡ (if n == 0 then codes "(_ " else codes ", ") }
 {
     if n == 0 { b"(_ " } else { b", " }
 }
 
 // What stands behind n parts of an open string.
-fn chunks_end(is_text: bool, n: u64) -> &'static [u8]
+fn chunks_end(is_text: bool, n: u128) -> &'static [u8]
     ensures { result.now ≡ (if n == 0 then empty_text (kind_of is_text) else codes ")") }
 {
     if n > 0 {

@@ -1,6 +1,6 @@
-//! `cbor` looks at CBOR (RFC 8949) on the standard input: lines of hex, an item or a sequence each,
-//! or bytes, a sequence of items (RFC 8742) or one item; and it encodes lines of diagnostic
-//! notation. `cbor --help` lists the commands, and `run` says what they do.
+//! `cbor` looks at CBOR (RFC 8949): lines of hex on the standard input, an item or a sequence each,
+//! or bytes there or in files, a sequence of items (RFC 8742) or one item; and it encodes lines of
+//! diagnostic notation. `cbor --help` lists the commands, and `run` says what they do.
 #![tactic(auto)]
 
 mod answer;

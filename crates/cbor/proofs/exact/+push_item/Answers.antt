@@ -1,14 +1,17 @@
-use Rattle.std.proofs.Common.{◌≡◌, ◌+◌, ◌*◌, ◌/◌, ◌++◌, ◌∙◌, List, ℕ, ap, arith, codes, decimal, false, length, true}
-use Rattle.std.proofs.Common.{if◌then◌else◌, refl, subst}
+use Rattle.std.proofs.Common.{◌≡◌, ◌+◌, ◌*◌, ◌++◌, ◌∙◌, List, ℕ, ap, arith, codes, decimal, false, length, true}
+use Rattle.std.proofs.Common.{refl, subst, ◌-◌, ◌∷◌, suc}
 use Rattle.std.proofs.lemmas.Result.{on_ok_weaker}
+use Rattle.ciborium_ll.specs.ItemHeads.{open_in}
+use Rattle.ciborium_ll.specs.Levels.{incomplete}
 use Rattle.ciborium_ll.specs.StringRefusal.{of_bytes, of_text}
 use Rattle.ciborium_ll.specs.declared.header.Header.TheVariants as header
-use Rattle.cbor.specs.Exact.{AreExactly, AreOpenParts, IsExactly, IsPushed, mark, spaced}
+use Rattle.ciborium_ll.specs.declared.levels.Level.TheVariants.{Items}
+use Rattle.cbor.specs.Exact.{AreExactly, AreOpenParts, IsBegun, IsExactly, mark, open_level, spaced}
+use Rattle.cbor.proofs.DumpedHeads.{less-unread}
+use Rattle.cbor.proofs.ExactLevels.{head-begun, no-break, part-due, parts-break, parts-due, parts-open}
 use Rattle.cbor.proofs.ExactNotation.{all-parts, alone, as-float, as-open-string, as-string, as-tag, behind-both}
-use Rattle.cbor.proofs.ExactNotation.{bracketed, less-left, next-pushed, none-pushed, one-more-pushed}
+use Rattle.cbor.proofs.ExactNotation.{bracketed, less-left, next-pushed, none-pushed, one-more-pushed, passed-less}
 use Rattle.cbor.proofs.exact.+push_item.Goals as goal
-use Rattle.cbor.proofs.exact.+push_item.Goals.{push_open_parts-else-is_map-via-then-is_map+else-place-eq1}
-use Rattle.cbor.proofs.exact.+push_item.Goals.{push_open_parts-else-is_map-via-else-is_map}
 
 pub push_item-returns-in_ok-push_number-in-Positive-clause-shown :
     goal.push_item-returns-in_ok-push_number-in-Positive-clause-shown
@@ -123,46 +126,116 @@ push_next-returns-clause-shown t c =
     (next-pushed c.args.heads.now c.next_head.new.heads c.push_item.new.heads c.in_ok-head.head _ _
     c.in_ok-head.ensures.read) c.push_item.ensures.shown
 
-pub push_open_parts-parts-init : goal.push_open_parts-parts-init
-push_open_parts-parts-init t c = none-pushed c.args.is_map c.args.heads.now c.args.text.now.items c.requires
+pub push_item-returns-in_ok-extend_from_slice-in-Tag-2-clause-left :
+    goal.push_item-returns-in_ok-extend_from_slice-in-Tag-2-clause-left
+push_item-returns-in_ok-extend_from_slice-in-Tag-2-clause-left t c = λ around e.
+    c.in_ok-push_next-in-Tag.ensures.left 0 around (subst (λ h. IsBegun h c.args.heads.now around) c.in-Tag.is e)
 
--- a break was read behind twice or once so many
-ended : (t : ℕ) (c : goal.push_open_parts-Joined-else-is_map t) (k : ℕ) →
-    c.parts.place ≡ (if c.args.is_map then k + k else k) →
-    IsPushed (AreOpenParts c.args.is_map) c.args.heads.now c.next_head.new.heads c.args.text.now.items
-    c.parts.text.items
-ended t c k count =
-    all-parts c.args.is_map c.parts.place k c.args.heads.now c.parts.heads c.next_head.new.heads c.in_ok-head.head _ _
-    c.parts.invariant c.in_ok-head.ensures.read c.in-Break.is count
+pub push_next-push_item-requires : goal.push_next-push_item-requires
+push_next-push_item-requires t c =
+    let (n, around, e) = c.requires.due in
+    let (read, is) = c.in_ok-head.ensures.read in
+    let item = no-break c.args.heads.now c.next_head.new.heads c.in_ok-head.head (suc n) around e (read, is) in
+    let less = less-unread c.args.heads.now c.next_head.new.heads c.in_ok-head.head is in (
+      omega (arith, less, c.decreases),
+      (
+        is.spelled,
+        (
+          is.payload,
+          (
+            item,
+            (
+              read,
+              (
+                Items n ∷ around,
+                head-begun c.args.heads.now c.next_head.new.heads c.in_ok-head.head _ _ e refl item (read, is),
+              ),
+            ),
+          ),
+        ),
+      ),
+    )
+
+pub push_next-returns-clause-left : goal.push_next-returns-clause-left
+push_next-returns-clause-left t c =
+    on_ok_weaker c.push_item.result (λ left n around e. left (Items n ∷ around)
+    (head-begun c.args.heads.now c.next_head.new.heads c.in_ok-head.head _ _ e refl
+    (no-break c.args.heads.now c.next_head.new.heads c.in_ok-head.head (suc n) around e c.in_ok-head.ensures.read)
+    c.in_ok-head.ensures.read)) c.push_item.ensures.left
+
+pub push_open_parts-parts-init : goal.push_open_parts-parts-init
+push_open_parts-parts-init t c = (
+  none-pushed c.args.is_map c.args.heads.now c.args.text.now.items c.requires.read,
+  λ around e. e,
+  omega arith,
+)
 
 pub push_open_parts-returns-in-Break-clause-shown : goal.push_open_parts-returns-in-Break-clause-shown
 push_open_parts-returns-in-Break-clause-shown t c =
-    elim c.else-is_map.branch [
-      | push_open_parts-else-is_map-via-then-is_map+else-place-eq1 w ↦
-          ended t c (c.parts.place / 2) (rw w.if-is_map.true (omega (arith, w.if-place-eq1.false)))
-      | push_open_parts-else-is_map-via-else-is_map w ↦ ended t c c.parts.place (rw w.if-is_map.false refl)
-    ]
+    let (left, k, count) = parts-break c.args.is_map c.parts.place c.parts.heads c.next_head.new.heads
+    c.in_ok-head.head c.requires.due.0 (c.parts.invariant.1 c.requires.due.0 c.requires.due.1) c.in-Break.is
+    c.in_ok-head.ensures.read in
+    all-parts c.args.is_map c.parts.place k c.args.heads.now c.parts.heads c.next_head.new.heads c.in_ok-head.head _ _
+    c.parts.invariant.0 c.in_ok-head.ensures.read c.in-Break.is count
 
 pub push_open_parts-push_item-requires : goal.push_open_parts-push_item-requires
 push_open_parts-push_item-requires t c =
-    let (r, u, before, are, e) = c.parts.invariant in
+    let (r, u, before, are, e) = c.parts.invariant.0 in
     let (read, is) = c.in_ok-head.ensures.read in
-    let less = less-left c.args.heads.now c.parts.heads c.next_head.new.heads r c.in_ok-head.head before (read, is) in
-    (omega (arith, less, c.decreases), (is.spelled, (is.payload, read)))
+    let less = less-left c.args.heads.now c.parts.heads c.next_head.new.heads r c.in_ok-head.head before (read, is) in (
+      omega (arith, less, c.decreases),
+      (
+        is.spelled,
+        (
+          is.payload,
+          (
+            c.in_default.not-Break,
+            (
+              read,
+              (
+                open_level c.args.is_map (c.parts.place + 1) ∷ c.requires.due.0,
+                head-begun c.parts.heads c.next_head.new.heads c.in_ok-head.head _ _
+                    (c.parts.invariant.1 c.requires.due.0 c.requires.due.1)
+                    (part-due c.args.is_map c.parts.place c.requires.due.0) c.in_default.not-Break (read, is),
+              ),
+            ),
+          ),
+        ),
+      ),
+    )
 
 pub push_open_parts-parts-preserved : goal.push_open_parts-parts-preserved
-push_open_parts-parts-preserved t c =
-    one-more-pushed c.args.is_map c.parts.place c.args.heads.now c.parts.heads c.push_item.new.heads _ _ _ _
-    c.parts.invariant (c.in_ok-extend_from_slice.ensures.items ∙ ap (λ (s : List ℕ). c.parts.text.items ++ s)
-    c.lead.ensures)
-    (next-pushed c.parts.heads c.next_head.new.heads c.push_item.new.heads c.in_ok-head.head _ _
-    c.in_ok-head.ensures.read c.in_ok-push_item.ensures.shown)
+push_open_parts-parts-preserved t c = (
+  one-more-pushed c.args.is_map c.parts.place c.args.heads.now c.parts.heads c.push_item.new.heads _ _ _ _
+      c.parts.invariant.0 (c.in_ok-extend_from_slice.ensures.items ∙ ap (λ (s : List ℕ). c.parts.text.items ++ s)
+      c.lead.ensures)
+      (next-pushed c.parts.heads c.next_head.new.heads c.push_item.new.heads c.in_ok-head.head _ _
+      c.in_ok-head.ensures.read c.in_ok-push_item.ensures.shown),
+  λ around e. c.in_ok-push_item.ensures.left (open_level c.args.is_map (c.parts.place + 1) ∷ around)
+      (head-begun c.parts.heads c.next_head.new.heads c.in_ok-head.head _ _ (c.parts.invariant.1 around e)
+      (part-due c.args.is_map c.parts.place around) c.in_default.not-Break c.in_ok-head.ensures.read) ∙
+      parts-open c.args.is_map (c.parts.place + 1) around,
+  omega (
+    arith,
+    c.parts.invariant.2,
+    less-unread c.parts.heads c.next_head.new.heads c.in_ok-head.head
+        c.in_ok-head.ensures.read.1,
+    passed-less c.next_head.new.heads c.push_item.new.heads _
+        c.in_ok-push_item.ensures.shown.2,
+  ),
+)
 
 pub push_parts-parts-init : goal.push_parts-parts-init
-push_parts-parts-init t c = none-pushed c.args.is_map c.args.heads.now c.args.text.now.items c.requires
+push_parts-parts-init t c = (
+  none-pushed c.args.is_map c.args.heads.now c.args.text.now.items c.requires.read,
+  λ around e. subst (λ n. open_in c.args.heads.now ≡ incomplete (Items n ∷ around)) (omega arith) e,
+)
 
 pub push_parts-parts-preserved : goal.push_parts-parts-preserved
-push_parts-parts-preserved t c =
-    one-more-pushed c.args.is_map c.parts.place c.args.heads.now c.parts.heads c.push_next.new.heads _ _ _ _
-    c.parts.invariant (c.in_ok-extend_from_slice.ensures.items ∙ ap (λ (s : List ℕ). c.parts.text.items ++ s)
-    c.lead.ensures) c.in_ok-push_next.ensures.shown
+push_parts-parts-preserved t c = (
+  one-more-pushed c.args.is_map c.parts.place c.args.heads.now c.parts.heads c.push_next.new.heads _ _ _ _
+      c.parts.invariant.0 (c.in_ok-extend_from_slice.ensures.items ∙ ap (λ (s : List ℕ). c.parts.text.items ++ s)
+      c.lead.ensures) c.in_ok-push_next.ensures.shown,
+  λ around e. c.in_ok-push_next.ensures.left (c.args.count - (c.parts.place + 1)) around
+      (parts-due c.parts.heads c.args.count c.parts.place around c.parts-test.true (c.parts.invariant.1 around e)),
+)

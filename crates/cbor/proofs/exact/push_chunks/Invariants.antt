@@ -1,8 +1,17 @@
-use Rattle.cbor.specs.Exact.{kind_of}
+use Rattle.std.proofs.Common.{◌≡◌, ◌+◌, ◌∷◌, ◌≤◌, List, length}
+use Rattle.ciborium_ll.specs.ItemHeads.{open_in, unread}
+use Rattle.ciborium_ll.specs.declared.levels.Level.{Level}
+use Rattle.cbor.specs.Exact.{chunk_level, kind_of}
 use Rattle.cbor.proofs.ExactNotation.{AreChunksBegun}
 use Rattle.cbor.proofs.exact.push_chunks.Given as goal
 
--- the parts so far were shown
+-- the parts so far were shown, each of a byte at least, and the string is still open
 abbrev pub invariant-chunks : goal.invariant-chunks
 invariant-chunks l =
-    AreChunksBegun (kind_of l.is_text) l.place l.initial.heads l.heads l.initial.text.items l.text.items
+    AreChunksBegun (kind_of l.is_text) l.place l.initial.heads l.heads l.initial.text.items l.text.items ×
+    ((around : List Level) → open_in l.initial.heads ≡ chunk_level l.is_text ∷ around →
+    open_in l.heads ≡ chunk_level l.is_text ∷ around) ×
+    (l.place + length (unread l.heads) ≤ length (unread l.initial.heads))
+
+abbrev pub decreases-chunks : goal.decreases-chunks
+decreases-chunks l = length (unread l.heads)

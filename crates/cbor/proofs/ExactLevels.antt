@@ -1,0 +1,199 @@
+-- The levels of an item that is shown by its very heads.
+use Rattle.std.proofs.Common.{◌≡◌, ◌≢◌, ℕ, suc, ◌+◌, ◌-◌, ◌/◌, ◌%◌, ◌<◌, ◌==◌, Bool, true, false, List, [], ◌∷◌}
+use Rattle.std.proofs.Common.{Option, Some, None, option_map, if◌then◌else◌, refl, sym, ap, ◌∙◌, subst, arith}
+use Rattle.std.proofs.Common.{inl, inr}
+use Rattle.std.proofs.lemmas.Bool.Decides.{eqb_tells}
+use Rattle.ciborium_ll.specs.ItemHeads.{HasRead, IsHeadRead, open_in}
+use Rattle.ciborium_ll.specs.Levels.{behind_break, behind_bytes, behind_head, behind_item, behind_text}
+use Rattle.ciborium_ll.specs.Levels.{incomplete}
+use Rattle.ciborium_ll.specs.declared.header.Header.{Header}
+use Rattle.ciborium_ll.specs.declared.header.Header.TheVariants as header
+use Rattle.ciborium_ll.specs.declared.item_heads.ItemHead.{ItemHead}
+use Rattle.ciborium_ll.specs.declared.item_heads.ItemHeads.{ItemHeads}
+use Rattle.ciborium_ll.specs.declared.levels.Level.{Level}
+use Rattle.ciborium_ll.specs.declared.levels.Level.TheVariants as level
+use Rattle.cbor.specs.Exact.{IsBegun, behind_begun, chunk_level, kind_of, open_level, string_header}
+
+-- ---- the head of an item
+
+as-bytes : (levels around : List Level) → behind_item levels ≡ Some around → behind_bytes levels ≡ behind_item levels
+as-bytes [] around e = refl
+as-bytes (level.Items n ∷ levels) around e = refl
+as-bytes (level.OpenItems ∷ levels) around e = refl
+as-bytes (level.OpenKeys ∷ levels) around e = refl
+as-bytes (level.OpenValues ∷ levels) around e = refl
+as-bytes (level.ByteChunks ∷ levels) around e = absurd (cc e)
+as-bytes (level.TextChunks ∷ levels) around e = refl
+
+as-text : (levels around : List Level) → behind_item levels ≡ Some around → behind_text levels ≡ behind_item levels
+as-text [] around e = refl
+as-text (level.Items n ∷ levels) around e = refl
+as-text (level.OpenItems ∷ levels) around e = refl
+as-text (level.OpenKeys ∷ levels) around e = refl
+as-text (level.OpenValues ∷ levels) around e = refl
+as-text (level.ByteChunks ∷ levels) around e = refl
+as-text (level.TextChunks ∷ levels) around e = absurd (cc e)
+
+some-is : {A : Type 0} (o : Option A) (x y : A) → o ≡ Some x → o ≡ Some y → y ≡ x
+some-is o x y e f = cc (e, f)
+
+opens : (l : Level) (levels around more : List Level) → behind_item levels ≡ Some around →
+    option_map (λ rest. l ∷ rest) (behind_item levels) ≡ Some more → more ≡ l ∷ around
+opens l levels around more e f = some-is _ (l ∷ around) more (ap (option_map (λ rest. l ∷ rest)) e) f
+
+begun : (h : Header) (levels around more : List Level) → h ≢ header.Break → behind_item levels ≡ Some around →
+    behind_head h levels ≡ Some more → more ≡ behind_begun h around
+begun (header.Positive n) levels around more other e f = some-is _ around more e f
+begun (header.Negative n) levels around more other e f = some-is _ around more e f
+begun (header.Bytes (Some n)) levels around more other e f =
+    some-is _ around more (as-bytes levels around e ∙ e) f
+begun (header.Bytes None) levels around more other e f = opens level.ByteChunks levels around more e f
+begun (header.Text (Some n)) levels around more other e f = some-is _ around more (as-text levels around e ∙ e) f
+begun (header.Text None) levels around more other e f = opens level.TextChunks levels around more e f
+begun (header.Array (Some n)) levels around more other e f = opens (level.Items n) levels around more e f
+begun (header.Array None) levels around more other e f = opens level.OpenItems levels around more e f
+begun (header.Map (Some n)) levels around more other e f = opens (level.Items (n + n)) levels around more e f
+begun (header.Map None) levels around more other e f = opens level.OpenKeys levels around more e f
+begun (header.Tag n) levels around more other e f = opens (level.Items 1) levels around more e f
+begun (header.Simple n) levels around more other e f = some-is _ around more e f
+begun (header.Float size) levels around more other e f = some-is _ around more e f
+begun header.Break levels around more other e f = absurd (other refl)
+
+-- a head that is no break was read where an item is due
+pub head-begun : (old new : ItemHeads) (head : ItemHead) (levels around : List Level) → open_in old ≡ levels →
+    behind_item levels ≡ Some around → head.header ≢ header.Break → HasRead new × IsHeadRead old new head →
+    IsBegun head.header new around
+head-begun old new head levels around e due other (read, is) =
+    let (more, f, g) = is.levels in
+    g ∙ ap incomplete (begun head.header (open_in old) around more other (ap behind_item e ∙ due) f)
+
+-- no break was read in a level of so many items
+pub no-break : (old new : ItemHeads) (head : ItemHead) (n : ℕ) (around : List Level) →
+    open_in old ≡ level.Items n ∷ around → HasRead new × IsHeadRead old new head → head.header ≢ header.Break
+no-break old new head n around e (read, is) f =
+    let (more, g, h) = is.levels in let never : behind_head header.Break (level.Items n ∷ around) ≡ Some more =
+    subst (λ x. behind_head x (level.Items n ∷ around) ≡ Some more) f
+    (subst (λ x. behind_head head.header x ≡ Some more) e g) in cc never
+
+-- ---- a break
+
+-- a break was read in a level that it may end
+pub break-read : (old new : ItemHeads) (head : ItemHead) (levels around : List Level) → open_in old ≡ levels →
+    head.header ≡ header.Break → behind_break levels ≡ Some around → HasRead new × IsHeadRead old new head →
+    open_in new ≡ incomplete around
+break-read old new head levels around e f ends (read, is) =
+    let (more, g, h) = is.levels in
+    let same : behind_break levels ≡ Some more = subst (λ x. behind_head x levels ≡ Some more) f
+    (subst (λ x. behind_head head.header x ≡ Some more) e g) in
+    h ∙ ap incomplete (some-is (behind_break levels) around more ends same)
+
+-- ---- parts of a string
+
+pub chunk-ends : (is_text : Bool) (around : List Level) → behind_break (chunk_level is_text ∷ around) ≡ Some around
+chunk-ends true around = refl
+chunk-ends false around = refl
+
+pub chunk-open : (is_text : Bool) (around : List Level) →
+    incomplete (chunk_level is_text ∷ around) ≡ chunk_level is_text ∷ around
+chunk-open true around = refl
+chunk-open false around = refl
+
+no-item-due : (is_text : Bool) (around : List Level) → behind_item (chunk_level is_text ∷ around) ≡ None
+no-item-due true around = refl
+no-item-due false around = refl
+
+none-opens : (l : Level) (o : Option (List Level)) (more : List Level) → o ≡ None →
+    option_map (λ rest. l ∷ rest) o ≡ Some more → ⊥
+none-opens l None more e f = cc f
+none-opens l (Some x) more e f = cc e
+
+-- what is no break there is a part of the string
+chunk-head : (is_text : Bool) (h : Header) (around more : List Level) → h ≢ header.Break →
+    behind_head h (chunk_level is_text ∷ around) ≡ Some more →
+    ((n : ℕ) × (h ≡ string_header (kind_of is_text) n)) × (more ≡ chunk_level is_text ∷ around)
+chunk-head false (header.Bytes (Some n)) around more other e = ((n, refl), cc e)
+chunk-head true (header.Text (Some n)) around more other e = ((n, refl), cc e)
+chunk-head true (header.Bytes (Some n)) around more other e = absurd (cc e)
+chunk-head false (header.Text (Some n)) around more other e = absurd (cc e)
+chunk-head b (header.Bytes None) around more other e =
+    absurd (none-opens level.ByteChunks _ more (no-item-due b around) e)
+chunk-head b (header.Text None) around more other e =
+    absurd (none-opens level.TextChunks _ more (no-item-due b around) e)
+chunk-head b (header.Array (Some n)) around more other e =
+    absurd (none-opens (level.Items n) _ more (no-item-due b around) e)
+chunk-head b (header.Array None) around more other e =
+    absurd (none-opens level.OpenItems _ more (no-item-due b around) e)
+chunk-head b (header.Map (Some n)) around more other e =
+    absurd (none-opens (level.Items (n + n)) _ more (no-item-due b around) e)
+chunk-head b (header.Map None) around more other e = absurd (none-opens level.OpenKeys _ more (no-item-due b around) e)
+chunk-head b (header.Tag n) around more other e = absurd (none-opens (level.Items 1) _ more (no-item-due b around) e)
+chunk-head b (header.Positive n) around more other e = absurd (cc (e, no-item-due b around))
+chunk-head b (header.Negative n) around more other e = absurd (cc (e, no-item-due b around))
+chunk-head b (header.Simple n) around more other e = absurd (cc (e, no-item-due b around))
+chunk-head b (header.Float size) around more other e = absurd (cc (e, no-item-due b around))
+chunk-head b header.Break around more other e = absurd (other refl)
+
+pub chunk-read : (is_text : Bool) (old new : ItemHeads) (head : ItemHead) (around : List Level) →
+    open_in old ≡ chunk_level is_text ∷ around → head.header ≢ header.Break → HasRead new × IsHeadRead old new head →
+    ((n : ℕ) × (head.header ≡ string_header (kind_of is_text) n)) × (open_in new ≡ chunk_level is_text ∷ around)
+chunk-read is_text old new head around e other (read, is) =
+    let (more, f, g) = is.levels in
+    let (kind, same) = chunk-head is_text head.header around more other
+    (subst (λ x. behind_head head.header x ≡ Some more) e f) in
+    (kind, g ∙ ap incomplete same ∙ chunk-open is_text around)
+
+-- ---- parts of an open array or map
+
+pub parts-open : (is_map : Bool) (n : ℕ) (around : List Level) →
+    incomplete (open_level is_map n ∷ around) ≡ open_level is_map n ∷ around
+parts-open false n around = refl
+parts-open true n around = by (n % 2 == 1)
+  where
+    by : (b : Bool) → incomplete ((if b then level.OpenValues else level.OpenKeys) ∷ around)
+        ≡ (if b then level.OpenValues else level.OpenKeys) ∷ around
+    by true = refl
+    by false = refl
+
+-- behind an item one more stands there
+pub part-due : (is_map : Bool) (n : ℕ) (around : List Level) →
+    behind_item (open_level is_map n ∷ around) ≡ Some (open_level is_map (n + 1) ∷ around)
+part-due false n around = refl
+part-due true n around = elim (eqb_tells (n % 2) 1) [
+  | inl (a, x) ↦ elim (eqb_tells ((n + 1) % 2) 1) [
+    | inl (b, y) ↦ absurd (omega (arith, x, y))
+    | inr (b, y) ↦ rw (a, b) refl
+  ]
+  | inr (a, x) ↦ elim (eqb_tells ((n + 1) % 2) 1) [
+    | inl (b, y) ↦ rw (a, b) refl
+    | inr (b, y) ↦ absurd (omega (arith, x, y))
+  ]
+]
+
+-- a break ends it, behind a value where it is a map
+pub parts-end : (is_map : Bool) (n : ℕ) (around more : List Level) →
+    behind_break (open_level is_map n ∷ around) ≡ Some more →
+    (around ≡ more) × (k : ℕ) × (n ≡ (if is_map then k + k else k))
+parts-end false n around more e = (cc e, n, refl)
+parts-end true n around more e = elim (eqb_tells (n % 2) 1) [
+  | inl (a, x) ↦ absurd (cc (rw a at e))
+  | inr (a, x) ↦ (cc (rw a at e), n / 2, omega (arith, x))
+]
+
+pub parts-break : (is_map : Bool) (n : ℕ) (old new : ItemHeads) (head : ItemHead) (around : List Level) →
+    open_in old ≡ open_level is_map n ∷ around → head.header ≡ header.Break → HasRead new × IsHeadRead old new head →
+    (open_in new ≡ incomplete around) × (k : ℕ) × (n ≡ (if is_map then k + k else k))
+parts-break is_map n old new head around e f (read, is) =
+    let (more, g, h) = is.levels in
+    let (same, k, count) = parts-end is_map n around more
+    (subst (λ x. behind_head x (open_level is_map n ∷ around) ≡ Some more) f
+    (subst (λ x. behind_head head.header x ≡ Some more) e g)) in
+    (h ∙ ap incomplete (sym same), k, count)
+
+-- ---- items that are counted
+
+pub parts-due : (heads : ItemHeads) (count place : ℕ) (around : List Level) → place < count →
+    open_in heads ≡ incomplete (level.Items (count - place) ∷ around) →
+    open_in heads ≡ level.Items (suc (count - (place + 1))) ∷ around
+parts-due heads count place around less e =
+    let one : count - place ≡ suc (count - (place + 1)) = omega (arith, less) in
+    subst (λ n. open_in heads ≡ incomplete (level.Items n ∷ around)) one e
