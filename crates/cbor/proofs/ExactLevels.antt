@@ -75,23 +75,7 @@ no-break old new head n around e (read, is) f =
     subst (λ x. behind_head x (level.Items n ∷ around) ≡ Some more) f
     (subst (λ x. behind_head head.header x ≡ Some more) e g) in cc never
 
--- ---- a break
-
--- a break was read in a level that it may end
-pub break-read : (old new : ItemHeads) (head : ItemHead) (levels around : List Level) → open_in old ≡ levels →
-    head.header ≡ header.Break → behind_break levels ≡ Some around → HasRead new × IsHeadRead old new head →
-    open_in new ≡ incomplete around
-break-read old new head levels around e f ends (read, is) =
-    let (more, g, h) = is.levels in
-    let same : behind_break levels ≡ Some more = subst (λ x. behind_head x levels ≡ Some more) f
-    (subst (λ x. behind_head head.header x ≡ Some more) e g) in
-    h ∙ ap incomplete (some-is (behind_break levels) around more ends same)
-
 -- ---- parts of a string
-
-pub chunk-ends : (is_text : Bool) (around : List Level) → behind_break (chunk_level is_text ∷ around) ≡ Some around
-chunk-ends true around = refl
-chunk-ends false around = refl
 
 pub chunk-open : (is_text : Bool) (around : List Level) →
     incomplete (chunk_level is_text ∷ around) ≡ chunk_level is_text ∷ around

@@ -61,9 +61,3 @@ cut held n P fits bytes h =
 pub counted : (old new : Option (List ℕ)) (p n : ℕ) (P : List ℕ → Type 0) → TakesSome old new n P →
     Advances old new p (p + n) P
 counted old new p n P (b, taken, len, h, bytes) = (b, taken, omega (arith, len), h, bytes)
-
-keeps-first : (a b o : Option (List ℕ)) (x : List ℕ) → Keeps a b → Consumes b o x → Consumes a o x
-keeps-first None b o x k t = tt
-keeps-first (Some xs) None o x k t = absurd k
-keeps-first (Some xs) (Some ys) None x k t = absurd t
-keeps-first (Some xs) (Some ys) (Some zs) x k t = sym k ∙ t

@@ -84,14 +84,6 @@ end_of_fields once others = record {
 abbrev pub no_field : Fields (Unit {0}) (Unit {0})
 no_field = end_of_fields false no_field_given
 
--- the same, but where a field is repeated, it is refused as DuplicateKey
-abbrev pub no_field_twice : Fields (Unit {0}) (Unit {0})
-no_field_twice = end_of_fields true no_field_given
-
--- the same again, and another name is refused as UnknownField
-abbrev pub no_other_field : Fields (Unit {0}) (Unit {0})
-no_other_field = end_of_fields true no_other_given
-
 -- a field of this label, what was read of which is filled up so, and those behind it
 abbrev pub field_filled : {T A C D : Type 0} → Label → Reading T A → (Option A → Option A) →
     Fields C D → Fields (Option A × C) (A × D)

@@ -188,27 +188,6 @@ too_large base number d b (a ∷ text) t h e digit large = of (digit_of base a)
     of None = tt
     of (Some c) = past
 
-pub no_minus_token : (found : Option (ℕ × List ℕ)) → IsNoNumber found → minus_token found ≡ None
-no_minus_token None h = refl
-no_minus_token (Some p) h = let not : nat_le p.0 (2 ^ 127) ≡ false = search (rules, h) in
-    ap (λ b. if b then Some (leaf (number_tree (negated p.0)), p.1) else None) not
-
-pub no_plus_token : (found : Option (ℕ × List ℕ)) → IsNoNumber found → plus_token found ≡ None
-no_plus_token None h = refl
-no_plus_token (Some p) h = of (behind (codes "(") p.1)
-  where
-    picked : Option (List ℕ) → Option (Token × List ℕ)
-    picked r = elim r [
-      | Some r ↦ if nat_lt p.0 (2 ^ 64) then Some (begin_tag p.0, r) else None
-      | None ↦ if nat_lt p.0 (2 ^ 128) then Some (leaf (number_tree (pos p.0)), p.1) else None
-    ]
-
-    of : (r : Option (List ℕ)) → picked r ≡ None
-    of (Some r) = let not : nat_lt p.0 (2 ^ 64) ≡ false = search (rules, h) in
-        ap (λ b. if b then Some (begin_tag p.0, r) else None) not
-    of None = let not : nat_lt p.0 (2 ^ 128) ≡ false = search (rules, h) in
-        ap (λ b. if b then Some (leaf (number_tree (pos p.0)), p.1) else None) not
-
 -- ---- escapes
 
 pub low_behind : (high : ℕ) (t r : List ℕ) → 2 ≤ length t → get_or t 0 0 ≡ 92 → get_or t 1 0 ≡ 117 → r ≡ drop 2 t →

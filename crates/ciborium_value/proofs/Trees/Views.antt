@@ -44,10 +44,4 @@ pub tree_pairs_count-tree_pairs_of : (ps : List (Value × Value)) → tree_pairs
 tree_pairs_count-tree_pairs_of [] = refl
 tree_pairs_count-tree_pairs_of (p ∷ ps) = ap suc (tree_pairs_count-tree_pairs_of ps)
 
--- ---- proper trees: a walk over a value has this much to show at a list, since no `Vec` is longer than the greatest
--- offset
-
-fits : {A : Type 0} (v : Vec A Global) → length v.items ≤ greatest_offset
-fits v = let ok = v.ok in let small = v.small in omega arith
-
 -- ---- equal trees
