@@ -17,22 +17,12 @@ use Rattle.cbor.specs.Exact.{IsBegun, behind_begun, chunk_level, kind_of, open_l
 -- ---- the head of an item
 
 as-bytes : (levels around : List Level) → behind_item levels ≡ Some around → behind_bytes levels ≡ behind_item levels
-as-bytes [] around e = refl
-as-bytes (level.Items n ∷ levels) around e = refl
-as-bytes (level.OpenItems ∷ levels) around e = refl
-as-bytes (level.OpenKeys ∷ levels) around e = refl
-as-bytes (level.OpenValues ∷ levels) around e = refl
 as-bytes (level.ByteChunks ∷ levels) around e = absurd (cc e)
-as-bytes (level.TextChunks ∷ levels) around e = refl
+as-bytes levels around e = refl
 
 as-text : (levels around : List Level) → behind_item levels ≡ Some around → behind_text levels ≡ behind_item levels
-as-text [] around e = refl
-as-text (level.Items n ∷ levels) around e = refl
-as-text (level.OpenItems ∷ levels) around e = refl
-as-text (level.OpenKeys ∷ levels) around e = refl
-as-text (level.OpenValues ∷ levels) around e = refl
-as-text (level.ByteChunks ∷ levels) around e = refl
 as-text (level.TextChunks ∷ levels) around e = absurd (cc e)
+as-text levels around e = refl
 
 some-is : {A : Type 0} (o : Option A) (x y : A) → o ≡ Some x → o ≡ Some y → y ≡ x
 some-is o x y e f = cc (e, f)

@@ -47,12 +47,7 @@ more-sorted_forms o k v ps = by (deterministic_form o k) (deterministic_form o v
         given (then_take (one_pair_more q r s) (sorted_pairs o)) ≡ put_among o (given q) (given r)
         (given (then_take s (sorted_pairs o)))
     by (gives l) (gives w) (gives qs) = given-then (sorted_pairs o qs) (inserted o l w)
-    by (gives l) (gives w) (refuses j) = refl
-    by (gives l) (gives w) nests = refl
-    by (gives l) (refuses j) s = refl
-    by (gives l) nests s = refl
-    by (refuses j) r s = refl
-    by nests r s = refl
+    by q r s = refl
 
 -- two pairs are put among others in either order
 among-exchanged : (o : KeyOrder) (k v l w : Tree) (ps : TreePairs) →
