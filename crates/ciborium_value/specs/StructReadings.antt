@@ -1,6 +1,6 @@
 -- How a struct is read from a map by the labels of its fields.
 use Rattle.std.specs.Option.{is_some, unwrap_or}
-use Rattle.std.specs.Prelude.{Bool, true, false, List, [], ◌∷◌, Option, Some, None, Result, Ok}
+use Rattle.std.specs.Prelude.{Bool, false, List, [], ◌∷◌, Option, Some, None, Result, Ok}
 use Rattle.std.specs.Prelude.{Err, ◌&&◌, if◌then◌else◌}
 use Rattle.ciborium_ll.specs.Item.{Item}
 use Rattle.ciborium_value.specs.Labels.{Label, is_label, given_label}

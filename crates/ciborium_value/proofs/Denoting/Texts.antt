@@ -13,9 +13,6 @@ use Rattle.std.specs.Str.{is_utf8}
 use Rattle.std.proofs.lemmas.Str.{IsUtf8-from_is_utf8, is_utf8-from_IsUtf8}
 use Rattle.std.proofs.lemmas.List.Elements.{All-head, All-tail}
 use Rattle.ciborium_value.specs.Notation.{IsPlain, needs_escape}
-use Rattle.std.proofs.Common.{codes, pos, nat_le}
-use Rattle.ciborium_value.specs.Number.{number_tree}
-use Rattle.ciborium_value.specs.Tokens.{Token, begin_tag, behind, minus_token, negated, plus_token}
 use Rattle.ciborium_value.specs.Tokens.{digit_of, digits_at, digits_behind, is_high, is_low, leaf, low_at}
 use Rattle.ciborium_value.specs.Tokens.{low_unit_at, paired, prepended, text_at, text_token, unit_at, unit_in, unit_of}
 use Rattle.ciborium_value.specs.Tree as trees

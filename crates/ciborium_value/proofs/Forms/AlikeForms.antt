@@ -10,7 +10,7 @@ use Rattle.ciborium_value.specs.Meaning.{is_bignum_tag, bignum_meaning, trees_mo
 use Rattle.ciborium_value.specs.SameContents.{IsAlike, turned, through, folds, in_tag, in_array, in_map, AreAlike}
 use Rattle.ciborium_value.specs.SameContents.{PairsAreAlike, no_pairs, more_pairs, exchanged, one_after_another}
 use Rattle.ciborium_value.specs.SameContents as same
-use Rattle.ciborium_value.specs.Given.{Outcome, gives, refuses, nests, then_take, of_meaning}
+use Rattle.ciborium_value.specs.Given.{Outcome, gives, then_take, of_meaning}
 use Rattle.ciborium_value.specs.Tree.{Tree, integer, bytes, text, boolean, null, tag, array, map, Trees, no_trees, tree}
 use Rattle.ciborium_value.specs.Tree.{TreePairs, no_tree_pairs, tree_pair}
 use Rattle.ciborium_value.specs.declared.key_order.KeyOrder.{KeyOrder}
