@@ -1,15 +1,11 @@
 -- The bytes of an item that are copied out of a reader.
 use Rattle.std.proofs.Common.{◌≡◌, ℕ, ◌-◌, ◌≤◌, List, [], ◌++◌, length, take, drop, Option, Some, None, IfSome, Result}
 use Rattle.std.proofs.Common.{append_assoc, arith, ap, length-append, sym, subst, take-append-drop, ◌∙◌, refl}
-use Rattle.std.proofs.Math.Seq.{take-append-add}
-use Rattle.std.proofs.lemmas.List.{length-take, nil_from_length}
-use Rattle.std.specs.Prelude.{IsUtf8}
-use Rattle.std.specs.Io.KnownBytes.{Consumes}
-use Rattle.ciborium_ll.specs.declared.item_bytes.NotCopied.{NotCopied}
-use Rattle.ciborium_ll.specs.declared.item_heads.NoItem.TheVariants.{Malformed, TooDeep}
-use Rattle.ciborium_ll.specs.declared.levels.Level.{Level}
-use Rattle.ciborium_ll.specs.ItemBytes.{HasEnded, IsCopyOf}
-use Rattle.ciborium_ll.specs.ItemLengths.{BeginText, IsNoItem, Misfits, StandsOpen}
+use Rattle.std.proofs.{Math.Seq.take-append-add, lemmas.List.{length-take, nil_from_length}}
+use Rattle.std.specs.{Prelude.IsUtf8, Io.KnownBytes.Consumes}
+use Rattle.ciborium_ll.specs.{declared.item_bytes.NotCopied.NotCopied, declared.item_heads.NoItem.TheVariants.Malformed}
+use Rattle.ciborium_ll.specs.{declared.item_heads.NoItem.TheVariants.TooDeep, declared.levels.Level.Level}
+use Rattle.ciborium_ll.specs.{ItemBytes.{HasEnded, IsCopyOf}, ItemLengths.{BeginText, IsNoItem, Misfits, StandsOpen}}
 use Rattle.ciborium_ll.specs.ItemLengths.{ill_formed, misplaced, no_chunk, no_text}
 use Rattle.ciborium_ll.proofs.LevelMisfits.{ill-more}
 
@@ -23,8 +19,7 @@ more-ended (Some xs) (Some ys) after c taken ends b e = ends ys refl
 
 -- no byte was held
 pub none-held : (before after : Option (List ℕ)) (held c : List ℕ) →
-    IfSome before (λ xs. length held ≡ 0 → xs ≡ []) → length held ≡ 0 → Consumes before after c →
-    HasEnded before after
+    IfSome before (λ xs. length held ≡ 0 → xs ≡ []) → length held ≡ 0 → Consumes before after c → HasEnded before after
 none-held None after held c ends none taken b e = absurd cc
 none-held (Some xs) None held c ends none taken b e = absurd taken
 none-held (Some xs) (Some ys) held c ends none taken b e =
