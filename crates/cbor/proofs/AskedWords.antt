@@ -87,11 +87,12 @@ is_name word = nat_le 10 (digit_value (get_or word 0 0))
 tested : (words : List (List ℕ)) → list_all is_name words ≡ true → AreNames words
 unfolding is_name
 tested [] h = tt
-tested (word ∷ words) h = by (is_name word) refl h
+tested (word ∷ words) h = by (is_name word) refl (tested words) h
   where
-    by : (b : Bool) → is_name word ≡ b → (b && list_all is_name words) ≡ true → AreNames (word ∷ words)
-    by true e h = ((λ digit. grind (arith, nat_tests)), tested words h)
-    by false e h = absurd cc
+    by : (b : Bool) → is_name word ≡ b → (list_all is_name words ≡ true → AreNames words) →
+        (b && list_all is_name words) ≡ true → AreNames (word ∷ words)
+    by true e rest h = ((λ digit. grind (arith, nat_tests)), rest h)
+    by false e rest h = absurd cc
 
 all-names : (command : Command) → list_all is_name (command_words command) ≡ true
 unfolding is_name
