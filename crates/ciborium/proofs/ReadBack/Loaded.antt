@@ -17,7 +17,7 @@ use Rattle.ciborium_value.specs.Folded.{folded, tree_pairs_folded}
 use Rattle.ciborium_value.specs.Meaning.{tree_pairs_more}
 use Rattle.ciborium_value.specs.Places.{dictionary, pairs_from}
 use Rattle.ciborium_value.specs.Readings.{Reading}
-use Rattle.ciborium_value.specs.ReadsBack.{IsReadBack, by_bytes}
+use Rattle.ciborium_value.specs.ReadsBack.{IsPlainlyReadBack, by_bytes}
 use Rattle.ciborium_value.specs.Sinks.{Named, all_named, and_then, contained, container_of, in_turn, named_value}
 use Rattle.ciborium_value.specs.Given.{gives, outcome}
 use Rattle.ciborium_value.specs.Tree as trees
@@ -45,7 +45,7 @@ use Rattle.ciborium_value.proofs.GoodItems.Accepted.{accepted, written-item}
 -- ---- any type
 
 pub loaded_as_saved : {T C : Type 0} (IsValid : T → Type 0) (written : T → Named) (reading : Reading T C)
-    (levels : T → ℕ) → IsReadBack IsValid written reading.taken reading.content levels →
+    (levels : T → ℕ) → IsPlainlyReadBack IsValid written reading.taken reading.content levels →
     LoadedAsSaved IsValid written reading
 loaded_as_saved {T} {C} IsValid written reading levels law o v t l rest after r valid names determined nests fits
     answers =
@@ -58,7 +58,7 @@ loaded_as_saved {T} {C} IsValid written reading levels law o v t l rest after r 
     by (Ok w) (same, left) = (
       left,
       ap (λ u. outcome None (reading.taken (item_of u))) (sym same) ∙
-          (law v valid).back by_bytes (item_of t) names None tt,
+          (law by_bytes tt v valid).back (item_of t) names (item_of t) refl None tt,
     )
     by (Err e) failed = failed
 
@@ -77,7 +77,7 @@ loading_gives_content IsValid written reading law o v t w l old new bytes after 
     one-content (outcome None (reading.taken (item_of w))) (reading.content v) c loaded.1 give
 
 module _ {T C : Type 0} (IsValid : T → Type 0) (written : T → Named) (reading : Reading T C) (levels : T → ℕ)
-    (law : IsReadBack IsValid written reading.taken reading.content levels) where
+    (law : IsPlainlyReadBack IsValid written reading.taken reading.content levels) where
   -- an item that is named was written whole: a tree that is read at its front has just that item
   front-content : (o : KeyOrder) (v : T) (l : ℕ) (w : Tree) (bytes : List ℕ) (after : Option (List ℕ)) (c : C) →
       IsValid v → (i : Item) → written v ≡ Ok i → IsWritten i → bytes ≡ written_bytes i →
@@ -86,7 +86,7 @@ module _ {T C : Type 0} (IsValid : T → Type 0) (written : T → Named) (readin
   front-content o v l w bytes after c valid i names fits same (s, left, good, e, is) give =
       let one = one_at_front (written_bytes i) s [] left i (item_of w) (written_spells_item i fits)
       (written-item o s 0 (Some l) w good) (append-nil (written_bytes i) ∙ sym same ∙ e) in
-      one-content (outcome None (reading.taken i)) (reading.content v) c ((law v valid).back by_bytes i names None tt)
+      one-content (outcome None (reading.taken i)) (reading.content v) c ((law by_bytes tt v valid).back i names i refl None tt)
       (ap (λ j. outcome None (reading.taken j)) one.2 ∙ give)
 
   -- the same, by cases on what is named

@@ -6,7 +6,7 @@ use Rattle.std.specs.declared.io.Error.{Error as IoError}
 use Rattle.ciborium_ll.specs.Bytes.{greatest_offset}
 use Rattle.ciborium_ll.specs.Spells.{Spells}
 use Rattle.ciborium_value.specs.Encoding.{encoding, item_of}
-use Rattle.ciborium_value.specs.FormsReadBack.{IsReadFromForm}
+use Rattle.ciborium_value.specs.ReadsBack.{IsReadFromForm}
 use Rattle.ciborium_value.specs.Readings.{Reading}
 use Rattle.ciborium_value.specs.Sinks.{Named}
 use Rattle.ciborium_value.specs.Sources.{IsFaultOf}
@@ -50,12 +50,12 @@ no-other o l b named t e form same (RefusesOther.other u k f d r) =
     absurd (d.1 (ap (take (suc k)) (same ∙ ap encoding (one-form (named_form o named) t u form f))))
 no-other o l b named t e form same RefusesOther.no_memory = refl
 
-module _ {T C : Type 0} (IsValid : T → Type 0) (written : T → Named) (reading : Reading T C)
-    (law : (o : KeyOrder) → IsReadFromForm o IsValid written reading.taken reading.content) where
+module _ {T C : Type 0} (IsValid : T → Type 0) (written : T → Named) (reading : Reading T C) (levels : T → ℕ)
+    (law : IsReadFromForm IsValid written reading.taken reading.content levels) where
   module _ (o : KeyOrder) (l : ℕ) (v : T) (t : Tree) (bytes : List ℕ) (valid : IsValid v)
       (form : named_form o (written v) ≡ gives t) (fits : IsWritten (item_of t)) (same : bytes ≡ encoding t) where
     given : outcome None (reading.taken (item_of t)) ≡ gives (reading.content v)
-    given = from-form IsValid written reading law o v valid (written v) refl t form
+    given = from-form IsValid written reading levels law o v valid (written v) refl t form
 
     spelled : Spells bytes (item_of t)
     spelled = subst (λ b. Spells b (item_of t)) (sym same) (written_spells_item (item_of t) fits)

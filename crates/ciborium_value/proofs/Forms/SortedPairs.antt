@@ -16,7 +16,7 @@ use Rattle.ciborium_value.specs.Tree.{Tree, TreePairs, no_tree_pairs, tree_pair}
 use Rattle.ciborium_value.specs.declared.key_order.KeyOrder.{KeyOrder}
 use Rattle.ciborium_value.specs.declared.kind.Kind.TheVariants as kinds
 use Rattle.ciborium_value.proofs.Orders.TotalOrders.{key_order_total}
-use Rattle.ciborium_value.specs.lemmas.ReadsBackMaps.{not-at}
+use Rattle.ciborium_value.specs.lemmas.PutEntries.{not-at}
 
 -- ---- one pair among others
 

@@ -11,7 +11,8 @@ use Rattle.ciborium_value.specs.Meaning.{folding_bytes, is_bignum_tag, simple_me
 use Rattle.ciborium_value.specs.Meaning.{tree_pairs_more, trees_more}
 use Rattle.ciborium_value.specs.Nesting.{Limit, IsWithin, items_nesting, nesting, pairs_nesting}
 use Rattle.ciborium_value.specs.Nesting.{tag_nesting}
-use Rattle.ciborium_value.specs.ReadsBack.{IsNameRead, met, met-definite, named, of_ok}
+use Rattle.ciborium_value.specs.ReadsBack.{IsNameRead, IsPlain, Way, by_bytes, by_form, by_tree}
+use Rattle.ciborium_value.specs.ReadsBack.{item-back, met, named}
 use Rattle.ciborium_value.specs.lemmas.ReadsBackParts.{within-left, within-right}
 use Rattle.ciborium_value.specs.Given.{Outcome, Steps, gives, leveled, mapped, of_meaning}
 use Rattle.ciborium_value.specs.Given.{outcome, outcome_map, given_items, given_tag}
@@ -112,12 +113,15 @@ mutual
       (given_tree_pairs (pairs_of ps)) (value-given k) (value-given v) (pairs-given ps) l
       w e fits
 
--- what is written of a tree is read as the tree, where folding changes nothing in it
-pub value-back : (t : Tree) → folded t ≡ Some t →
-    IsNameRead (named (item_of t)) given_value t (nesting (item_of t))
-value-back t same = record {
-  back = λ way i e l fits. of_ok (named (item_of t))
-      (λ j. outcome l (given_value (met way j)) ≡ gives t)
-      (ap (λ j. outcome l (given_value j)) (met-definite way (item_of t)
-      (ap item_of (tree_is_written_as_itself t))) ∙ value-given t l t same fits) i e;
-}
+-- the item of a tree is met as it was written, but in a form
+pub met-tree : (way : Way) → IsPlain way → (t : Tree) → met way (item_of t) ≡ gives (item_of t)
+met-tree by_bytes plain t = refl
+met-tree by_tree plain t = ap (λ u. gives (item_of u)) (tree_is_written_as_itself t)
+met-tree (by_form o) plain t = absurd plain
+
+-- what is written of a tree is read as the tree, where its item is met so and folding changes
+-- nothing in it
+pub value-back : {way : Way} (t : Tree) → met way (item_of t) ≡ gives (item_of t) →
+    folded t ≡ Some t → IsNameRead way (named (item_of t)) given_value t (nesting (item_of t))
+value-back t same folds = item-back (item_of t) given_value same
+    (λ l fits. value-given t l t folds fits)
