@@ -54,8 +54,8 @@ labels-fold (e ∷ es) h =
 kept : (m : BTreeMap Value Value) → AreKept m → AreLabels (labels_tree m) (entry_trees m)
 kept m h = (
   (tree_pairs_of m.entries, refl, h.labels),
-  (map-back (λ v. value-back (tree_of v)) (λ v. value-back (tree_of v)) false value_cmp tree_cmp value_cmp_total
-      value_cmp-is m h.valid).back by_bytes _ (store-named m.entries) None tt,
+  (map-back {way = by_bytes} (λ v. value-back (tree_of v) refl) (λ v. value-back (tree_of v) refl) false value_cmp
+      tree_cmp value_cmp_total value_cmp-is m h.valid).back _ (store-named m.entries) _ refl None tt,
   length-map m.entries pair_trees ∙ sym (tree_pairs_count-tree_pairs_of m.entries),
 )
 
@@ -81,7 +81,7 @@ header-again b m written h nests =
     let s : Spells b i = spelled b i (subst (IsWrittenAs b) (store-named m.entries) written) in
     header-of b (entry_trees m) record {
       tree = labels_tree m;
-      item = (i, s, (value-back (labels_tree m) (map-folds m h)).back by_bytes i refl (Some 256) nests);
+      item = (i, s, (value-back {way = by_bytes} (labels_tree m) refl (map-folds m h)).back i refl i refl (Some 256) nests);
       labels = kept m h;
     }
 
@@ -110,14 +110,15 @@ pub written-wrapped : (bs : List ℕ) (w : Wrapping) (e : Envelope) → IsWhole 
     Spells bs (item_of (wrapped_tree w (message_of e))) → IsWrapped bs w e
 written-wrapped bs w e h s =
     let apart = told w (item_of (message_of e)) refl in
-    let back = captured-back (tags_of w).0 apart.0 (captured-back (tags_of w).1 apart.1
-    (value-back (message_of e) (message-folds e h.unprotected))) in
+    let back = captured-back {way = by_bytes} (tags_of w).0 apart.0 tt
+    (captured-back {way = by_bytes} (tags_of w).1 apart.1 tt
+    (value-back {way = by_bytes} (message_of e) refl (message-folds e h.unprotected))) in
     let names = under-named (tags_of w).0 _ _ (under-named (tags_of w).1 _ (message_of e) refl) in record {
       tree = message_of e;
       item = (
         item_of (wrapped_tree w (message_of e)),
         s,
-        back.back by_bytes _ names (Some 256) (omega (arith, h.nests)),
+        back.back _ names _ refl (Some 256) (omega (arith, h.nests)),
       );
       message = written-parts 254 e h;
     }
@@ -130,7 +131,8 @@ written-envelope bs e h s = record {
   item = (
     item_of (wrapped_tree Signed (message_of e)),
     s,
-    (required-back 18 (value-back (message_of e) (message-folds e h.unprotected))).back by_bytes _ refl (Some 256)
+    (required-back {way = by_bytes} 18 tt
+        (value-back (message_of e) refl (message-folds e h.unprotected))).back _ refl _ refl (Some 256)
         (omega (arith, h.nests)),
   );
   message = written-parts 255 e h;

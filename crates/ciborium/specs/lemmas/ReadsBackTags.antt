@@ -3,7 +3,7 @@
 use Rattle.std.proofs.Common.{ap, sym, subst, ◌∙◌, arith}
 use Rattle.std.proofs.lemmas.Bool.Decides.{nat_tests}
 use Rattle.std.specs.Prelude.{◌≡◌, ℕ, suc, Bool, true, false, nat_lt, List, Option, Some, None, Ok}
-use Rattle.std.specs.Prelude.{Err, IfOk, IfSome, if◌then◌else◌, refl}
+use Rattle.std.specs.Prelude.{Err, IfOk, if◌then◌else◌, refl}
 use Rattle.ciborium_ll.specs.Item as items
 use Rattle.ciborium_ll.specs.Item.{Item}
 use Rattle.ciborium_value.specs.DeterministicForms.{deterministic_form, deterministic_forms}
@@ -79,40 +79,37 @@ either_none : (c : Bool) (m : Option (List ℕ)) → m ≡ None → (if c then m
 either_none true m h = h
 either_none false m h = refl
 
--- where a form is read, the tag folds nothing over the item that is named
-abbrev pub IsNeverFolded : Way → Named → ℕ → Type 0
-IsNeverFolded by_bytes r t = Unit {0}
-IsNeverFolded by_tree r t = Unit {0}
-IsNeverFolded (by_form o) r t = (i : Item) → r ≡ Ok i →
+-- where a form is read, the tag, if there is one, folds nothing over the item that is named
+abbrev pub IsUnfolded : Way → Option ℕ → Named → Type 0
+IsUnfolded by_bytes m r = Unit {0}
+IsUnfolded by_tree m r = Unit {0}
+IsUnfolded (by_form o) None r = Unit {0}
+IsUnfolded (by_form o) (Some t) r = (i : Item) → r ≡ Ok i →
     tree_folding_bytes t (written_tree i) ≡ None
 
--- no form is read
-pub plain-never_folded : (way : Way) → IsPlain way → (r : Named) (t : ℕ) → IsNeverFolded way r t
-plain-never_folded by_bytes plain r t = tt
-plain-never_folded by_tree plain r t = tt
-plain-never_folded (by_form o) plain r t = absurd plain
+pub plain-unfolded : (way : Way) → IsPlain way → (m : Option ℕ) (r : Named) → IsUnfolded way m r
+plain-unfolded by_bytes plain m r = tt
+plain-unfolded by_tree plain m r = tt
+plain-unfolded (by_form o) plain m r = absurd plain
 
 -- no tag does over what is no byte string
-pub not_bytes : (way : Way) {r : Named} → IsNever byte_strings r → (t : ℕ) → IsNeverFolded way r t
-not_bytes by_bytes never t = tt
-not_bytes by_tree never t = tt
-not_bytes (by_form o) never t = λ i e.
+pub not_bytes : (way : Way) (m : Option ℕ) {r : Named} → IsNever byte_strings r →
+    IsUnfolded way m r
+not_bytes by_bytes m never = tt
+not_bytes by_tree m never = tt
+not_bytes (by_form o) None never = tt
+not_bytes (by_form o) (Some t) never = λ i e.
     either_none (is_bignum_tag t) (short_bytes (written_tree i)) (never i e)
 
 -- and a tag but 2 and 3 over nothing
-pub no_bignum : (way : Way) (r : Named) (t : ℕ) → is_bignum_tag t ≡ false → IsNeverFolded way r t
-no_bignum by_bytes r t h = tt
-no_bignum by_tree r t h = tt
-no_bignum (by_form o) r t h = λ i e. ap (λ c. if c then short_bytes (written_tree i) else None) h
-
--- whatever the tag is, if there is one
-pub whatever_tag : {way : Way} {r : Named} → ((t : ℕ) → IsNeverFolded way r t) → (m : Option ℕ) →
-    IfSome m (IsNeverFolded way r)
-whatever_tag never None = tt
-whatever_tag never (Some t) = never t
+pub no_bignum : (way : Way) (t : ℕ) (r : Named) → is_bignum_tag t ≡ false →
+    IsUnfolded way (Some t) r
+no_bignum by_bytes t r h = tt
+no_bignum by_tree t r h = tt
+no_bignum (by_form o) t r h = λ i e. ap (λ c. if c then short_bytes (written_tree i) else None) h
 
 -- so a tag is met over what is met
-met-tag : (way : Way) (t : ℕ) (i j : Item) → IsNeverFolded way (Ok i) t →
+met-tag : (way : Way) (t : ℕ) (i j : Item) → IsUnfolded way (Some t) (Ok i) →
     met way (items.tag t i) ≡ gives j →
     (u : Item) × (met way i ≡ gives u) × (items.tag t u ≡ j)
 met-tag by_bytes t i j never e = (i, refl, one_given (items.tag t i) j e)
@@ -129,36 +126,39 @@ met-tag (by_form o) t i j never e =
 
 -- ---- types under tags
 
+-- an item is read with its outermost tag, where what is under it is read with a level less
+under : {C : Type 0} (taken : Given C) (c : C) (n : ℕ) (m : Option ℕ) (j u : Item) →
+    outer_tag j ≡ (m, u) → ((l : Limit) → IsWithin l n → outcome l (taken u) ≡ gives c) →
+    (l : Limit) → IsWithin l (suc n) → outcome l (given_with_tag taken j) ≡ gives (m, c)
+under taken c n m j u e h l fits = ap (λ p. then_take (within_level l (gives p))
+    (λ q. outcome (deeper l) (mapped (λ v. (q.0, v)) (taken q.1)))) e ∙
+    inside (λ p. true) (λ p. mapped (λ v. (p.0, v)) (taken p.1)) (m, u) (m, c) n refl
+    (λ k less. ap (outcome_map (λ v. (m, v))) (h k less)) l fits
+
+captured-read : {C : Type 0} (way : Way) (taken : Given C) (c : C) (n : ℕ) (m : Option ℕ)
+    (r : Named) → IsToldApart m r → IsUnfolded way m r → IfOk r (IsItemRead way taken c n) →
+    IfOk (captured_of m r) (IsItemRead way (given_with_tag taken) (m, c) (suc n))
+captured-read way taken c n (Some t) (Ok i) told never h = λ j e l fits.
+    let (u, is, same) = met-tag way t i j never e in
+    subst (λ x. outcome l (given_with_tag taken x) ≡ gives (Some t, c)) same
+    (under taken c n (Some t) (items.tag t u) u refl (h u is) l fits)
+captured-read way taken c n None (Ok i) told never h = λ j e l fits.
+    under taken c n None j j (met-untagged way i j told e) (h j e) l fits
+captured-read way taken c n u v told never h = tt
+
+itself : (t : ℕ) → is_tag t (Some t) ≡ true
+itself t = grind (arith, nat_tests)
+
 module _ {C : Type 0} {way : Way} {taken : Given C} {c : C} {n : ℕ} where
-  -- an item is read with its outermost tag, where what is under it is read with a level less
-  under : (m : Option ℕ) (j u : Item) → outer_tag j ≡ (m, u) →
-      ((l : Limit) → IsWithin l n → outcome l (taken u) ≡ gives c) →
-      (l : Limit) → IsWithin l (suc n) → outcome l (given_with_tag taken j) ≡ gives (m, c)
-  under m j u e h l fits = ap (λ p. then_take (within_level l (gives p))
-      (λ q. outcome (deeper l) (mapped (λ v. (q.0, v)) (taken q.1)))) e ∙
-      inside (λ p. true) (λ p. mapped (λ v. (p.0, v)) (taken p.1)) (m, u) (m, c) n refl
-      (λ k less. ap (outcome_map (λ v. (m, v))) (h k less)) l fits
-
-  captured-read : (m : Option ℕ) (r : Named) → IsToldApart m r → IfSome m (IsNeverFolded way r) →
-      IfOk r (IsItemRead way taken c n) →
-      IfOk (captured_of m r) (IsItemRead way (given_with_tag taken) (m, c) (suc n))
-  captured-read (Some t) (Ok i) told never h = λ j e l fits.
-      let (u, is, same) = met-tag way t i j never e in
-      subst (λ x. outcome l (given_with_tag taken x) ≡ gives (Some t, c)) same
-      (under (Some t) (items.tag t u) u refl (h u is) l fits)
-  captured-read None (Ok i) told never h = λ j e l fits.
-      under None j j (met-untagged way i j told e) (h j e) l fits
-  captured-read u v told never h = tt
-
-  pub captured-back : (m : Option ℕ) {r : Named} → IsToldApart m r →
-      IfSome m (IsNeverFolded way r) → IsNameRead way r taken c n →
+  pub captured-back : (m : Option ℕ) {r : Named} → IsToldApart m r → IsUnfolded way m r →
+      IsNameRead way r taken c n →
       IsNameRead way (captured_of m r) (given_with_tag taken) (m, c) (suc n)
   captured-back m {r = r} told never h =
-      name-back (captured_of m r) (captured-read m r told never (at h))
+      name-back (captured_of m r) (captured-read way taken c n m r told never (at h))
 
   -- under a tag that passes this test
   tested-back : (test : Option ℕ → Bool) (t : ℕ) {r : Named} → test (Some t) ≡ true →
-      IsNeverFolded way r t → IsNameRead way r taken c n →
+      IsUnfolded way (Some t) r → IsNameRead way r taken c n →
       IsNameRead way (tag_of t r) (given_then (given_with_tag taken) (if_tag test)) c (suc n)
   tested-back test t passes never h = record {
     back = λ i e j is l fits. ap (λ o. then_take o (λ p. outcome l (if_tag test p)))
@@ -166,14 +166,11 @@ module _ {C : Type 0} {way : Way} {taken : Given C} {c : C} {n : ℕ} where
         ap (λ s. if s then gives c else refuses kinds.Tag) passes;
   }
 
-  itself : (t : ℕ) → is_tag t (Some t) ≡ true
-  itself t = grind (arith, nat_tests)
-
-  pub required-back : (t : ℕ) {r : Named} → IsNeverFolded way r t → IsNameRead way r taken c n →
+  pub required-back : (t : ℕ) {r : Named} → IsUnfolded way (Some t) r → IsNameRead way r taken c n →
       IsNameRead way (tag_of t r) (given_then (given_with_tag taken) (if_tag (is_tag t))) c (suc n)
   required-back t never h = tested-back (is_tag t) t (itself t) never h
 
-  pub accepted-back : (t : ℕ) {r : Named} → IsNeverFolded way r t → IsNameRead way r taken c n →
+  pub accepted-back : (t : ℕ) {r : Named} → IsUnfolded way (Some t) r → IsNameRead way r taken c n →
       IsNameRead way (tag_of t r) (given_then (given_with_tag taken) (if_tag (is_no_other_tag t))) c
       (suc n)
   accepted-back t never h = tested-back (is_no_other_tag t) t (itself t) never h
