@@ -41,7 +41,8 @@ content f v (Err e) h = tt
 -- the bytes that a value is written as give its content
 pub of_written :
     {E A : Type 0} (named : Named) (taken : Given A) (c : A) (n : ℕ) (b : List ℕ) (r : Result A (Error E)) →
-    WrittenSpells → IsNameRead by_bytes named taken c n → n ≤ 256 → IsWrittenAs b named → GivesAll 256 taken b r → Answers c r
+    WrittenSpells → IsNameRead by_bytes named taken c n → n ≤ 256 → IsWrittenAs b named →
+    GivesAll 256 taken b r → Answers c r
 of_written (Ok i) taken c n b r spells back fits (is, written) answers =
     answers i c (subst (λ x. Spells x i) (sym is) (spells i written)) (back.back i refl i refl (Some 256) fits)
 of_written (Err kind) taken c n b r spells back fits written answers = absurd written

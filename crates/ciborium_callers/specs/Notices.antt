@@ -1,5 +1,5 @@
 -- A notice, of which a field is left out where it is false, is read back.
-use Rattle.std.specs.Prelude.{List, [], ◌∷◌, Bool, true, false, Ok, if◌then◌else◌, refl}
+use Rattle.std.specs.Prelude.{[], ◌∷◌, Option, Bool, true, false, Ok, if◌then◌else◌, refl}
 use Rattle.ciborium.specs.Encoding.{boolean_item}
 use Rattle.ciborium.specs.Labels.{fields_of}
 use Rattle.ciborium.specs.OwnTypes.{label}
@@ -19,7 +19,7 @@ notice_named title urgent = if urgent
 
 module _ {T U A : Type 0} (title : Reading T A) (flag : Reading U Bool) where
   -- how they are read
-  abbrev pub notice_fields : Fields _ (A × (Bool × Unit {0}))
+  abbrev pub notice_fields : Fields (Option A × (Option Bool × Unit {0})) (A × (Bool × Unit {0}))
   notice_fields =
       field (label "title") title (field_or (label "urgent") flag false no_field)
 

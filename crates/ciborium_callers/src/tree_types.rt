@@ -65,7 +65,8 @@ impl ReadsBack for NumberTree {
 
 // It has no map and no bignum, so it is its own form.
 impl FormReadsBack for NumberTree {
-    ghost form_reads_back = { λ order t valid. number_tree-back (by_form order) (shape_of t) valid };
+    ghost form_reads_back = { λ order t valid.
+        number_tree-back (by_form order) (shape_of t) valid };
 }
 
 impl WritesContent for NumberTree {

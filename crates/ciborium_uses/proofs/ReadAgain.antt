@@ -81,7 +81,11 @@ header-again b m written h nests =
     let s : Spells b i = spelled b i (subst (IsWrittenAs b) (store-named m.entries) written) in
     header-of b (entry_trees m) record {
       tree = labels_tree m;
-      item = (i, s, (value-back {way = by_bytes} (labels_tree m) refl (map-folds m h)).back i refl i refl (Some 256) nests);
+      item = (
+        i,
+        s,
+        (value-back {way = by_bytes} (labels_tree m) refl (map-folds m h)).back i refl i refl (Some 256) nests,
+      );
       labels = kept m h;
     }
 

@@ -5,6 +5,7 @@ use Rattle.ciborium_ll.proofs.UniqueSpelling.{one_at_front}
 use Rattle.ciborium_value.specs.DeterministicForms.{deterministic_form}
 use Rattle.ciborium_value.specs.Encoding.{encoding, item_of, written_tree}
 use Rattle.ciborium_value.specs.lemmas.ItemsOfTrees.{tree_is_written_as_itself}
+use Rattle.ciborium_value.specs.Nesting.{Limit, IsWithin}
 use Rattle.ciborium_value.specs.Readings.{Reading}
 use Rattle.ciborium_value.specs.ReadsBack.{IsPlainlyReadBack, IsReadFromForm, by_tree}
 use Rattle.ciborium_value.specs.Sinks.{Named}
@@ -95,23 +96,24 @@ module _ {T C : Type 0} (written : T → Named) (reading : Reading T C) where
 module _ {T C : Type 0} (IsValid : T → Type 0) (written : T → Named) (reading : Reading T C) (levels : T → ℕ)
     (law : IsReadFromForm IsValid written reading.taken reading.content levels) where
   pub from-form : (o : KeyOrder) (v : T) → IsValid v → (n : Named) → written v ≡ n → (t : Tree) →
-      named_form o n ≡ gives t →
-      outcome None (reading.taken (item_of t)) ≡ gives (reading.content v)
-  from-form o v valid (Ok i) names t form = (law o v valid).back i names (item_of t) (ap (outcome_map item_of) form) None tt
+      named_form o n ≡ gives t → (m : Limit) → IsWithin m (levels v) →
+      outcome m (reading.taken (item_of t)) ≡ gives (reading.content v)
+  from-form o v valid (Ok i) names t form = (law o v valid).back i names (item_of t) (ap (outcome_map item_of) form)
   from-form o v valid (Err k) names t form = absurd cc
 
   pub form_gives_content : (o : KeyOrder) (l : ℕ) (v again : T) (bytes rest : List ℕ) →
       IsFormContentGiven IsValid written reading o l v again bytes rest
   form_gives_content o l v again bytes rest old new valid out fits takes none same =
       content-read_back written reading o l v again bytes rest
-      (from-form o v valid (written v) refl) old new tt out fits takes none same
+      (λ t form. from-form o v valid (written v) refl t form None tt) old new tt out fits takes none same
 
 module _ {T C : Type 0} (IsValid : T → Type 0) (written : T → Named) (reading : Reading T C) (levels : T → ℕ)
     (law : IsPlainlyReadBack IsValid written reading.taken reading.content levels) where
   -- reading takes the content from the form of what is named
   form-content : (o : KeyOrder) (v : T) → IsValid v → (n : Named) → written v ≡ n → IsFormReadAlike reading.taken o n →
       (t : Tree) → named_form o n ≡ gives t → outcome None (reading.taken (item_of t)) ≡ gives (reading.content v)
-  form-content o v valid (Ok i) names alike t form = alike t form ∙ (law by_tree tt v valid).back i names (item_of (written_tree i)) refl None tt
+  form-content o v valid (Ok i) names alike t form = alike t form ∙
+      (law by_tree tt v valid).back i names (item_of (written_tree i)) refl None tt
   form-content o v valid (Err k) names alike t form = absurd alike
 
   pub alike_read_back : (o : KeyOrder) (l : ℕ) (v again : T) (bytes rest : List ℕ) →

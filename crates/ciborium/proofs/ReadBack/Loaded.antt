@@ -86,7 +86,8 @@ module _ {T C : Type 0} (IsValid : T → Type 0) (written : T → Named) (readin
   front-content o v l w bytes after c valid i names fits same (s, left, good, e, is) give =
       let one = one_at_front (written_bytes i) s [] left i (item_of w) (written_spells_item i fits)
       (written-item o s 0 (Some l) w good) (append-nil (written_bytes i) ∙ sym same ∙ e) in
-      one-content (outcome None (reading.taken i)) (reading.content v) c ((law by_bytes tt v valid).back i names i refl None tt)
+      one-content (outcome None (reading.taken i)) (reading.content v) c
+      ((law by_bytes tt v valid).back i names i refl None tt)
       (ap (λ j. outcome None (reading.taken j)) one.2 ∙ give)
 
   -- the same, by cases on what is named

@@ -40,7 +40,8 @@ one-content o c d h k = cc
 
 pub bytes_read_back : {T C : Type 0} (IsValid : T → Type 0) (written : T → Named) (reading : Reading T C)
     (levels : T → ℕ) →
-    IsPlainlyReadBack IsValid written reading.taken reading.content levels → BytesReadBack IsValid written reading levels
+    IsPlainlyReadBack IsValid written reading.taken reading.content levels →
+    BytesReadBack IsValid written reading levels
 bytes_read_back {T} {C} IsValid written reading levels law v i l rest after r valid names fits within answers =
     by r answers
   where
@@ -73,7 +74,8 @@ module _ {T C : Type 0} (IsValid : T → Type 0) (written : T → Named) (readin
       let one = one_at_front (written_bytes i) s [] left i j (written_spells_item i fits) sp
       (append-nil (written_bytes i) ∙ sym same ∙ e) in
       one-content (outcome (Some l) (reading.taken i)) (reading.content v) c
-      ((law by_bytes tt v valid).back i names i refl (Some l) within) (ap (λ j. outcome (Some l) (reading.taken j)) one.2 ∙ give)
+      ((law by_bytes tt v valid).back i names i refl (Some l) within)
+      (ap (λ j. outcome (Some l) (reading.taken j)) one.2 ∙ give)
 
   -- the same, by cases on what is named
   by-name : (v : T) (l : ℕ) (old new bytes : List ℕ) (after : Option (List ℕ)) (c : C) → IsValid v →

@@ -1,7 +1,7 @@
 -- What is written of a value whose tree has an accepted spelling is read back by the deterministic
 -- reader (RFC 8949, section 4.2).
-use Rattle.std.specs.Prelude.{◌≡◌, ℕ, ◌≤◌, ◌⊎◌, List, [], ◌++◌, length, map, Option, Some, None}
-use Rattle.std.specs.Prelude.{Result, Ok, Err}
+use Rattle.std.specs.Prelude.{◌≡◌, ℕ, ◌<◌, ◌≤◌, ◌⊎◌, List, [], ◌++◌, length, map, Option, Some}
+use Rattle.std.specs.Prelude.{None, Result, Ok, Err}
 use Rattle.std.specs.List.{All}
 use Rattle.std.specs.BTreeMap.{BTreeMap}
 use Rattle.std.specs.declared.io.Error.{Error as IoError}
@@ -91,22 +91,24 @@ abbrev pub NestsDeeper : {T C : Type 0} → Reading T C → Outcome Tree → ℕ
 NestsDeeper reading form l = (t : Tree) × (form ≡ gives t) ×
     (outcome (Some l) (reading.taken (item_of t)) ≡ nests)
 
--- the content is loaded; or memory was refused, or reading of the form takes more than l levels
-abbrev pub IsSavedContent : {T C : Type 0} → Reading T C → Outcome Tree → ℕ → C →
+-- the content is loaded; or memory was refused, or reading of the form takes more than l levels,
+-- and n are more
+abbrev pub IsSavedContent : {T C : Type 0} → Reading T C → Outcome Tree → ℕ → ℕ → C →
     Result T (Error IoError) → Type 0
-IsSavedContent reading form l c (Ok w) = reading.content w ≡ c
-IsSavedContent reading form l c (Err e) = (e ≡ Memory) ⊎
-    ((e ≡ RecursionLimitExceeded) × NestsDeeper reading form l)
+IsSavedContent reading form l n c (Ok w) = reading.content w ≡ c
+IsSavedContent reading form l n c (Err e) = (e ≡ Memory) ⊎
+    ((e ≡ RecursionLimitExceeded) × NestsDeeper reading form l × (l < n))
 
 -- where the deterministic form of a value was written into nothing, loading the bytes gives its
 -- content
-abbrev pub SavedIsLoaded : {T C : Type 0} → (T → Type 0) → (T → Named) → Reading T C → Type 0
-SavedIsLoaded {T} IsValid written reading =
+abbrev pub SavedIsLoaded : {T C : Type 0} → (T → Type 0) → (T → Named) → Reading T C → (T → ℕ) →
+    Type 0
+SavedIsLoaded {T} IsValid written reading levels =
     (o : KeyOrder) (l : ℕ) (v : T) (old new bytes : List ℕ) (r : Result T (Error IoError)) →
     IsValid v → WritesForm {E = IoError} (Some old) (Some new) (Ok tt) (named_form o (written v)) →
     IsFormWritten (named_form o (written v)) → length bytes ≤ greatest_offset →
     LoadsAll o l reading written bytes r → old ≡ [] → bytes ≡ new →
-    IsSavedContent reading (named_form o (written v)) l (reading.content v) r
+    IsSavedContent reading (named_form o (written v)) l (levels v) (reading.content v) r
 
 -- the same of what was loaded, as a caller has it after its calls
 abbrev pub IsSavedLoaded : {T C : Type 0} → (T → Type 0) → (T → Named) → Reading T C → KeyOrder →

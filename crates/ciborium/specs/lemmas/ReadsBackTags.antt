@@ -1,17 +1,16 @@
--- What is written under a tag is read back (RFC 8949, section 3.4); from its deterministic form where
--- no tag folds over it (section 3.4.3).
+-- What is written under a tag is read back (RFC 8949, section 3.4), from its deterministic form
+-- where the tag folds nothing (section 3.4.3).
 use Rattle.std.proofs.Common.{ap, sym, subst, ◌∙◌, arith}
 use Rattle.std.proofs.lemmas.Bool.Decides.{nat_tests}
 use Rattle.std.specs.Prelude.{◌≡◌, ℕ, suc, Bool, true, false, nat_lt, List, Option, Some, None, Ok}
 use Rattle.std.specs.Prelude.{Err, IfOk, if◌then◌else◌, refl}
 use Rattle.ciborium_ll.specs.Item as items
 use Rattle.ciborium_ll.specs.Item.{Item}
-use Rattle.ciborium_value.specs.DeterministicForms.{deterministic_form, deterministic_forms}
-use Rattle.ciborium_value.specs.DeterministicForms.{pair_forms, sorted_pairs, tag_form}
+use Rattle.ciborium_value.specs.DeterministicForms.{deterministic_form, tag_form}
 use Rattle.ciborium_value.specs.Encoding.{item_of, written_tree}
 use Rattle.ciborium_value.specs.Folded.{short_bytes, tree_folding_bytes}
 use Rattle.ciborium_value.specs.lemmas.GivenOutcomes.{mapped_gives, one_given}
-use Rattle.ciborium_value.specs.lemmas.MetItems.{inside}
+use Rattle.ciborium_value.specs.lemmas.MetItems.{form-kept, inside}
 use Rattle.ciborium_value.specs.Meaning.{is_bignum_tag}
 use Rattle.ciborium_value.specs.Nesting.{Limit, IsWithin}
 use Rattle.ciborium_value.specs.NeverWritten.{Avoided, IsNever, IsOther, byte_strings, nulls}
@@ -53,17 +52,9 @@ tree-untagged _ e = refl
 
 form-untagged : (o : KeyOrder) (t u : Tree) → IsUntagged (item_of t) →
     deterministic_form o t ≡ gives u → IsUntagged (item_of u)
-form-untagged o (trees.integer z) u h form = subst (λ x. IsUntagged (item_of x)) (one_given (trees.integer z) u form) h
-form-untagged o (trees.bytes b) u h form = subst (λ x. IsUntagged (item_of x)) (one_given (trees.bytes b) u form) h
-form-untagged o (trees.text b) u h form = subst (λ x. IsUntagged (item_of x)) (one_given (trees.text b) u form) h
-form-untagged o (trees.boolean b) u h form = subst (λ x. IsUntagged (item_of x)) (one_given (trees.boolean b) u form) h
-form-untagged o trees.null u h form = subst (λ x. IsUntagged (item_of x)) (one_given trees.null u form) h
-form-untagged o (trees.tag t v) u h form = absurd (let some : Some t ≡ None = ap (λ p. p.0) h in cc)
-form-untagged o (trees.array vs) u h form = let (ws, is, same) =
-    mapped_gives trees.array (deterministic_forms o vs) u form in subst (λ x. IsUntagged (item_of x)) same refl
-form-untagged o (trees.map ps) u h form = let (qs, is, same) =
-    mapped_gives trees.map (then_take (pair_forms o ps) (sorted_pairs o)) u form in
-    subst (λ x. IsUntagged (item_of x)) same refl
+form-untagged o = form-kept o (λ t. IsUntagged (item_of t))
+    (λ t v u h form. absurd (let some : Some t ≡ None = ap (λ p. p.0) h in cc)) (λ vs. refl)
+    (λ ps. refl)
 
 met-untagged : (way : Way) (i j : Item) → IsUntagged i → met way i ≡ gives j → IsUntagged j
 met-untagged by_bytes i j h e = subst IsUntagged (one_given i j e) h

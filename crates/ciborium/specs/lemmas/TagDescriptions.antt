@@ -1,5 +1,6 @@
 -- The descriptions of types under tags (RFC 8949, section 3.4).
-use Rattle.std.specs.Prelude.{◌≡◌, ℕ, suc, Bool, true, false, Option, Some, ◌&&◌, if◌then◌else◌, refl}
+use Rattle.std.specs.Prelude.{◌≡◌, ℕ, suc, Bool, true, false, Option, Some, ◌&&◌}
+use Rattle.std.specs.Prelude.{if◌then◌else◌, refl}
 use Rattle.ciborium_value.specs.Described.{Description}
 use Rattle.ciborium_value.specs.Meaning.{is_bignum_tag}
 use Rattle.ciborium_value.specs.NeverWritten.{byte_strings}

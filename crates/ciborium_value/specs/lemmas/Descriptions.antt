@@ -1,7 +1,7 @@
 -- The descriptions of the library's types, and of structs as maps, from those of their parts.
 use Rattle.std.proofs.Common.{ap, arith, subst, sym, ◌∙◌}
 use Rattle.std.specs.List.{All}
-use Rattle.std.specs.Option.{option_map}
+use Rattle.std.specs.Option.{option_map, unwrap_or}
 use Rattle.std.specs.Prelude.{◌≡◌, ◌<◌, ◌^◌, ◌+◌, ℕ, ℤ, suc, pos, max, Bool, true, false, List, []}
 use Rattle.std.specs.Prelude.{◌∷◌, Option, Some, None, Ok, Err, IfSome, length, map, nat_le, ◌&&◌}
 use Rattle.std.specs.Prelude.{if◌then◌else◌, refl}
@@ -19,7 +19,7 @@ use Rattle.ciborium_value.specs.Readings.{tuple3_of}
 use Rattle.ciborium_value.specs.Readings.{tuple4_of}
 use Rattle.ciborium_value.specs.ReadsBack.{IsNameRead, IsReadBack, Way, name-back}
 use Rattle.ciborium_value.specs.Sinks.{Named, container_of, number_item, or_null}
-use Rattle.ciborium_value.specs.StructReadings.{Fields, FieldsGiven, end_of_fields, field, field_or}
+use Rattle.ciborium_value.specs.StructReadings.{Fields, FieldsGiven, end_of_fields, field_filled}
 use Rattle.ciborium_value.specs.StructReadings.{no_field_given, no_other_given, optional_field}
 use Rattle.ciborium_value.specs.StructReadings.{struct_of, given_struct}
 use Rattle.ciborium_value.specs.Given.{Given}
@@ -36,7 +36,7 @@ use Rattle.ciborium_value.specs.lemmas.ReadsBackParts.{greatest, list-back, such
 use Rattle.ciborium_value.specs.lemmas.ReadsBackParts.{tuple1-back, tuple2-back, tuple3-back}
 use Rattle.ciborium_value.specs.lemmas.ReadsBackParts.{tuple4-back}
 use Rattle.ciborium_value.specs.lemmas.ReadsBackStructs.{FieldsReadBack, are_apart, end_back}
-use Rattle.ciborium_value.specs.lemmas.ReadsBackStructs.{field_back, field_or_back}
+use Rattle.ciborium_value.specs.lemmas.ReadsBackStructs.{field_filled_back, field_or_back}
 use Rattle.ciborium_value.specs.lemmas.ReadsBackStructs.{fields_read_back, is_named, left_out_back}
 use Rattle.ciborium_value.specs.lemmas.ReadsBackStructs.{neither}
 
@@ -323,13 +323,14 @@ module _ {T : Type 0} (label : Label) (behind : FieldsDescription T) where
       length ((label, w) ∷ behind.named v) ≡ behind.number v + 1
   first-number v w = one-more (length (behind.named v)) ∙ ap (λ n. n + 1) (behind.same_number v)
 
--- a field of this label, whose value is this
-abbrev pub then_field : {T V : Type 0} → Label → (T → V) → Description V → FieldsDescription T →
-    FieldsDescription T
-then_field label value d behind = record {
+-- a field of this label, whose value is this, and what was read of which is filled up so
+abbrev filled_field : {T V : Type 0} → Label → (T → V) → (d : Description V) →
+    (fill : Option d.Content → Option d.Content) → ((c : d.Content) → fill (Some c) ≡ Some c) →
+    FieldsDescription T → FieldsDescription T
+filled_field label value d fill full behind = record {
   Slots = Option d.Content × behind.Slots;
   Content = d.Content × behind.Content;
-  fields = field label d.reading behind.fields;
+  fields = field_filled label d.reading fill behind.fields;
   content = λ v. (d.reading.content (value v), behind.content v);
   named = λ v. (label, d.written (value v)) ∷ behind.named v;
   parts = λ v. label_item label ∷ d.written (value v) ∷ behind.parts v;
@@ -344,35 +345,20 @@ then_field label value d behind = record {
   apart = λ sound v. first-apart_of label behind d.is_sound sound v (d.written (value v));
   back = λ sound way v valid.
       let s = field-sound (behind.has label) (is_proper label) d.is_sound behind.is_sound sound in
-      field_back label d.reading (d.reads_back s.2 way (value v) valid.0) (behind.back s.3 way v valid.1);
+      field_filled_back label d.reading fill (full (d.reading.content (value v)))
+      (d.reads_back s.2 way (value v) valid.0) (behind.back s.3 way v valid.1);
   alike = λ v w. field_alike label (d.writes_content (value v) (value w)) (behind.alike v w);
 }
+
+abbrev pub then_field : {T V : Type 0} → Label → (T → V) → Description V → FieldsDescription T →
+    FieldsDescription T
+then_field label value d behind = filled_field label value d (λ o. o) (λ c. refl) behind
 
 -- the same, but where it is missing its content is this
 abbrev pub then_field_or : {T V : Type 0} → Label → (T → V) → (d : Description V) → d.Content →
     FieldsDescription T → FieldsDescription T
-then_field_or label value d default behind = record {
-  Slots = Option d.Content × behind.Slots;
-  Content = d.Content × behind.Content;
-  fields = field_or label d.reading default behind.fields;
-  content = λ v. (d.reading.content (value v), behind.content v);
-  named = λ v. (label, d.written (value v)) ∷ behind.named v;
-  parts = λ v. label_item label ∷ d.written (value v) ∷ behind.parts v;
-  number = λ v. behind.number v + 1;
-  is_valid = λ v. d.is_valid (value v) × behind.is_valid v;
-  levels = λ v. max (d.levels (value v)) (behind.levels v);
-  has = with_label label behind;
-  is_sound = is_new label behind d.is_sound;
-  same_parts = λ v. first-parts label behind v (d.written (value v));
-  same_number = λ v. first-number label behind v (d.written (value v));
-  unnamed = λ x h v. first-unnamed label behind x h v (d.written (value v));
-  apart = λ sound v. first-apart_of label behind d.is_sound sound v (d.written (value v));
-  back = λ sound way v valid.
-      let s = field-sound (behind.has label) (is_proper label) d.is_sound behind.is_sound sound in
-      field_or_back label d.reading default (d.reads_back s.2 way (value v) valid.0)
-      (behind.back s.3 way v valid.1);
-  alike = λ v w. field_alike label (d.writes_content (value v) (value w)) (behind.alike v w);
-}
+then_field_or label value d default behind =
+    filled_field label value d (λ o. Some (unwrap_or o default)) (λ c. refl) behind
 
 -- ---- a field that may be left out
 

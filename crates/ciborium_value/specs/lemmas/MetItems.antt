@@ -14,7 +14,7 @@ use Rattle.ciborium_value.specs.ReadsBack.{Way, by_bytes, by_form, by_tree, met}
 use Rattle.ciborium_value.specs.Given.{Steps, deeper_if, gives, outcome, outcome_map, then_take}
 use Rattle.ciborium_value.specs.Given.{unpack, unpack_pairs, within_level}
 use Rattle.ciborium_value.specs.Tree as trees
-use Rattle.ciborium_value.specs.Tree.{Trees, TreePairs, no_tree_pairs}
+use Rattle.ciborium_value.specs.Tree.{Tree, Trees, TreePairs, no_tree_pairs}
 use Rattle.ciborium_value.specs.declared.key_order.KeyOrder.{KeyOrder}
 use Rattle.ciborium_value.specs.lemmas.GivenOutcomes.{mapped_gives, more_gives, one_given}
 use Rattle.ciborium_value.specs.lemmas.GivenOutcomes.{pair_gives, then_gives}
@@ -118,6 +118,30 @@ map-met (by_form o) ps j e =
       sorted-reordered o qs rs put,
       ap item_of whole ∙ same,
     )
+
+-- ---- forms
+
+-- what holds of a tree holds of its form, if it does of arrays, of maps and of the forms of tags
+pub form-kept : (o : KeyOrder) (P : Tree → Type 0) → ((t : ℕ) (v u : Tree) → P (trees.tag t v) →
+    deterministic_form o (trees.tag t v) ≡ gives u → P u) → ((vs : Trees) → P (trees.array vs)) →
+    ((ps : TreePairs) → P (trees.map ps)) → (t u : Tree) → P t →
+    deterministic_form o t ≡ gives u → P u
+form-kept o P tags arrays maps (trees.integer z) u h form =
+    subst P (one_given (trees.integer z) u form) h
+form-kept o P tags arrays maps (trees.bytes b) u h form =
+    subst P (one_given (trees.bytes b) u form) h
+form-kept o P tags arrays maps (trees.text b) u h form = subst P (one_given (trees.text b) u form) h
+form-kept o P tags arrays maps (trees.boolean b) u h form =
+    subst P (one_given (trees.boolean b) u form) h
+form-kept o P tags arrays maps trees.null u h form = subst P (one_given trees.null u form) h
+form-kept o P tags arrays maps (trees.tag t v) u h form = tags t v u h form
+form-kept o P tags arrays maps (trees.array vs) u h form =
+    let (ws, is, same) = mapped_gives trees.array (deterministic_forms o vs) u form in
+    subst P same (arrays ws)
+form-kept o P tags arrays maps (trees.map ps) u h form =
+    let (qs, is, same) = mapped_gives trees.map
+    (then_take (pair_forms o ps) (sorted_pairs o)) u form in
+    subst P same (maps qs)
 
 -- ---- levels
 

@@ -73,31 +73,20 @@ module _ {A B : Type 0} (order : A → A → Ordering) where
   put-rising : (ps : List (A × B)) → AreKeysRising ps → put_all order [] ps ≡ ps
   put-rising ps r = put-behind [] ps (above_none ps) r
 
-module _ {K V A B : Type 0} (cmp : K → K → Ordering) (order : A → A → Ordering) (key : K → A)
-    (value : V → B) (total : IsTotalOrder cmp)
-    (orders : (a b : K) → cmp a b ≡ order (key a) (key b)) where
-  contents-above : (e : K × V) (es : List (K × V)) →
-      AllByRecursion (λ k. cmp e.0 k ≡ Less) (keys_of es) →
-      AreAbove order ((key e.0, value e.1) ∷ []) (contents key value es)
-  contents-above e [] h = tt
-  contents-above e (p ∷ ps) h = (
-    (
-      sym (orders p.0 e.0) ∙ total.antisymm p.0 e.0 ∙
-          ap ordering_reverse h.0,
-      tt,
-    ),
-    contents-above e ps h.1,
-  )
+module _ {K V : Type 0} (cmp : K → K → Ordering) (total : IsTotalOrder cmp) where
+  entries-above : (e : K × V) (es : List (K × V)) →
+      AllByRecursion (λ k. cmp e.0 k ≡ Less) (keys_of es) → AreAbove cmp (e ∷ []) es
+  entries-above e [] h = tt
+  entries-above e (p ∷ ps) h =
+      ((total.antisymm p.0 e.0 ∙ ap ordering_reverse h.0, tt), entries-above e ps h.1)
 
-  contents-rising : (es : List (K × V)) → IsStrictlySortedBy cmp (keys_of es) →
-      AreKeysRising order (contents key value es)
+  entries-rising : (es : List (K × V)) → IsStrictlySortedBy cmp (keys_of es) → AreKeysRising cmp es
   unfolding IsStrictlySortedBy
-  contents-rising [] h = tt
-  contents-rising (e ∷ es) h = (contents-above e es h.0, contents-rising es h.1)
+  entries-rising [] h = tt
+  entries-rising (e ∷ es) h = (entries-above e es h.0, entries-rising es h.1)
 
-  pub put-contents : (es : List (K × V)) → IsStrictlySortedBy cmp (keys_of es) →
-      put_all order [] (contents key value es) ≡ contents key value es
-  put-contents es h = put-rising order (contents key value es) (contents-rising es h)
+  put-sorted : (es : List (K × V)) → IsStrictlySortedBy cmp (keys_of es) → put_all cmp [] es ≡ es
+  put-sorted es h = put-rising cmp es (entries-rising es h)
 
 -- ---- keys that are apart
 
@@ -408,6 +397,5 @@ module _ {K V : Type 0} (cmp : K → K → Ordering) (total : IsTotalOrder cmp) 
         IsStrictlySortedBy cmp (keys_of es) →
         put_all order [] (contents key value fs) ≡ contents key value es
     reordered-contents es fs r h =
-        all-put [] fs ∙ sym (all-put [] es ∙ ap (contents key value)
-        (put-reordered r (sorted-apart cmp es h) [])) ∙
-        put-contents cmp order key value total orders es h
+        all-put [] fs ∙ ap (contents key value)
+        (sym (put-reordered r (sorted-apart cmp es h) []) ∙ put-sorted cmp total es h)

@@ -1,5 +1,5 @@
--- What is written of a map is read back: a form has the same pairs in another order, and reading puts
--- them in the order of the keys again.
+-- What is written of a map is read back: a form has the same pairs in another order, and reading
+-- puts them in the order of the keys again.
 use Rattle.std.proofs.Common.{ap, subst, ◌∙◌}
 use Rattle.std.proofs.lemmas.List.Elements.{All-head, All-tail}
 use Rattle.std.specs.BTreeMap.{BTreeMap, IsOrdered}

@@ -1,5 +1,5 @@
--- What is written of a number is its own deterministic form, and is read back, bignums too (RFC 8949,
--- section 3.4.3).
+-- What is written of a number is its own deterministic form, and is read back, bignums too (RFC
+-- 8949, section 3.4.3).
 use Rattle.std.proofs.Common.{ap, ◌∙◌, arith, lit<}
 use Rattle.std.proofs.Math.Nat.{pow-le-pow_right}
 use Rattle.std.proofs.lemmas.Bool.Decides.{nat_tests}

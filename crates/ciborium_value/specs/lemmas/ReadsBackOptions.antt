@@ -6,11 +6,11 @@ use Rattle.std.specs.Prelude.{◌≡◌, ℕ, ◌^◌, pos, negsuc, Bool, true, 
 use Rattle.std.specs.Prelude.{None, IfSome, if◌then◌else◌, ◌==◌, nat_lt, refl}
 use Rattle.ciborium_ll.specs.Item as items
 use Rattle.ciborium_ll.specs.Item.{Item}
-use Rattle.ciborium_value.specs.DeterministicForms.{deterministic_form, deterministic_forms}
-use Rattle.ciborium_value.specs.DeterministicForms.{pair_forms, sorted_pairs, tag_form}
+use Rattle.ciborium_value.specs.DeterministicForms.{deterministic_form, tag_form}
 use Rattle.ciborium_value.specs.Encoding.{item_of, written_tree}
 use Rattle.ciborium_value.specs.Folded.{tree_folding_bytes}
 use Rattle.ciborium_value.specs.lemmas.GivenOutcomes.{mapped_gives, meaning_given, one_given}
+use Rattle.ciborium_value.specs.lemmas.MetItems.{form-kept}
 use Rattle.ciborium_value.specs.Meaning.{big_endian, bignum_meaning, negative_bignum}
 use Rattle.ciborium_value.specs.Meaning.{unsigned_bignum, without_zeros}
 use Rattle.ciborium_value.specs.Nesting.{Limit}
@@ -19,7 +19,6 @@ use Rattle.ciborium_value.specs.ReadsBack.{IsNameRead, IsReadBack, Way, by_bytes
 use Rattle.ciborium_value.specs.ReadsBack.{item-back, met, met-null}
 use Rattle.ciborium_value.specs.Sinks.{Named, or_null}
 use Rattle.ciborium_value.specs.Given.{Outcome, Given, gives, is_null, outcome, outcome_map}
-use Rattle.ciborium_value.specs.Given.{then_take}
 use Rattle.ciborium_value.specs.GivenParts.{given_option}
 use Rattle.ciborium_value.specs.Tree as trees
 use Rattle.ciborium_value.specs.Tree.{Tree}
@@ -66,18 +65,8 @@ tag_form-not_null t None r u form = let (w, is, same) = mapped_gives (trees.tag 
 
 form-not_null : (o : KeyOrder) (t u : Tree) → IsNotNull t → deterministic_form o t ≡ gives u →
     IsNotNull u
-form-not_null o (trees.integer z) u h form = subst IsNotNull (one_given (trees.integer z) u form) h
-form-not_null o (trees.bytes b) u h form = subst IsNotNull (one_given (trees.bytes b) u form) h
-form-not_null o (trees.text b) u h form = subst IsNotNull (one_given (trees.text b) u form) h
-form-not_null o (trees.boolean b) u h form = subst IsNotNull (one_given (trees.boolean b) u form) h
-form-not_null o trees.null u h form = subst IsNotNull (one_given trees.null u form) h
-form-not_null o (trees.tag t v) u h form = tag_form-not_null t (tree_folding_bytes t v)
-    (deterministic_form o v) u form
-form-not_null o (trees.array vs) u h form = let (ws, is, same) =
-    mapped_gives trees.array (deterministic_forms o vs) u form in subst IsNotNull same refl
-form-not_null o (trees.map ps) u h form = let (qs, is, same) =
-    mapped_gives trees.map (then_take (pair_forms o ps) (sorted_pairs o)) u form in
-    subst IsNotNull same refl
+form-not_null o = form-kept o IsNotNull (λ t v u h form. tag_form-not_null t
+    (tree_folding_bytes t v) (deterministic_form o v) u form) (λ vs. refl) (λ ps. refl)
 
 met-not_null : (way : Way) (i j : Item) → IsOther nulls i → met way i ≡ gives j →
     is_null j ≡ false

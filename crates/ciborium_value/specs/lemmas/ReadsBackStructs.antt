@@ -1,5 +1,5 @@
--- What is written of a struct by the labels of its fields is read back: a form has the same pairs in
--- another order, and of fields whose labels are apart no order makes a difference to what is read.
+-- What is written of a struct by the labels of its fields is read back: a form has the same pairs
+-- in another order, and of fields whose labels are apart no order makes a difference.
 use Rattle.std.proofs.Common.{ap, sym, subst, ◌∙◌}
 use Rattle.std.proofs.lemmas.Bool.Decides.{Decides-int_eq}
 use Rattle.std.proofs.lemmas.Slice.Eq.{bytes_eq-Decides}

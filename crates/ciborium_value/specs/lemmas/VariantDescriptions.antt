@@ -153,7 +153,8 @@ module _ {V S : Type 0} (name : List ℕ) (d : Description V) (behind : Variants
         IsNameRead way (data_named s) (given_enum all)
         (make (either_map d.reading.content behind.content s))
         (of_either (λ v. suc (d.levels v)) behind.levels s)
-    data-back way all make h (inl v) valid = data_variant_back all name (λ c. make (inl c)) d.reading
+    data-back way all make h (inl v) valid =
+        data_variant_back all name (λ c. make (inl c)) d.reading
         (first-data all name behind.names (data_variant name (λ c. make (inl c)) d.reading).taken
         (behind.variants (λ c. make (inr c))) h) (d.reads_back data-apart.1 way v valid)
     data-back way all make h (inr s) valid = behind.back data-apart.2 way all (λ c. make (inr c))

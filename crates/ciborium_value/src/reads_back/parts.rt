@@ -39,7 +39,8 @@ impl<A: ReadsBack, B: ReadsBack, C: ReadsBack> ReadsBack for (A, B, C) {
     ghost levels = { λ t. suc (max (A.levels t.0) (max (B.levels t.1) (C.levels t.2))) };
 
     ghost reads_back = { λ way plain t valid. tuple3-back
-        (A.reads_back way plain t.0 valid.0) (B.reads_back way plain t.1 valid.1) (C.reads_back way plain t.2 valid.2) };
+        (A.reads_back way plain t.0 valid.0) (B.reads_back way plain t.1 valid.1)
+        (C.reads_back way plain t.2 valid.2) };
 }
 
 impl<A: ReadsBack, B: ReadsBack, C: ReadsBack, D: ReadsBack> ReadsBack for (A, B, C, D) {

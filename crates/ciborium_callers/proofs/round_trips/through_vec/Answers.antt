@@ -15,7 +15,8 @@ returns-in-Ok g c =
     let value = c.args.value.now in
     let answer = of_written (g.T.Serialize.written value) reading.taken (reading.content value)
     (g.T.ReadsBack.levels value) c.deref.result.now (read_as reading.content c.from_slice.result)
-    c.written_reads_back.ensures.spells (g.met.T.ReadsBack.reads_back by_bytes tt value c.requires.valid) c.requires.levels
+    c.written_reads_back.ensures.spells (g.met.T.ReadsBack.reads_back by_bytes tt value c.requires.valid)
+    c.requires.levels
     (subst (λ b. IsWrittenAs b (g.T.Serialize.written value)) (sym c.deref.ensures.value) c.in-Ok.ensures.bytes)
     c.from_slice.ensures.exact in
     record {
