@@ -1,14 +1,13 @@
 -- Bytes that are read as the numbers of a sequence.
-use Rattle.std.proofs.Common.{◌≡◌, ◌≢◌, ℕ, ◌-◌, ◌<◌, ◌≤◌, Bool, false, List, [], ◌∷◌, ◌++◌, Option, Some, None, Result}
-use Rattle.std.proofs.Common.{Ok, Err, OnErr, OnOk, refl, sym, ap, ◌∙◌, subst, append_assoc, append-nil}
+use Rattle.std.proofs.Common.{◌≡◌, ◌≢◌, ℕ, ◌<◌, ◌≤◌, Bool, false, List, [], ◌∷◌, ◌++◌, Option, Some, None, Result}
+use Rattle.std.proofs.Common.{arith, Ok, Err, OnErr, OnOk, refl, sym, ap, ◌∙◌, subst, append_assoc, append-nil}
 use Rattle.ciborium_ll.specs.declared.header.Header.{Header}
 use Rattle.ciborium_ll.specs.declared.header.Header.TheVariants as header
 use Rattle.ciborium_ll.specs.Item.{Item}
 use Rattle.ciborium_ll.specs.StringRefusal.{of_bytes as string_of_bytes}
 use Rattle.ciborium_ll.proofs.UniqueSpelling.{one_at_front}
-use Rattle.ciborium_ll.specs.declared.decoder.Decoder.{Decoder}
 use Rattle.ciborium_ll.specs.Decoding.{HasSameReader}
-use Rattle.ciborium.proofs.Items.Weights.{entered-fewer}
+use Rattle.ciborium.proofs.Items.Weights.{entered-fewer, taken-fewer}
 use Rattle.ciborium_value.specs.Ahead.{Rest, Span, after, parts, past, inside, end_of}
 use Rattle.ciborium_value.specs.Nesting.{Limit}
 use Rattle.ciborium_value.specs.Places.{sequence}
@@ -25,12 +24,15 @@ use Rattle.ciborium.specs.declared.de.byte_source.ByteSeq.{ByteSeq}
 use Rattle.ciborium.specs.declared.de.error.Error.{Error}
 use Rattle.ciborium.specs.inner.ByteSources.{fault_at, AnswersItem, PassesItem, IsUnread, StandsBefore, SeqStands}
 use Rattle.ciborium.specs.inner.ByteSources.{SeqOwes, EntersItemsUnread, ReadsRest, RefusesRest, HasTaken}
-use Rattle.ciborium.specs.inner.ByteSources.{HasTakenSince, ReadsBareHead, end_at, parts_left, reader_of, weight_left}
-use Rattle.ciborium.specs.inner.FrontItems.{Reads, Denies}
+use Rattle.ciborium.specs.inner.ByteSources.{HasTakenSince, ReadsBareHead, bytes_weight, end_at, reader_of}
+use Rattle.ciborium.specs.inner.ByteSources.{weight_left}
+use Rattle.ciborium.specs.inner.FrontItems.{Reads, Denies, DeniesItem}
+use Rattle.ciborium.proofs.Items.BareHeads.{head-denied}
 use Rattle.ciborium.specs.inner.Skips.{under, AreSkipped, IsBare, TakesBare}
 use Rattle.ciborium.specs.inner.StringContents.{string_item, TakesContent}
 use Rattle.ciborium.specs.inner.Unread.{IsRest, FitsAhead}
-use Rattle.ciborium.proofs.Containers.EnteredContainers.{HasItems, array-entered, items-stand, within-is}
+use Rattle.ciborium.proofs.Containers.EnteredContainers.{HasItems, IsEntered, array-entered, entered-kept}
+use Rattle.ciborium.proofs.Containers.EnteredContainers.{items-stand, within-is}
 use Rattle.ciborium.proofs.Items.ItemHeads.{header_of, by-shape, no-bare-tag}
 use Rattle.ciborium.proofs.Containers.NextParts.{fits-past, none-past}
 use Rattle.ciborium.proofs.Items.SkippedTags.{reads-bare, untagged-under}
@@ -248,22 +250,18 @@ pub array-begun : {S W : Type 0} (can_fail : Bool) (remaining : S → Option (Li
     (count : Option ℕ)
     (q : ByteSeq) (h : Header) (offset : ℕ) → h ≡ header.Array count →
     TakesBare (IsUnread remaining) old mid false h →
-    ReadsBareHead can_fail remaining old mid false (Ok (h, offset)) →
-    ((new.decoder ≡ mid.decoder) × (new.pending ≡ mid.pending) × (mid.levels ≢ 0) ×
-    (new.levels ≡ mid.levels - 1) × (q.left ≡ parts_left count)) → q.levels ≡ mid.levels →
-    HasBegunArray remaining old new q
-array-begun {S = S} {W = W} can_fail remaining old mid new count q h offset is head reads entered back = record {
-  kept = (
-    ap (λ (d : Decoder S W). d.reader.ghost_name) entered.0 ∙ reads.same_reader,
-    λ first t. subst (HasTaken remaining first) (sym entered.0) (reads.only first t),
-  );
-  levels = back ∙ reads.levels;
-  none = entered.1 ∙ reads.pending;
-  fewer = entered-fewer old mid new h entered.0 (entered.1 ∙ reads.pending) reads.fewer;
-  opens = array-entered remaining old mid new count q reads.levels entered given_bytes
-      (λ span is. take_each given_byte is) (subst (TakesBare (IsUnread remaining) old mid false) is head)
-      (bytes-given old.levels (λ z. entered.2 (reads.levels ∙ z)));
-}
+    ReadsBareHead can_fail remaining old mid false (Ok (h, offset)) → IsEntered mid new count q →
+    q.levels ≡ mid.levels → HasBegunArray remaining old new q
+array-begun can_fail remaining old mid new count q h offset is head reads entered back =
+    let (same, behind, less) = entered-kept can_fail remaining old mid new count q h offset entered reads in record {
+      kept = same;
+      levels = back ∙ reads.levels;
+      none = behind;
+      fewer = omega (arith, less);
+      opens = array-entered remaining old mid new count q reads.levels entered given_bytes
+          (λ span is. take_each given_byte is) (subst (TakesBare (IsUnread remaining) old mid false) is head)
+          (bytes-given old.levels (λ z. entered.2 (reads.levels ∙ z)));
+    }
 
 module _ {S W : Type 0} (remaining : S → Option (List ℕ)) (old mid : ByteSource S W) (q : ByteSeq)
     (begun : HasBegunArray remaining old mid q) where
@@ -343,6 +341,31 @@ module _ {S W T A : Type 0} (can_fail : Bool) (remaining : S → Option (List �
     no_more = no_more;
   }
 
+  -- no head was read
+  pub head-refused : (e : Error (Unit {0})) → ReadsBareHead can_fail remaining old new false (Err e) →
+      DeniesItem (IsUnread remaining) (end_at remaining) old (fault_at can_fail remaining new e) → TakesOne (Err e)
+  head-refused e reads denied = takes-denied e reads.only reads.no_more
+      (head-denied remaining old taken (fault_at can_fail remaining new e) denied)
+
+  -- a head was taken
+  module _ (mid : ByteSource S W) (h : Header) (offset : ℕ)
+      (reads : ReadsBareHead can_fail remaining old mid false (Ok (h, offset))) where
+    -- and what stands behind it was refused
+    pub behind-refused : (e : Error (Unit {0})) → TakesOnly (HasTaken remaining) mid.decoder new.decoder →
+        weight_left new ≤ weight_left mid →
+        Denies (IsUnread remaining) (end_at remaining) old (Some old.levels) taken (fault_at can_fail remaining new e) →
+        TakesOne (Err e)
+    behind-refused e only no_more = takes-denied e (λ first t. only first (reads.only first t))
+        (let fewer = entered-fewer old mid mid h refl reads.pending reads.fewer in omega (arith, no_more, fewer))
+
+    -- and what stands behind it
+    pub behind-given : (v : T) → IsKept remaining mid new → new.levels ≡ mid.levels → new.pending ≡ None →
+        bytes_weight new ≤ bytes_weight mid →
+        Reads (IsUnread remaining) old new (Some old.levels) taken (content v) → TakesOne (Ok v)
+    behind-given v kept levels none fewer = takes-given v
+        (kept.0 ∙ reads.same_reader, λ first t. kept.1 first (reads.only first t)) (levels ∙ reads.levels) none
+        (taken-fewer old mid new h fewer none reads.fewer)
+
   pub takes-one : (r : Result T (Error (Unit {0}))) → PassesItem remaining old new r →
       AnswersItem can_fail remaining old new (Some old.levels) taken content r → TakesOne r
   takes-one (Ok v) keeps h = takes-given v (keeps.same_reader, keeps.only) keeps.levels keeps.pending keeps.fewer h
@@ -355,3 +378,18 @@ module _ {S W T A : Type 0} (can_fail : Bool) (remaining : S → Option (List �
       AnswersItem can_fail remaining old new (Some old.levels) taken content r → TakesOne r
   takes-behind (Ok v) same only no_more levels none fewer h = takes-given v (same, only) levels none fewer h
   takes-behind (Err e) same only no_more levels none fewer h = takes-denied e only no_more h
+
+-- just a head was taken: the item is refused, or it is all of the item
+module _ {S W T A : Type 0} (can_fail : Bool) (remaining : S → Option (List ℕ)) (old mid : ByteSource S W)
+    (taken : Given A) (content : T → A) (h : Header) (offset : ℕ)
+    (reads : ReadsBareHead can_fail remaining old mid false (Ok (h, offset))) where
+  pub bare-refused : (e : Error (Unit {0})) →
+      Denies (IsUnread remaining) (end_at remaining) old (Some old.levels) taken (fault_at can_fail remaining mid e) →
+      TakesOne can_fail remaining old mid taken content (Err e)
+  bare-refused e = behind-refused can_fail remaining old mid taken content mid h offset reads e (λ first t. t)
+      (omega arith)
+
+  pub bare-given : (v : T) → Reads (IsUnread remaining) old mid (Some old.levels) taken (content v) →
+      TakesOne can_fail remaining old mid taken content (Ok v)
+  bare-given v = behind-given can_fail remaining old mid taken content mid h offset reads v (refl, λ first t. t) refl
+      reads.pending (omega arith)
