@@ -203,18 +203,15 @@ none-left (Some n) = refl
 none-left None = refl
 
 -- what of the source is as it was
-pub entered-kept : {S W : Type 0} (can_fail : Bool) (remaining : S → Option (List ℕ)) (old mid new : ByteSource S W)
-    (count : Option ℕ) (q : ByteSeq) (h : Header) (offset : ℕ) → IsEntered mid new count q →
+pub entered-kept : {S W : Type 0} {can_fail : Bool} {remaining : S → Option (List ℕ)} {old mid : ByteSource S W}
+    {h : Header} {offset : ℕ} (new : ByteSource S W) (count : Option ℕ) (q : ByteSeq) → IsEntered mid new count q →
     ReadsBareHead can_fail remaining old mid false (Ok (h, offset)) →
     IsKept remaining old new × (new.pending ≡ None) × (weight_left new + seq_left q < weight_left old)
-entered-kept can_fail remaining old mid new count q h offset is reads =
+entered-kept {remaining = remaining} {old} {mid} {h} new count q is reads =
     let none = is.1 ∙ reads.pending in
     let fewer = entered-fewer old mid new h is.0 none reads.fewer in
-    let nothing : seq_left q ≡ 0 = ap bytes_left is.4 ∙ none-left count in (
-      kept-alone remaining old mid new is.0 (reads.same_reader, reads.only),
-      none,
-      omega (arith, fewer, nothing),
-    )
+    let nothing : seq_left q ≡ 0 = ap bytes_left is.4 ∙ none-left count in
+    (kept-alone remaining old mid new is.0 (reads.same_reader, reads.only), none, omega (arith, fewer, nothing))
 
 pub same-unread : {S W : Type 0} (remaining : S → Option (List ℕ)) (mid new : ByteSource S W) →
     new.decoder ≡ mid.decoder →

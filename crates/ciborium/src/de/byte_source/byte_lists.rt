@@ -2,14 +2,13 @@
 
 ghost use Rattle.std.specs.Prelude.{◌≡◌, ◌+◌, ◌≤◌, IfErr, IfOk, List, OnErr, OnOk, Option};
 ghost use Rattle.std.specs.Prelude.{Some, ℕ};
-ghost use Rattle.ciborium_ll.specs.Decoding.{HasSameReader};
 ghost use Rattle.ciborium_value.specs.Nesting.{Limit};
 ghost use Rattle.ciborium_value.specs.Places.{sequence};
 ghost use Rattle.ciborium_value.specs.Sources.{HasItem, IsFaultOf};
 ghost use Rattle.ciborium_value.specs.Sources.{TakesOnly, TakesTo};
 ghost use Rattle.ciborium_value.specs.Given.{gives, number_below, outcome, take_each};
 ghost use Rattle.ciborium_value.specs.Given.{given_byte};
-ghost use Rattle.ciborium.specs.inner.ByteSources.{HasTaken, IsUnread, ReadsRest, RefusesRest};
+ghost use Rattle.ciborium.specs.inner.ByteSources.{HasTakenSince, IsUnread, ReadsRest, RefusesRest};
 ghost use Rattle.ciborium.specs.inner.ByteSources.{SeqOwes, seq_left, weight_left};
 ghost use Rattle.ciborium.specs.Errors.{fault_of};
 ghost use Rattle.ciborium.specs.inner.ByteSources.{fault_at};
@@ -17,7 +16,7 @@ ghost use Rattle.ciborium.specs.inner.ByteSources.{fault_at};
 use crate::de::byte_source::{ByteSeq, ByteSource};
 use crate::de::error::{BareReadError, Error};
 use ciborium_ll::Access;
-use ciborium_value::Kind;
+use ciborium_value::{Kind, Source};
 use std::alloc::Global;
 
 // The byte that a number at this offset is.
@@ -48,8 +47,7 @@ impl<'a, R, A: Access<R>> ByteSource<'a, R, A> {
         alloc: Global,
         seq: ByteSeq,
     ) -> Result<Vec<u8>, BareReadError>
-        ensures same_reader { HasSameReader self.old.decoder self.new.decoder }
-        ensures only { TakesOnly (HasTaken A.remaining) self.old.decoder self.new.decoder }
+        ensures only { TakesOnly (HasTakenSince A.remaining) self.old self.new }
         ensures no_more { OnErr result
             (weight_left self.new ≤ weight_left self.old + seq_left seq) }
         ensures ok { IfOk result (λ v. ReadsRest A.remaining self.old self.new seq
@@ -64,7 +62,7 @@ impl<'a, R, A: Access<R>> ByteSource<'a, R, A> {
         let mut left = seq;
         let mut bytes = Vec::new(alloc);
         'items: loop {
-            let goes_on = self.next_part(&mut left)?;
+            let goes_on = self.next(&mut left)?;
             if !goes_on {
                 return Ok(bytes);
             }

@@ -10,7 +10,7 @@ use crate::de::byte_source::characters::{GREATEST_CHARACTER_SIZE, only_character
 use crate::de::byte_source::levels::is_one;
 use crate::de::byte_source::names::label_kind;
 use crate::de::byte_source::scalars::{is_null, is_null_head, portable_value};
-use crate::de::byte_source::{ByteLevel, ByteSeq, ByteSource};
+use crate::de::byte_source::{ByteLevel, ByteSeq, ByteSource, Left};
 use crate::de::error::{BareReadError, Error};
 use crate::de::spelling::AnySpelling;
 use ciborium_ll::{Access, Header, simple};
@@ -244,7 +244,42 @@ impl<'a, R, A: Access<R>> Source for ByteSource<'a, R, A> {
 
     #[inline(always)]
     fn next(&mut self, seq: &mut ByteSeq) -> Result<bool, BareReadError> {
-        self.next_part(seq)
+        match &mut seq.left {
+            Left::Counted(n) => {
+                if *n == 0 {
+                    self.levels = seq.levels;
+                    return Ok(false);
+                }
+                *n -= 1;
+                Ok(true)
+            }
+            Left::Open => {
+                let (header, offset) = self.next_head()?;
+                match header {
+                    Header::Break => {
+                        self.levels = seq.levels;
+                        Ok(false)
+                    }
+                    _ => {
+                        self.pending = Some((header, offset));
+                        Ok(true)
+                    }
+                }
+            }
+            Left::Bytes(bytes) => {
+                // The byte before was not read.
+                if self.pending.is_some() {
+                    return Err(Error::Semantic(None, Kind::Other));
+                }
+                match bytes.next() {
+                    Some(byte) => {
+                        self.pending = Some((Header::Positive(u64::from(byte)), seq.offset));
+                        Ok(true)
+                    }
+                    None => Ok(false),
+                }
+            }
+        }
     }
 
     fn value(&mut self, alloc: Global) -> Result<Value, BareReadError> {

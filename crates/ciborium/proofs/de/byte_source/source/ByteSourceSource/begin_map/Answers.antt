@@ -1,43 +1,34 @@
 use Rattle.std.proofs.Common.{arith, Some, false, sym, subst, ◌∙◌}
 use Rattle.std.proofs.lemmas.Result.{err_from_is_err_and}
 use Rattle.ciborium_ll.specs.declared.header.Header.TheVariants as header
-use Rattle.ciborium_value.specs.Sources.{of_kind}
 use Rattle.ciborium_value.specs.Given.{given_pairs, give}
-use Rattle.ciborium_value.specs.declared.kind.Kind.TheVariants as kinds
-use Rattle.ciborium.specs.inner.ByteSources.{IsUnread, fault_at}
+use Rattle.ciborium.specs.inner.ByteSources.{IsUnread}
 use Rattle.ciborium.specs.inner.Skips.{TakesBare}
 use Rattle.ciborium.proofs.Containers.EnteredContainers.{IsEntered, entered-kept, map-entered, map-nests, map-other}
 use Rattle.ciborium.proofs.Containers.EnteredContainers.{pairs-given, pairs-stand}
-use Rattle.ciborium.proofs.Containers.ByteItems.{refuses-denied}
-use Rattle.ciborium.proofs.Items.BareHeads.{head-denied, nested-denied, other-denied}
+use Rattle.ciborium.proofs.Containers.ByteItems.{head-refuses, nested-refuses, other-refuses}
 use Rattle.ciborium_value.specs.Ahead.{takes_level}
 use Rattle.ciborium.proofs.de.byte_source.source.ByteSourceSource.begin_map.Goals as goal
 
 pub returns-in_err-header-clause-refused : goal.returns-in_err-header-clause-refused
 returns-in_err-header-clause-refused g c =
     let exit = err_from_is_err_and c.from_residual.result c.from_residual.ensures.1 in
-    let fault = fault_at g.A.Access.can_fail g.A.Access.remaining c.bare_head.new.self c.in_err-header.field-0.0 in
-    rw (exit.1, exit.2) (refuses-denied g.A.Access.remaining c.args.self.now given_pairs fault
-    (head-denied g.A.Access.remaining c.args.self.now given_pairs fault c.in_err-header.ensures.denied))
+    rw (exit.1, exit.2) (head-refuses given_pairs c.in_err-header.ensures.reads c.in_err-header.ensures.denied)
 
 pub returns-in_default-clause-refused : goal.returns-in_default-clause-refused
 returns-in_default-clause-refused g c =
-    refuses-denied g.A.Access.remaining c.args.self.now given_pairs (of_kind kinds.Map)
-    (other-denied g.A.Access.remaining c.args.self.now given_pairs c.bare_head.new.self c.in_ok-header.header
-    c.in_ok-header.ensures.head kinds.Map (map-other (Some c.args.self.now.levels) c.in_ok-header.header
-    c.in_ok-header.ensures.reads.bare c.in_default.not-Map))
+    other-refuses given_pairs c.in_ok-header.ensures.reads c.in_ok-header.ensures.head
+    (map-other (Some c.args.self.now.levels) c.in_ok-header.header
+    c.in_ok-header.ensures.reads.bare c.in_default.not-Map)
 
 pub returns-in_err-seq-clause-refused : goal.returns-in_err-seq-clause-refused
 returns-in_err-seq-clause-refused g c =
     let exit = err_from_is_err_and c.from_residual-in_err-seq.result
     c.from_residual-in_err-seq.ensures.1 in
-    rw (exit.1, exit.2) (refuses-denied g.A.Access.remaining c.args.self.now given_pairs
-    (fault_at g.A.Access.can_fail g.A.Access.remaining c.enter.new.self c.in_err-seq.field-0.0)
-    (nested-denied g.A.Access.remaining c.args.self.now given_pairs c.bare_head.new.self
-    c.in_ok-header.header c.in_ok-header.ensures.head g.A.Access.can_fail c.enter.new.self
-    (header.Map c.in-Map.count) c.in-Map.is
-    c.in_err-seq.field-0.0 c.in_err-seq.ensures.err (map-nests c.args.self.now.levels c.in-Map.count
-    (sym c.in_ok-header.ensures.reads.levels ∙ c.in_err-seq.ensures.none))))
+    rw (exit.1, exit.2) (nested-refuses given_pairs c.in_ok-header.ensures.reads c.in_ok-header.ensures.head
+    c.enter.new.self
+    (header.Map c.in-Map.count) c.in-Map.is c.in_err-seq.ensures.err (map-nests c.args.self.now.levels c.in-Map.count
+    (sym c.in_ok-header.ensures.reads.levels ∙ c.in_err-seq.ensures.none)))
 
 pub returns : goal.returns
 returns g c =
@@ -48,8 +39,7 @@ returns g c =
     let reads = c.in_ok-header.ensures.reads in
     let is : IsEntered mid new c.in-Map.count c.in_ok-seq.seq =
     (enter.decoder, enter.pending, enter.some, enter.levels, enter.left) in
-    let (kept, none, fewer) = entered-kept g.A.Access.can_fail g.A.Access.remaining old mid new c.in-Map.count
-    c.in_ok-seq.seq c.in_ok-header.header c.in_ok-header.offset is reads in
+    let (kept, none, fewer) = entered-kept new c.in-Map.count c.in_ok-seq.seq is reads in
     let opens = map-entered g.A.Access.remaining old mid new c.in-Map.count c.in_ok-seq.seq reads.levels is given_pairs
     (λ span ps. give (takes_level span, ps))
     (subst (TakesBare (IsUnread g.A.Access.remaining) old mid false) c.in-Map.is c.in_ok-header.ensures.head)

@@ -3,25 +3,20 @@ use Rattle.std.proofs.lemmas.Result.{err_from_is_err_and}
 use Rattle.std.specs.Vec.Iter.{into_iter_items}
 use Rattle.ciborium_ll.specs.declared.header.Header.TheVariants as header
 use Rattle.ciborium_ll.specs.StringRefusal.{of_bytes}
-use Rattle.ciborium_value.specs.Sources.{of_kind}
 use Rattle.ciborium_value.specs.Given.{bare_seq, given_seq, give}
-use Rattle.ciborium_value.specs.declared.kind.Kind.TheVariants as kinds
-use Rattle.ciborium.specs.inner.ByteSources.{IsUnread, fault_at, seq_left, weight_left}
-use Rattle.ciborium.proofs.Containers.ByteItems.{refuses-denied}
+use Rattle.ciborium.specs.inner.ByteSources.{IsUnread, seq_left, weight_left}
+use Rattle.ciborium.proofs.Containers.ByteItems.{head-refuses, nested-refuses, other-refuses, string-refuses}
 use Rattle.ciborium.specs.inner.Skips.{TakesBare}
 use Rattle.ciborium.proofs.Containers.EnteredContainers.{IsEntered, entered-kept, items-stand}
 use Rattle.ciborium.proofs.Containers.EnteredContainers.{array-entered, array-nests, bytes-entered, bytes-had}
 use Rattle.ciborium.proofs.Containers.EnteredContainers.{seq-given, seq-other}
-use Rattle.ciborium.proofs.Items.BareHeads.{head-denied, nested-denied, other-denied, string-denied}
 use Rattle.ciborium_value.specs.Ahead.{takes_level}
 use Rattle.ciborium.proofs.de.byte_source.source.ByteSourceSource.begin_seq.Goals as goal
 
 pub returns-in_err-header-clause-refused : goal.returns-in_err-header-clause-refused
 returns-in_err-header-clause-refused g c =
     let exit = err_from_is_err_and c.from_residual.result c.from_residual.ensures.1 in
-    let fault = fault_at g.A.Access.can_fail g.A.Access.remaining c.bare_head.new.self c.in_err-header.field-0.0 in
-    rw (exit.1, exit.2) (refuses-denied g.A.Access.remaining c.args.self.now given_seq fault
-    (head-denied g.A.Access.remaining c.args.self.now given_seq fault c.in_err-header.ensures.denied))
+    rw (exit.1, exit.2) (head-refuses given_seq c.in_err-header.ensures.reads c.in_err-header.ensures.denied)
 
 pub returns-in_ok-seq-in-Array : goal.returns-in_ok-seq-in-Array
 returns-in_ok-seq-in-Array g c =
@@ -33,8 +28,7 @@ returns-in_ok-seq-in-Array g c =
     let reads = c.in_ok-header.ensures.reads in
     let is : IsEntered mid new c.in-Array.count q =
     (enter.decoder, enter.pending, enter.some, enter.levels, enter.left) in
-    let (kept, none, fewer) = entered-kept g.A.Access.can_fail g.A.Access.remaining old mid new c.in-Array.count q
-    c.in_ok-header.header c.in_ok-header.offset is reads in
+    let (kept, none, fewer) = entered-kept new c.in-Array.count q is reads in
     let opens = array-entered g.A.Access.remaining old mid new c.in-Array.count q reads.levels is given_seq
     (λ span is. give (takes_level span, is))
     (subst (TakesBare (IsUnread g.A.Access.remaining) old mid false) c.in-Array.is c.in_ok-header.ensures.head)
@@ -52,14 +46,11 @@ pub returns-in_err-seq-in-Array-clause-refused : goal.returns-in_err-seq-in-Arra
 returns-in_err-seq-in-Array-clause-refused g c =
     let exit = err_from_is_err_and c.from_residual-in_err-seq-in-Array.result
     c.from_residual-in_err-seq-in-Array.ensures.1 in
-    rw (exit.1, exit.2) (refuses-denied g.A.Access.remaining c.args.self.now given_seq
-    (fault_at g.A.Access.can_fail g.A.Access.remaining c.enter.new.self c.in_err-seq-in-Array.field-0.0)
-    (nested-denied g.A.Access.remaining c.args.self.now given_seq c.bare_head.new.self
-    c.in_ok-header.header c.in_ok-header.ensures.head g.A.Access.can_fail c.enter.new.self
-    (header.Array c.in-Array.count) c.in-Array.is
-    c.in_err-seq-in-Array.field-0.0 c.in_err-seq-in-Array.ensures.err (array-nests bare_seq (λ o is. refl)
+    rw (exit.1, exit.2) (nested-refuses given_seq c.in_ok-header.ensures.reads c.in_ok-header.ensures.head
+    c.enter.new.self
+    (header.Array c.in-Array.count) c.in-Array.is c.in_err-seq-in-Array.ensures.err (array-nests bare_seq (λ o is. refl)
     c.args.self.now.levels c.in-Array.count (sym c.in_ok-header.ensures.reads.levels ∙
-    c.in_err-seq-in-Array.ensures.none))))
+    c.in_err-seq-in-Array.ensures.none)))
 
 pub returns-in_ok-seq-in-Bytes : goal.returns-in_ok-seq-in-Bytes
 returns-in_ok-seq-in-Bytes g c =
@@ -92,16 +83,11 @@ pub returns-in_err-seq-in-Bytes-clause-refused : goal.returns-in_err-seq-in-Byte
 returns-in_err-seq-in-Bytes-clause-refused g c =
     let exit = err_from_is_err_and c.from_residual-in_err-seq-in-Bytes.result
     c.from_residual-in_err-seq-in-Bytes.ensures.1 in
-    let fault = fault_at g.A.Access.can_fail g.A.Access.remaining c.open_bytes.new.self c.in_err-seq-in-Bytes.field-0.0
-    in
-    rw (exit.1, exit.2) (refuses-denied g.A.Access.remaining c.args.self.now given_seq fault
-    (string-denied g.A.Access.remaining c.args.self.now given_seq c.bare_head.new.self
-    c.in_ok-header.header c.in_ok-header.ensures.head of_bytes c.in-Bytes.len c.in-Bytes.is
-    c.in_ok-header.ensures.reads.only fault c.in_err-seq-in-Bytes.ensures.denied))
+    rw (exit.1, exit.2) (string-refuses given_seq c.in_ok-header.ensures.reads c.in_ok-header.ensures.head _ of_bytes
+    c.in-Bytes.len c.in-Bytes.is c.in_err-seq-in-Bytes.ensures.denied)
 
 pub returns-in_default-clause-refused : goal.returns-in_default-clause-refused
 returns-in_default-clause-refused g c =
-    refuses-denied g.A.Access.remaining c.args.self.now given_seq (of_kind kinds.Array)
-    (other-denied g.A.Access.remaining c.args.self.now given_seq c.bare_head.new.self c.in_ok-header.header
-    c.in_ok-header.ensures.head kinds.Array (seq-other (Some c.args.self.now.levels) c.in_ok-header.header
-    c.in_ok-header.ensures.reads.bare c.in_default.not-Array c.in_default.not-Bytes))
+    other-refuses given_seq c.in_ok-header.ensures.reads c.in_ok-header.ensures.head
+    (seq-other (Some c.args.self.now.levels) c.in_ok-header.header
+    c.in_ok-header.ensures.reads.bare c.in_default.not-Array c.in_default.not-Bytes)

@@ -2,54 +2,43 @@ use Rattle.std.proofs.Common.{rules, ◌≡◌, ◌≢◌, ◌≤◌, ◌+◌, l
 use Rattle.std.proofs.lemmas.Result.{err_from_is_err_and}
 use Rattle.ciborium_ll.specs.declared.header.Header.TheVariants as header
 use Rattle.ciborium_ll.specs.StringRefusal.{of_text}
-use Rattle.ciborium_value.specs.Sources.{of_kind}
 use Rattle.ciborium_value.specs.Given.{deeper, given_name, given_variant}
-use Rattle.ciborium_value.specs.declared.kind.Kind.TheVariants as kinds
 use Rattle.ciborium.specs.inner.ByteSources.{IsUnread, end_at, reader_of, fault_at}
 use Rattle.ciborium.specs.inner.FrontItems.{Denies, Reads}
 use Rattle.ciborium.specs.inner.Skips.{TakesBare}
 use Rattle.ciborium.proofs.Containers.EnteredContainers.{deeper-is, same-unread}
-use Rattle.ciborium.proofs.Containers.ByteItems.{refuses-denied}
+use Rattle.ciborium.proofs.Containers.ByteItems.{head-refuses, nested-refuses, other-refuses, refuses-denied}
 use Rattle.ciborium.proofs.Containers.DueLevels.{completes-begun, holds-begun}
 use Rattle.ciborium.proofs.Containers.NamedVariants.{key-denied, map-no-text, map-not-one, null-unread, pair-nests}
 use Rattle.ciborium.proofs.Containers.NamedVariants.{pair-begun, text-nests, text-begun, variant-other}
 use Rattle.ciborium.proofs.Items.SkippedTags.{denies-of-item}
 use Rattle.ciborium.proofs.Payloads.StringPayloads.{denies-content}
 use Rattle.ciborium.proofs.Items.TakenOnly.{kept-alone, same-end}
-use Rattle.ciborium.proofs.Items.BareHeads.{head-denied, nested-denied, other-denied}
 use Rattle.ciborium.proofs.de.byte_source.source.ByteSourceSource.begin_variant.Goals as goal
 
 pub returns-in_err-header-clause-refused : goal.returns-in_err-header-clause-refused
 returns-in_err-header-clause-refused g c =
     let exit = err_from_is_err_and c.from_residual.result c.from_residual.ensures.1 in
-    let fault = fault_at g.A.Access.can_fail g.A.Access.remaining c.bare_head.new.self c.in_err-header.field-0.0 in
-    rw (exit.1, exit.2) (refuses-denied g.A.Access.remaining c.args.self.now given_variant fault
-    (head-denied g.A.Access.remaining c.args.self.now given_variant fault c.in_err-header.ensures.denied))
+    rw (exit.1, exit.2) (head-refuses given_variant c.in_err-header.ensures.reads c.in_err-header.ensures.denied)
 
 pub returns-in_err-level-in-Text-clause-refused : goal.returns-in_err-level-in-Text-clause-refused
 returns-in_err-level-in-Text-clause-refused g c =
     let exit = err_from_is_err_and c.from_residual-in_err-level-in-Text.result
     c.from_residual-in_err-level-in-Text.ensures.1 in
-    rw (exit.1, exit.2) (refuses-denied g.A.Access.remaining c.args.self.now given_variant
-    (fault_at g.A.Access.can_fail g.A.Access.remaining c.take_level.new.self c.in_err-level-in-Text.field-0.0)
-    (nested-denied g.A.Access.remaining c.args.self.now given_variant c.bare_head.new.self
-    c.in_ok-header.header c.in_ok-header.ensures.head g.A.Access.can_fail c.take_level.new.self
-    (header.Text c.in-Text.len) c.in-Text.is
-    c.in_err-level-in-Text.field-0.0 c.in_err-level-in-Text.ensures.err (text-nests c.args.self.now.levels
-    c.in-Text.len (sym c.in_ok-header.ensures.reads.levels ∙ c.in_err-level-in-Text.ensures.none))))
+    rw (exit.1, exit.2) (nested-refuses given_variant c.in_ok-header.ensures.reads c.in_ok-header.ensures.head
+    c.take_level.new.self
+    (header.Text c.in-Text.len) c.in-Text.is c.in_err-level-in-Text.ensures.err (text-nests c.args.self.now.levels
+    c.in-Text.len (sym c.in_ok-header.ensures.reads.levels ∙ c.in_err-level-in-Text.ensures.none)))
 
 pub returns-in_err-level-in-Map-clause-refused : goal.returns-in_err-level-in-Map-clause-refused
 returns-in_err-level-in-Map-clause-refused g c =
     let exit = err_from_is_err_and c.from_residual-in_err-level-in-Map.result
     c.from_residual-in_err-level-in-Map.ensures.1 in
-    rw (exit.1, exit.2) (refuses-denied g.A.Access.remaining c.args.self.now given_variant
-    (fault_at g.A.Access.can_fail g.A.Access.remaining c.take_level-in-Map.new.self c.in_err-level-in-Map.field-0.0)
-    (nested-denied g.A.Access.remaining c.args.self.now given_variant c.bare_head.new.self
-    c.in_ok-header.header c.in_ok-header.ensures.head g.A.Access.can_fail c.take_level-in-Map.new.self (header.Map
-    (Some 1))
-    (c.in-Map.is ∙ ap header.Map c.if-not-is_one.ensures) c.in_err-level-in-Map.field-0.0
-    c.in_err-level-in-Map.ensures.err (pair-nests c.args.self.now.levels
-    (sym c.in_ok-header.ensures.reads.levels ∙ c.in_err-level-in-Map.ensures.none))))
+    rw (exit.1, exit.2) (nested-refuses given_variant c.in_ok-header.ensures.reads c.in_ok-header.ensures.head
+    c.take_level-in-Map.new.self
+    (header.Map (Some 1)) (c.in-Map.is ∙ ap header.Map c.if-not-is_one.ensures) c.in_err-level-in-Map.ensures.err
+    (pair-nests c.args.self.now.levels (sym c.in_ok-header.ensures.reads.levels ∙
+    c.in_err-level-in-Map.ensures.none)))
 
 pub returns-in_err-name-in-Text-clause-refused : goal.returns-in_err-name-in-Text-clause-refused
 returns-in_err-name-in-Text-clause-refused g c =
@@ -126,7 +115,8 @@ returns-in_ok-name-in-Map g c =
     let kept = kept-alone g.A.Access.remaining old mid taken level.decoder (reads.same_reader, reads.only) in
     let begun = pair-begun U old mid taken new old.levels some
     (same-unread g.A.Access.remaining mid taken level.decoder level.pending) name
-    (subst (TakesBare U old mid false) (c.in-Map.is ∙ ap header.Map c.if-not-is_one.ensures) c.in_ok-header.ensures.head)
+    (subst (TakesBare U old mid false) (c.in-Map.is ∙ ap header.Map c.if-not-is_one.ensures)
+    c.in_ok-header.ensures.head)
     (subst (λ l. Reads U taken new l given_name name) inner c.in_ok-name-in-Map.ensures.answer) in record {
       ok = holds-begun g.A.Access.remaining old new given_variant name c.in_ok-level-in-Map.level
           (keeps.same_reader ∙ kept.0, λ first t. keeps.only first (kept.1 first t))
@@ -163,15 +153,13 @@ returns-in_err-name-in-Map-clause-refused g c =
 
 pub returns-then-not-is_one-clause-refused : goal.returns-then-not-is_one-clause-refused
 returns-then-not-is_one-clause-refused g c =
-    refuses-denied g.A.Access.remaining c.args.self.now given_variant (of_kind kinds.Variant)
-    (other-denied g.A.Access.remaining c.args.self.now given_variant c.bare_head.new.self c.in_ok-header.header
-    c.in_ok-header.ensures.head kinds.Variant (variant-other (Some c.args.self.now.levels) c.in_ok-header.header
+    other-refuses given_variant c.in_ok-header.ensures.reads c.in_ok-header.ensures.head
+    (variant-other (Some c.args.self.now.levels) c.in_ok-header.header
     c.in_ok-header.ensures.reads.bare (map-no-text c.in_ok-header.header c.in-Map.count c.in-Map.is) (map-not-one
-    c.in_ok-header.header c.in-Map.count c.in-Map.is c.if-not-is_one.ensures)))
+    c.in_ok-header.header c.in-Map.count c.in-Map.is c.if-not-is_one.ensures))
 
 pub returns-in_default-clause-refused : goal.returns-in_default-clause-refused
 returns-in_default-clause-refused g c =
-    refuses-denied g.A.Access.remaining c.args.self.now given_variant (of_kind kinds.Variant)
-    (other-denied g.A.Access.remaining c.args.self.now given_variant c.bare_head.new.self c.in_ok-header.header
-    c.in_ok-header.ensures.head kinds.Variant (variant-other (Some c.args.self.now.levels) c.in_ok-header.header
-    c.in_ok-header.ensures.reads.bare c.in_default.not-Text (c.in_default.not-Map (Some 1))))
+    other-refuses given_variant c.in_ok-header.ensures.reads c.in_ok-header.ensures.head
+    (variant-other (Some c.args.self.now.levels) c.in_ok-header.header
+    c.in_ok-header.ensures.reads.bare c.in_default.not-Text (c.in_default.not-Map (Some 1)))

@@ -1,42 +1,33 @@
-use Rattle.std.proofs.Common.{arith, rules, refl, Some, false, sym, subst, ◌∙◌}
+use Rattle.std.proofs.Common.{Some, ap, arith, refl, rules, sym, ◌∙◌}
 use Rattle.std.proofs.lemmas.Result.{err_from_is_err_and}
 use Rattle.ciborium_ll.specs.declared.header.Header.TheVariants as header
 use Rattle.ciborium_ll.specs.StringRefusal.{of_bytes}
-use Rattle.ciborium_value.specs.Given.{bare_bytes, given_bytes}
-use Rattle.ciborium_value.specs.declared.kind.Kind.TheVariants as kinds
-use Rattle.ciborium.specs.declared.de.error.Error.TheVariants.{Semantic}
-use Rattle.ciborium.specs.inner.ByteSources.{IsUnread, fault_at}
-use Rattle.ciborium.specs.inner.Skips.{TakesBare}
-use Rattle.ciborium.proofs.Containers.ByteItems.{bare-refused, behind-given, behind-refused, head-refused}
-use Rattle.ciborium.proofs.Containers.ByteItems.{array-begun, array-refuses, array-takes, array-took}
-use Rattle.ciborium.proofs.Containers.ByteItems.{bytes-other, bytes-read}
+use Rattle.ciborium_value.specs.Given.{bare_bytes, given_bytes, outcome}
+use Rattle.ciborium.specs.inner.ByteSources.{fault_at}
+use Rattle.ciborium.specs.inner.StringContents.{string_item}
+use Rattle.ciborium.proofs.Containers.ByteItems.{array-begun, array-refuses, array-takes, array-took, bytes-other}
+use Rattle.ciborium.proofs.Containers.ByteItems.{bare-refused, behind-refused, head-refused, nested-refuses}
+use Rattle.ciborium.proofs.Containers.ByteItems.{other-refuses, string-given, string-refuses}
 use Rattle.ciborium.proofs.Containers.EnteredContainers.{array-nests}
-use Rattle.ciborium.proofs.Items.BareHeads.{nested-denied, other-denied, string-denied}
+use Rattle.ciborium.proofs.Items.SkippedTags.{untagged-under}
 use Rattle.ciborium.proofs.de.byte_source.source.ByteSourceSource.bytes.Goals as goal
 
 pub returns-in_err-header : goal.returns-in_err-header
 returns-in_err-header g c =
     let exit = err_from_is_err_and c.from_residual.result c.from_residual.ensures.1 in
-    rw (exit.1, exit.2) (record {
-      takes = head-refused g.A.Access.can_fail g.A.Access.remaining c.args.self.now c.bare_head.new.self
-          given_bytes (λ v. v.items) c.in_err-header.field-0.0 c.in_err-header.ensures.reads c.in_err-header.ensures.denied;
-    })
+    rw (exit.1, exit.2) (record { takes = head-refused c.in_err-header.ensures.reads c.in_err-header.ensures.denied })
 
 -- ---- a byte string
 
 pub returns-in_ok-bytes-in-Bytes : goal.returns-in_ok-bytes-in-Bytes
 returns-in_ok-bytes-in-Bytes g c =
+    let payload = c.in_ok-bytes-in-Bytes.bytes.items in
     let content = c.in_ok-bytes-in-Bytes.ensures in
-    let fewer = content.fewer in
-    record {
-      takes = behind-given g.A.Access.can_fail g.A.Access.remaining c.args.self.now c.bytes_content.new.self given_bytes
-          (λ v. v.items) c.bare_head.new.self c.in_ok-header.header c.in_ok-header.offset c.in_ok-header.ensures.reads
-          c.in_ok-bytes-in-Bytes.bytes (content.same_reader, content.only) content.levels content.pending
-          (omega (arith, fewer))
-          (bytes-read g.A.Access.remaining c.args.self.now c.bare_head.new.self c.bytes_content.new.self c.in-Bytes.len
-          c.in_ok-bytes-in-Bytes.bytes.items
-          (subst (TakesBare (IsUnread g.A.Access.remaining) c.args.self.now c.bare_head.new.self false) c.in-Bytes.is
-          c.in_ok-header.ensures.head) content.ok);
+    let fewer = content.fewer in record {
+      takes = string-given c.in_ok-header.ensures.reads c.in_ok-header.ensures.head of_bytes c.in-Bytes.len
+          c.in-Bytes.is (content.same_reader, content.only) content.levels content.pending (omega (arith, fewer))
+          payload content.ok (λ ts all. ap (λ j. outcome (Some c.args.self.now.levels) (bare_bytes j))
+          (untagged-under ts (string_item of_bytes c.in-Bytes.len payload)));
     }
 
 pub returns-in_err-bytes-in-Bytes : goal.returns-in_err-bytes-in-Bytes
@@ -45,13 +36,9 @@ returns-in_err-bytes-in-Bytes g c =
     c.from_residual-in_err-bytes-in-Bytes.ensures.1 in
     let refusal = c.in_err-bytes-in-Bytes.ensures in
     rw (exit.1, exit.2) (record {
-      takes = behind-refused g.A.Access.can_fail g.A.Access.remaining c.args.self.now
-          c.bytes_content.new.self given_bytes (λ v. v.items) c.bare_head.new.self c.in_ok-header.header
-          c.in_ok-header.offset c.in_ok-header.ensures.reads c.in_err-bytes-in-Bytes.field-0.0 refusal.only refusal.no_more
-          (string-denied g.A.Access.remaining c.args.self.now given_bytes c.bare_head.new.self c.in_ok-header.header
-          c.in_ok-header.ensures.head of_bytes c.in-Bytes.len c.in-Bytes.is c.in_ok-header.ensures.reads.only
-          (fault_at g.A.Access.can_fail g.A.Access.remaining c.bytes_content.new.self c.in_err-bytes-in-Bytes.field-0.0)
-          refusal.denied);
+      takes = behind-refused c.in_ok-header.ensures.reads refusal.only refusal.no_more
+          (string-refuses given_bytes c.in_ok-header.ensures.reads c.in_ok-header.ensures.head _ of_bytes c.in-Bytes.len
+          c.in-Bytes.is refusal.denied);
     })
 
 -- ---- an array
@@ -62,14 +49,11 @@ returns-in_err-seq-in-Array g c =
     c.from_residual-in_err-seq-in-Array.ensures.1 in
     let enter = c.in_err-seq-in-Array.ensures in
     rw (exit.1, exit.2) (record {
-      takes = behind-refused g.A.Access.can_fail g.A.Access.remaining c.args.self.now c.enter.new.self
-          given_bytes (λ v. v.items) c.bare_head.new.self c.in_ok-header.header c.in_ok-header.offset
-          c.in_ok-header.ensures.reads c.in_err-seq-in-Array.field-0.0 (search rules) (search rules)
-          (nested-denied g.A.Access.remaining c.args.self.now given_bytes
-          c.bare_head.new.self c.in_ok-header.header c.in_ok-header.ensures.head g.A.Access.can_fail c.enter.new.self
-          (header.Array c.in-Array.count)
-          c.in-Array.is c.in_err-seq-in-Array.field-0.0 enter.err (array-nests bare_bytes (λ o is.
-          refl) c.args.self.now.levels c.in-Array.count (sym c.in_ok-header.ensures.reads.levels ∙ enter.none)));
+      takes = behind-refused c.in_ok-header.ensures.reads (search rules) (search rules)
+          (nested-refuses given_bytes c.in_ok-header.ensures.reads c.in_ok-header.ensures.head
+          c.enter.new.self
+          (header.Array c.in-Array.count) c.in-Array.is enter.err (array-nests bare_bytes (λ o is. refl)
+          c.args.self.now.levels c.in-Array.count (sym c.in_ok-header.ensures.reads.levels ∙ enter.none)));
     })
 
 pub returns-in_ok-bytes-in-Array : goal.returns-in_ok-bytes-in-Array
@@ -86,7 +70,7 @@ returns-in_ok-bytes-in-Array g c =
         refused = tt;
         took = array-took g.A.Access.remaining c.args.self.now c.enter.new.self c.in_ok-seq-in-Array.seq opened
             c.read_byte_items.new.self c.in_ok-bytes-in-Array.ensures.took;
-        only = search rules;
+        only = λ first t. c.read_byte_items.ensures.only first (opened.kept.1 first.decoder t);
         less = search rules;
         no_more = tt;
       };
@@ -108,19 +92,16 @@ returns-in_err-bytes-in-Array g c =
             opened (fault_at g.A.Access.can_fail g.A.Access.remaining c.read_byte_items.new.self
             c.in_err-bytes-in-Array.field-0.0) c.in_err-bytes-in-Array.ensures.refused;
         took = tt;
-        only = search rules;
+        only = λ first t. c.read_byte_items.ensures.only first (opened.kept.1 first.decoder t);
         less = tt;
         no_more = search rules;
       };
     })
 
 pub returns-in_default : goal.returns-in_default
-returns-in_default g c =
-    record {
-      takes = bare-refused g.A.Access.can_fail g.A.Access.remaining c.args.self.now c.bare_head.new.self given_bytes
-          (λ v. v.items) c.in_ok-header.header c.in_ok-header.offset c.in_ok-header.ensures.reads
-          (Semantic (Some c.in_ok-header.offset) kinds.Bytes)
-          (other-denied g.A.Access.remaining c.args.self.now given_bytes c.bare_head.new.self c.in_ok-header.header
-          c.in_ok-header.ensures.head kinds.Bytes (bytes-other (Some c.args.self.now.levels) c.in_ok-header.header
-          c.in_ok-header.ensures.reads.bare c.in_default.not-Array c.in_default.not-Bytes));
-    }
+returns-in_default g c = record {
+  takes = bare-refused c.in_ok-header.ensures.reads
+      (other-refuses given_bytes c.in_ok-header.ensures.reads c.in_ok-header.ensures.head
+      (bytes-other (Some c.args.self.now.levels) c.in_ok-header.header c.in_ok-header.ensures.reads.bare
+      c.in_default.not-Array c.in_default.not-Bytes));
+}

@@ -3,7 +3,7 @@ use Rattle.std.proofs.lemmas.Result.{err_from_is_err_and}
 use Rattle.std.specs.Int.{complement_if}
 use Rattle.ciborium_ll.specs.Header.{SpellsHeader}
 use Rattle.ciborium_ll.specs.Item.{negative, unsigned}
-use Rattle.ciborium_value.specs.Labels.{label_place, numbered, placed}
+use Rattle.ciborium_value.specs.Labels.{numbered, placed}
 use Rattle.ciborium_value.specs.Given.{gives}
 use Rattle.ciborium.specs.inner.ByteSources.{IsUnread, end_at, fault_at}
 use Rattle.ciborium.specs.inner.FrontItems.{Denies, Reads}
@@ -21,7 +21,7 @@ returns-in_err-header g c =
     let error = c.in_err-header.field-0.0 in
     let head = c.in_err-header.ensures in
     rw (exit.1, exit.2) (record {
-      takes = takes-denied g.A.Access.can_fail g.A.Access.remaining old new (label_place place) (λ v. v) error head.only
+      takes = takes-denied _ _ head.only
           head.no_more (no-key g.A.Access.remaining old place
           (fault_at g.A.Access.can_fail g.A.Access.remaining new error) head.denied);
     })
@@ -41,7 +41,7 @@ returns-in_err-place-in-Text g c =
     let no_more = text.no_more in
     let fewer = taken-fewer old mid mid h (omega arith) head.pending head.fewer in
     rw (exit.1, exit.2) (record {
-      takes = takes-denied g.A.Access.can_fail g.A.Access.remaining old new (label_place place) (λ v. v) error
+      takes = takes-denied _ _
           (λ first t. text.only first (head.only first t)) (omega (arith, no_more, fewer))
           (no-key-text g.A.Access.remaining old place mid h head.head c.in-Text.len c.in-Text.is head.only
           (fault_at g.A.Access.can_fail g.A.Access.remaining new error) text.denied);
@@ -56,8 +56,7 @@ returns-in_ok-place-in-Text g c =
     let h = c.in_ok-header.header in
     let head = c.in_ok-header.ensures in
     let text = c.in_ok-place-in-Text.ensures in record {
-      takes = takes-given g.A.Access.can_fail g.A.Access.remaining old new (label_place place) (λ v. v)
-          c.in_ok-place-in-Text.place
+      takes = takes-given _ _
           (text.same_reader ∙ head.same_reader, λ first t. text.only first (head.only first t))
           (text.levels ∙ head.levels) text.pending (taken-fewer old mid new h text.fewer text.pending head.fewer)
           (key-text g.A.Access.remaining old place mid h head.head c.in-Text.len c.in-Text.is new
@@ -72,7 +71,7 @@ returns-in-Positive g c =
     let h = c.in_ok-header.header in
     let head = c.in_ok-header.ensures in
     let found = c.find_number.result in record {
-      takes = takes-given g.A.Access.can_fail g.A.Access.remaining old mid (label_place place) (λ v. v) found
+      takes = takes-given _ _
           (head.same_reader, head.only) head.levels head.pending
           (taken-fewer old mid mid h (omega arith) head.pending head.fewer)
           (key-whole g.A.Access.remaining old place mid h head.head (unsigned c.in-Positive.n) found
@@ -89,7 +88,7 @@ returns-in-Negative g c =
     let h = c.in_ok-header.header in
     let head = c.in_ok-header.ensures in
     let found = c.find_number-in-Negative.result in record {
-      takes = takes-given g.A.Access.can_fail g.A.Access.remaining old mid (label_place place) (λ v. v) found
+      takes = takes-given _ _
           (head.same_reader, head.only) head.levels head.pending
           (taken-fewer old mid mid h (omega arith) head.pending head.fewer)
           (key-whole g.A.Access.remaining old place mid h head.head (negative c.in-Negative.n) found
@@ -109,7 +108,7 @@ returns-in_ok-place-in_default g c =
     let head = c.in_ok-header.ensures in
     let found = c.in_ok-place-in_default.place in
     let rest = c.in_ok-place-in_default.ensures.keeps in record {
-      takes = takes-given g.A.Access.can_fail g.A.Access.remaining old new (label_place place) (λ v. v) found
+      takes = takes-given _ _
           (rest.same_reader ∙ head.same_reader, λ first t. rest.only first (head.only first t))
           (rest.levels ∙ head.levels) rest.pending (omega (arith, head.fewer, rest.fewer))
           (key-of-kind g.A.Access.remaining old place mid h head.head p head.pending head.counted head.levels new found
@@ -132,7 +131,7 @@ returns-in_err-place-in_default g c =
     let fault = fault_at g.A.Access.can_fail g.A.Access.remaining new error in
     let rest = c.in_err-place-in_default.ensures.keeps in
     rw (exit.1, exit.2) (record {
-      takes = takes-denied g.A.Access.can_fail g.A.Access.remaining old new (label_place place) (λ v. v) error
+      takes = takes-denied _ _
           (λ first t. rest.only first (head.only first t)) (omega (arith, head.fewer, rest.no_more))
           (no-key-of-kind g.A.Access.remaining old place mid h head.head p head.pending head.counted head.levels
           head.only fault

@@ -1,51 +1,34 @@
-use Rattle.std.proofs.Common.{false, subst, Some, sym, ◌∙◌}
+use Rattle.std.proofs.Common.{Some, sym, ◌∙◌}
 use Rattle.std.proofs.lemmas.Result.{err_from_is_err_and}
 use Rattle.ciborium_ll.specs.Item.{simple}
 use Rattle.ciborium_ll.specs.declared.header.Header.TheVariants as header
 use Rattle.ciborium_value.specs.Given.{given_unit}
-use Rattle.ciborium_value.specs.declared.kind.Kind.TheVariants as kinds
-use Rattle.ciborium.specs.declared.de.error.Error.TheVariants.{Semantic}
-use Rattle.ciborium.specs.inner.ByteSources.{IsUnread}
-use Rattle.ciborium.specs.inner.Skips.{TakesBare}
+use Rattle.ciborium.proofs.Containers.ByteItems.{bare-refused, head-refused, other-refuses, whole-given}
 use Rattle.ciborium.proofs.Items.BareScalars.{unit-gives, unit-none, unit-other}
-use Rattle.ciborium.proofs.Items.SkippedTags.{reads-whole}
-use Rattle.ciborium.proofs.Items.BareHeads.{other-denied}
-use Rattle.ciborium.proofs.Containers.ByteItems.{bare-given, bare-refused, head-refused}
 use Rattle.ciborium.proofs.de.byte_source.source.ByteSourceSource.unit.Goals as goal
 
 pub returns-in_err-header-clause-takes : goal.returns-in_err-header-clause-takes
 returns-in_err-header-clause-takes g c =
     let exit = err_from_is_err_and c.from_residual.result c.from_residual.ensures.1 in
-    rw (exit.1, exit.2) (head-refused g.A.Access.can_fail g.A.Access.remaining c.args.self.now c.bare_head.new.self
-    given_unit (λ v. v) c.in_err-header.field-0.0 c.in_err-header.ensures.reads c.in_err-header.ensures.denied)
+    rw (exit.1, exit.2) (head-refused c.in_err-header.ensures.reads c.in_err-header.ensures.denied)
 
 pub returns-then-is_null-clause-takes : goal.returns-then-is_null-clause-takes
 returns-then-is_null-clause-takes g c =
-    let l = Some c.args.self.now.levels in
     let n = c.in-Simple.number in
-    bare-given g.A.Access.can_fail g.A.Access.remaining c.args.self.now c.bare_head.new.self given_unit (λ v. v)
-    c.in_ok-header.header c.in_ok-header.offset c.in_ok-header.ensures.reads tt
-    (reads-whole (IsUnread g.A.Access.remaining) false (header.Simple n) l given_unit c.args.self.now
-    c.bare_head.new.self
-    tt (simple n)
-    (subst (TakesBare (IsUnread g.A.Access.remaining) c.args.self.now c.bare_head.new.self false) c.in-Simple.is
-    c.in_ok-header.ensures.head) (λ x hd. hd) (unit-gives l n (sym c.is_null.ensures ∙ c.if-is_null.true)))
+    whole-given c.in_ok-header.ensures.reads c.in_ok-header.ensures.head (header.Simple n) c.in-Simple.is (simple n)
+    (λ x hd. hd) (unit-gives (Some c.args.self.now.levels) n (sym c.is_null.ensures ∙ c.if-is_null.true))
 
 pub returns-else-is_null-clause-takes : goal.returns-else-is_null-clause-takes
 returns-else-is_null-clause-takes g c =
-    bare-refused g.A.Access.can_fail g.A.Access.remaining c.args.self.now c.bare_head.new.self given_unit (λ v. v)
-    c.in_ok-header.header c.in_ok-header.offset c.in_ok-header.ensures.reads
-    (Semantic (Some c.in_ok-header.offset) kinds.Unit)
-    (other-denied g.A.Access.remaining c.args.self.now given_unit c.bare_head.new.self c.in_ok-header.header
-    c.in_ok-header.ensures.head kinds.Unit (unit-other (Some c.args.self.now.levels) c.in_ok-header.header
-    c.in_ok-header.ensures.reads.bare (unit-none c.in_ok-header.header c.in-Simple.number c.in-Simple.is (sym
-    c.is_null.ensures ∙ c.if-is_null.false))))
+    let h = c.in_ok-header.header in
+    bare-refused c.in_ok-header.ensures.reads
+    (other-refuses given_unit c.in_ok-header.ensures.reads c.in_ok-header.ensures.head
+    (unit-other (Some c.args.self.now.levels) h c.in_ok-header.ensures.reads.bare
+    (unit-none h c.in-Simple.number c.in-Simple.is (sym c.is_null.ensures ∙ c.if-is_null.false))))
 
 pub returns-in_default-clause-takes : goal.returns-in_default-clause-takes
 returns-in_default-clause-takes g c =
-    bare-refused g.A.Access.can_fail g.A.Access.remaining c.args.self.now c.bare_head.new.self given_unit (λ v. v)
-    c.in_ok-header.header c.in_ok-header.offset c.in_ok-header.ensures.reads
-    (Semantic (Some c.in_ok-header.offset) kinds.Unit)
-    (other-denied g.A.Access.remaining c.args.self.now given_unit c.bare_head.new.self c.in_ok-header.header
-    c.in_ok-header.ensures.head kinds.Unit (unit-other (Some c.args.self.now.levels) c.in_ok-header.header
-    c.in_ok-header.ensures.reads.bare (λ n e. absurd (c.in_default.not-Simple n e))))
+    bare-refused c.in_ok-header.ensures.reads
+    (other-refuses given_unit c.in_ok-header.ensures.reads c.in_ok-header.ensures.head
+    (unit-other (Some c.args.self.now.levels) c.in_ok-header.header c.in_ok-header.ensures.reads.bare
+    (λ n e. absurd (c.in_default.not-Simple n e))))

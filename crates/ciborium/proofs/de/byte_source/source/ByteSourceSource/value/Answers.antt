@@ -16,8 +16,7 @@ use Rattle.ciborium.proofs.de.byte_source.source.ByteSourceSource.value.Goals as
 pub returns-in-Some-portable_value-clause-takes : goal.returns-in-Some-portable_value-clause-takes
 returns-in-Some-portable_value-clause-takes g c =
     let d = c.args.self.now.decoder in
-    takes-given g.A.Access.can_fail g.A.Access.remaining c.args.self.now _ given_value tree_of
-    c.in-Some-portable_value.value (refl, λ first t. t) refl c.take.ensures.after (search rules) (λ b u.
+    takes-given _ _ (refl, λ first t. t) refl c.take.ensures.after (search rules) (λ b u.
     let (i, s, z, sp, e, give, left) = portable-reads g.A.Access.remaining d c.args.self.now.pending c.in-Some.header
     c.in-Some.offset b (tree_of c.in-Some-portable_value.value) (Some c.args.self.now.levels)
     (sym c.take.ensures.value ∙ c.in-Some.is) c.in-Some-portable_value.ensures u in
@@ -32,7 +31,7 @@ returns-in_ok-value-in-None-portable_value-clause-takes g c =
     let value = c.in_ok-value-in-None-portable_value.value in
     let done = c.in_ok-value-in-None-portable_value.ensures in
     let same = c.push.ensures.unread in
-    takes-given g.A.Access.can_fail g.A.Access.remaining c.args.self.now _ given_value tree_of value (
+    takes-given _ _ (
       done.same_reader ∙ c.push.ensures.same_reader,
       λ first t. takes-only g.A.Access.remaining c.push.new.self f _ done.same_reader done.value first
           (takes-none g.A.Access.remaining d c.push.new.self c.push.ensures.same_reader
@@ -53,7 +52,7 @@ returns-in_ok-value-in-None-clause-takes g c =
     let f = c.read_value-in-None.new.decoder in
     let value = c.in_ok-value-in-None.value in
     let done = c.in_ok-value-in-None.ensures in
-    takes-given g.A.Access.can_fail g.A.Access.remaining c.args.self.now _ given_value tree_of value
+    takes-given _ _
     (done.same_reader, takes-only g.A.Access.remaining d f _ done.same_reader done.value) refl c.take.ensures.after
     (search rules) (λ b u.
     let ahead = ahead-by g.A.Access.remaining d d None b tt c.args.self.now.unpushed (refl, refl)
@@ -105,8 +104,8 @@ returns-in_err-value-in-None-clause-takes g c =
     let f = c.read_value-in-None.new.decoder in
     let error = c.in_err-value-in-None.field-0.0 in
     let refusal = c.in_err-value-in-None.ensures in
-    rw (exit.1, exit.2) (takes-denied g.A.Access.can_fail g.A.Access.remaining c.args.self.now _ given_value tree_of
-    error (takes-only g.A.Access.remaining d f _ c.read_value-in-None.ensures.same_reader refusal.value)
+    rw (exit.1, exit.2) (takes-denied _ _ (takes-only g.A.Access.remaining d f _
+    c.read_value-in-None.ensures.same_reader refusal.value)
     (search rules) (λ b s z i end u sp e fits.
     let unread = subst (λ o. IsUnreadBy g.A.Access.remaining d o b) (sym c.take.ensures.value ∙ c.in-None.is) u in
     let ahead = ahead-by g.A.Access.remaining d d None b tt c.args.self.now.unpushed (refl, refl) unread in
