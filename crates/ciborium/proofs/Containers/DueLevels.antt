@@ -1,19 +1,22 @@
 -- Tags that are entered, and the levels of tags and variants.
-use Rattle.std.proofs.Common.{◌≡◌, ◌≢◌, ℕ, List, ◌++◌, Option, Some, None, Result, Ok, Err, IfOk, OnOk, refl, sym}
+use Rattle.std.proofs.Common.{Bool, ◌≡◌, ◌≢◌, ℕ, List, ◌++◌, Option, Some, None, refl, sym}
 use Rattle.std.proofs.Common.{ap, ◌∙◌, subst, append_assoc, arith}
 use Rattle.ciborium_ll.specs.declared.header.Header.{Header}
 use Rattle.ciborium_ll.specs.declared.header.Header.TheVariants as header
 use Rattle.ciborium_ll.specs.Header.{SpellsHeader}
 use Rattle.ciborium_ll.specs.Item.{Item, tag}
-use Rattle.ciborium_value.specs.Sources.{Completes, Holds, GivesBack, TakesTo}
+use Rattle.ciborium_value.specs.Sources.{Completes, Holds, IsFaultOf, RefusesAhead, TakesTo}
 use Rattle.ciborium_value.specs.Given.{Given, gives, deeper, outcome, within_level, outer_tag, given_outer_tag}
 use Rattle.ciborium.specs.declared.de.byte_source.ByteSource.{ByteSource}
 use Rattle.ciborium.specs.declared.de.byte_source.ByteLevel.{ByteLevel}
-use Rattle.ciborium.specs.inner.ByteSources.{IsUnread, StandsBefore, LevelStands, TakesLevel}
-use Rattle.ciborium.specs.inner.FrontItems.{TakesHead, Denies}
+use Rattle.ciborium.specs.declared.de.error.Error.{Error}
+use Rattle.ciborium.specs.declared.de.error.Error.TheVariants.{RecursionLimitExceeded}
+use Rattle.ciborium.specs.inner.ByteSources.{IsUnread, StandsBefore, LevelStands, TakesLevel, fault_at}
+use Rattle.ciborium.specs.inner.FrontItems.{TakesHead}
 use Rattle.ciborium.specs.inner.Skips.{EntersLevelUnread}
 use Rattle.ciborium.specs.inner.Unread.{IsRest}
 use Rattle.ciborium.proofs.Containers.EnteredContainers.{within-is, deeper-is}
+use Rattle.ciborium.proofs.Containers.ByteItems.{refuses-denied}
 use Rattle.ciborium.proofs.Items.ItemHeads.{header_of, tag-front, same-head, by-shape}
 use Rattle.ciborium.proofs.Items.TakenOnly.{IsKept, kept-reader}
 
@@ -98,15 +101,11 @@ module _ {S : Type 0} (IsUnread : S → List ℕ → Type 0) (old mid new : S) (
       )
 
 -- no level is left for it
-pub tag-nests : {S : Type 0} (IsUnread : S → List ℕ → Type 0) (End : S → ℕ) (old : S) (m : ℕ) → m ≡ 0 →
-    Denies IsUnread End old (Some m) given_outer_tag Rattle.ciborium_value.specs.Sources.of_nesting
-tag-nests IsUnread End old m none b s z i end u sp e fits = ap (λ n. within_level (Some n) (gives (outer_tag i))) none
-
-pub ok-map-two : {T E : Type 0} {N P Q : T → Type 0} (r : Result T E) → IfOk r N → IfOk r P →
-    ((v : T) → N v → P v → Q v) → IfOk r Q
-ok-map-two (Ok v) n p f = f v n p
-ok-map-two (Err e) n p f = tt
-
-pub on-ok-so : {T E : Type 0} {P : T → Type 0} {Q : Type 0} (r : Result T E) → IfOk r P → ((v : T) → P v → Q) → OnOk r Q
-on-ok-so (Ok v) p f = f v p
-on-ok-so (Err e) p f = tt
+pub tag-refused : {S W : Type 0} (can_fail : Bool) (remaining : S → Option (List ℕ)) (old mid new : ByteSource S W)
+    (e : Error (Unit {0})) → mid.levels ≡ old.levels → mid.levels ≡ 0 → e ≡ RecursionLimitExceeded →
+    RefusesAhead (StandsBefore remaining) old given_outer_tag (fault_at can_fail remaining new e)
+tag-refused can_fail remaining old mid new e same none err = refuses-denied remaining old given_outer_tag
+    (fault_at can_fail remaining new e) (λ b s z i end u sp g fits.
+    subst (λ fault. IsFaultOf end fault (outcome (Some old.levels) (given_outer_tag i)))
+    (sym (ap (fault_at can_fail remaining new) err))
+    (ap (λ n. within_level (Some n) (gives (outer_tag i))) (sym same ∙ none)))

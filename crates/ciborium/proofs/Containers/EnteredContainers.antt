@@ -1,5 +1,5 @@
 -- Containers that are entered behind skipped tags.
-use Rattle.std.proofs.Common.{◌≡◌, OnOk, IfOk, Err, Ok, Result, ◌<◌, ◌+◌, ◌≢◌, ℕ, zero, suc, ◌-◌, Bool, true, false}
+use Rattle.std.proofs.Common.{◌≡◌, Ok, ◌<◌, ◌+◌, ◌≢◌, ℕ, zero, suc, ◌-◌, Bool, true, false}
 use Rattle.std.proofs.Common.{List, [], ◌∷◌, ◌++◌, map, Option, Some, None, refl, sym, ap, ◌∙◌, subst, append_assoc}
 use Rattle.std.proofs.Common.{append-nil, arith}
 use Rattle.std.specs.Vec.Iter.{into_iter_items}
@@ -12,7 +12,6 @@ use Rattle.ciborium_ll.specs.Item.{Item, Items, Pairs, unsigned, negative, bytes
 use Rattle.ciborium_ll.specs.Spells.{Spells}
 use Rattle.ciborium_ll.specs.StringRefusal.{of_bytes as bytes_kind}
 use Rattle.ciborium_ll.proofs.UniqueSpelling.{one_at_front}
-use Rattle.ciborium_value.specs.Sources.{Enters, EntersMap}
 use Rattle.ciborium_value.specs.Ahead.{Span, Rest, parts, after, item, inside, of_bytes, pairs, takes_level}
 use Rattle.ciborium_value.specs.Nesting.{Limit}
 use Rattle.ciborium_value.specs.Places.{is_open, sequence, dictionary}
@@ -25,14 +24,16 @@ use Rattle.ciborium.specs.declared.de.byte_source.Left.{Left}
 use Rattle.ciborium.specs.declared.de.byte_source.Left.TheVariants as left
 use Rattle.ciborium.specs.inner.ByteSources.{IsUnread, IsUnreadBy, StandsBefore, SeqStands, HoldsItems, HoldsPairs}
 use Rattle.ciborium.specs.inner.ByteSources.{SeqOwes, LeftOwes, OwesParts, EntersItemsUnread, EntersPairsUnread}
-use Rattle.ciborium.specs.inner.ByteSources.{HasBytes, parts_left, weight_left, reader_of, seq_left}
+use Rattle.ciborium.specs.inner.ByteSources.{HasBytes, ReadsBareHead, bytes_left, parts_left, weight_left}
+use Rattle.ciborium.specs.inner.ByteSources.{reader_of, seq_left}
 use Rattle.ciborium.specs.inner.Skips.{under, AreSkipped, IsBare, TakesBare, EntersUnread}
 use Rattle.ciborium.specs.inner.StringContents.{TakesContent}
 use Rattle.ciborium.specs.inner.Unread.{AreSpelled, AreLeft, SpellsPair, IsRest, ending, span_of, HasCount}
 use Rattle.ciborium.proofs.Items.ItemHeads.{header_of, packed, packed-pairs, counted-front, open-front}
 use Rattle.ciborium.proofs.Items.ItemHeads.{counted-pairs-front, open-pairs-front, by-shape, no-bare-tag}
 use Rattle.ciborium.proofs.Items.SkippedTags.{untagged-under}
-use Rattle.ciborium.proofs.Items.TakenOnly.{IsKept, kept-reader}
+use Rattle.ciborium.proofs.Items.TakenOnly.{IsKept, kept-alone, kept-reader}
+use Rattle.ciborium.proofs.Items.Weights.{entered-fewer}
 
 -- ---- levels
 
@@ -195,6 +196,22 @@ pairs-held q None e xs h = subst (λ k. HoldsPairs k (span_of None) xs) (sym e) 
 abbrev pub IsEntered : {S W : Type 0} → ByteSource S W → ByteSource S W → Option ℕ → ByteSeq → Type 0
 IsEntered mid new count q = (new.decoder ≡ mid.decoder) × (new.pending ≡ mid.pending) × (mid.levels ≢ 0) ×
     (new.levels ≡ mid.levels - 1) × (q.left ≡ parts_left count)
+
+-- so many parts, or any number, are no bytes
+none-left : (count : Option ℕ) → bytes_left (parts_left count) ≡ 0
+none-left (Some n) = refl
+none-left None = refl
+
+-- what of the source is as it was
+pub entered-kept : {S W : Type 0} {can_fail : Bool} {remaining : S → Option (List ℕ)} {old mid : ByteSource S W}
+    {h : Header} {offset : ℕ} (new : ByteSource S W) (count : Option ℕ) (q : ByteSeq) → IsEntered mid new count q →
+    ReadsBareHead can_fail remaining old mid false (Ok (h, offset)) →
+    IsKept remaining old new × (new.pending ≡ None) × (weight_left new + seq_left q < weight_left old)
+entered-kept {remaining = remaining} {old} {mid} {h} new count q is reads =
+    let none = is.1 ∙ reads.pending in
+    let fewer = entered-fewer old mid new h is.0 none reads.fewer in
+    let nothing : seq_left q ≡ 0 = ap bytes_left is.4 ∙ none-left count in
+    (kept-alone remaining old mid new is.0 (reads.same_reader, reads.only), none, omega (arith, fewer, nothing))
 
 pub same-unread : {S W : Type 0} (remaining : S → Option (List ℕ)) (mid new : ByteSource S W) →
     new.decoder ≡ mid.decoder →
@@ -365,22 +382,3 @@ module _ {S W : Type 0} (remaining : S → Option (List ℕ)) (old new : ByteSou
       (span : Span) × (ps : List (Item × Item)) × (outcome l (taken i) ≡ outcome (inside span l) (f span ps)) ×
       StandsBefore remaining new (inside span l) (after (pairs span ps r)) × SeqStands q l (pairs span ps r)
   pairs-stand = parts-stand (λ p. SeqOwes p dictionary) SpellsPair (λ p. HoldsPairs p.left)
-
--- what is answered where a sequence was entered, and where a map was
-module _ {S W : Type 0} (remaining : S → Option (List ℕ)) (old new : ByteSource S W)
-    (kept : IsKept remaining old new) where
-  pub enters : (E : Type 0) (r : Result ByteSeq E) → IfOk r (λ q. q.levels ≡ old.levels) → OnOk r (new.pending ≡ None) →
-      IfOk r (λ q. weight_left new + seq_left q < weight_left old) →
-      IfOk r (EntersItemsUnread remaining old new given_seq (λ span is. give (takes_level span, is))) →
-      IfOk r (λ q. Enters (StandsBefore remaining) SeqStands old new q)
-  enters E (Ok q) levels none fewer opens = items-stand remaining old new q kept levels none (omega (arith, fewer))
-      given_seq (λ span is. give (takes_level span, is)) opens
-  enters E (Err e) levels none fewer opens = tt
-
-  pub enters-map : (E : Type 0) (r : Result ByteSeq E) → IfOk r (λ q. q.levels ≡ old.levels) →
-      OnOk r (new.pending ≡ None) → IfOk r (λ q. weight_left new + seq_left q < weight_left old) →
-      IfOk r (EntersPairsUnread remaining old new given_pairs (λ span ps. give (takes_level span, ps))) →
-      IfOk r (λ q. EntersMap (StandsBefore remaining) SeqStands old new q)
-  enters-map E (Ok q) levels none fewer opens = pairs-stand remaining old new q kept levels none (omega (arith, fewer))
-      given_pairs (λ span ps. give (takes_level span, ps)) opens
-  enters-map E (Err e) levels none fewer opens = tt

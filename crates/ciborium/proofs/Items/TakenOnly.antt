@@ -100,6 +100,14 @@ abbrev pub IsKept : {S W : Type 0} → (S → Option (List ℕ)) → ByteSource 
 IsKept remaining old new = HasSameReader old.decoder new.decoder ×
     TakesOnly (HasTaken remaining) old.decoder new.decoder
 
+-- the bytes were left alone
+pub kept-alone : {S W : Type 0} (remaining : S → Option (List ℕ)) (old mid new : ByteSource S W) →
+    new.decoder ≡ mid.decoder → IsKept remaining old mid → IsKept remaining old new
+kept-alone {S = S} {W = W} remaining old mid new same kept = (
+  ap (λ (d : Decoder S W). d.reader.ghost_name) same ∙ kept.0,
+  λ first t. subst (HasTaken remaining first) (sym same) (kept.1 first t),
+)
+
 pub known-unread : {S W : Type 0} (remaining : S → Option (List ℕ)) (d : Decoder S W) (pending : Option (Header × ℕ))
     (b : List ℕ) → IsUnreadBy remaining d pending b → (u : List ℕ) × (left_of remaining d ≡ Some u)
 known-unread remaining d None b e = (b, e)

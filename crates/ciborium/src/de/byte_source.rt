@@ -6,7 +6,6 @@ ghost use Rattle.ciborium_ll.specs.Decoding.{pushed_of};
 use ciborium_ll::{Decoder, Header};
 use std::{io, vec};
 
-mod aside;
 mod byte_lists;
 mod characters;
 mod containers;
@@ -19,7 +18,6 @@ mod scalars;
 mod skipping;
 mod source;
 mod strings;
-mod values;
 
 // Reads each head and payload as it comes. A head that was looked at and not taken is pending, with
 // its offset; so is one that stands for what is not in the bytes, as a byte of a byte string that
