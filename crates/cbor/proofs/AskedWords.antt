@@ -1,7 +1,9 @@
 -- What words ask for is one thing.
 use Rattle.std.proofs.Common.{◌≡◌, ◌≢◌, ℕ, ◌<◌, ◌≤◌, ◌-◌, ◌==◌, Bool, true, false, List, [], ◌∷◌, get_or, map, sum}
 use Rattle.std.proofs.Common.{length, take, drop, if◌then◌else◌, Option, Some, None, MatchOption, refl}
-use Rattle.std.proofs.Common.{IsSome, ◌⊎◌, inl, inr, codes, sym, subst, ◌∙◌, ap, ap₂, arith}
+use Rattle.std.proofs.Common.{IsSome, ◌⊎◌, inl, inr, codes, sym, subst, ◌∙◌, ap, ap₂, arith, nat_le, ◌&&◌}
+use Rattle.std.proofs.lemmas.Bool.Decides.{nat_tests}
+use Rattle.std.specs.List.{list_all}
 use Rattle.std.proofs.lemmas.List.{take_all}
 use Rattle.std.specs.Bool.{MatchBool}
 use Rattle.std.specs.Char.{digit_value}
@@ -69,79 +71,39 @@ limit_of command = or-default (command_limit command)
 named : (words : List (List ℕ)) (command : Command) → AreWordsFor words command →
     NameLimitBehind (command_words command) words (limit_of command)
 unfolding limit_of or-default
-named words (Answer (readings.Item Any n)) asked = asked
-named words (Answer (readings.Item (Deterministic LengthFirst) n)) asked = asked
-named words (Answer (readings.Item (Deterministic Bytewise) n)) asked = asked
-named words (Answer readings.Sequence) asked = subst (λ (ws : List (List ℕ)). NameLimitBehind
-    (command_words (Answer readings.Sequence)) ws 256) (sym asked)
-    (no-others (command_words (Answer readings.Sequence)))
-named words (Answer (readings.Form LengthFirst n)) asked = asked
-named words (Answer (readings.Form Bytewise n)) asked = asked
-named words (Answer (readings.Notation OneLine n)) asked = asked
-named words (Answer (readings.Notation Indented n)) asked = asked
-named words (Answer readings.Dump) asked = subst (λ (ws : List (List ℕ)). NameLimitBehind
-    (command_words (Answer readings.Dump)) ws 256) (sym asked)
-    (no-others (command_words (Answer readings.Dump)))
-named words (Answer readings.Exact) asked = subst (λ (ws : List (List ℕ)). NameLimitBehind
-    (command_words (Answer readings.Exact)) ws 256) (sym asked)
-    (no-others (command_words (Answer readings.Exact)))
-named words (Answer (readings.Encode n)) asked = asked
-named words (Sort LengthFirst) asked = subst (λ (ws : List (List ℕ)). NameLimitBehind (command_words (Sort LengthFirst))
-    ws 256) (sym asked) (no-others (command_words (Sort LengthFirst)))
-named words (Sort Bytewise) asked = subst (λ (ws : List (List ℕ)). NameLimitBehind (command_words (Sort Bytewise)) ws
-    256) (sym asked) (no-others (command_words (Sort Bytewise)))
-named words (Show (showings.Encoding Any) n) asked = asked
-named words (Show (showings.Encoding (Deterministic LengthFirst)) n) asked = asked
-named words (Show (showings.Encoding (Deterministic Bytewise)) n) asked = asked
-named words (Show (showings.Notation OneLine) n) asked = asked
-named words (Show (showings.Notation Indented) n) asked = asked
-named words (Show (showings.Form LengthFirst) n) asked = asked
-named words (Show (showings.Form Bytewise) n) asked = asked
-named words ShowExactly asked = subst (λ (ws : List (List ℕ)). NameLimitBehind (command_words ShowExactly) ws 256)
-    (sym asked) (no-others (command_words ShowExactly))
-named words Dump asked = subst (λ (ws : List (List ℕ)). NameLimitBehind (command_words Dump) ws 256) (sym asked)
-    (no-others (command_words Dump))
-named words (Encode n) asked = asked
-named words (Tell Help) asked = subst (λ (ws : List (List ℕ)). NameLimitBehind (command_words (Tell Help)) ws 256)
-    (sym asked) (no-others (command_words (Tell Help)))
-named words (Tell Version) asked = subst (λ (ws : List (List ℕ)). NameLimitBehind (command_words (Tell Version)) ws 256)
-    (sym asked) (no-others (command_words (Tell Version)))
+named words command asked = by (command_limit command) asked
+  where
+    by : (o : Option ℕ) → MatchOption o (words ≡ command_words command)
+        (λ n. NameLimitBehind (command_words command) words n) →
+        NameLimitBehind (command_words command) words (or-default o)
+    by None same = subst (λ ws. NameLimitBehind (command_words command) ws 256) (sym same)
+        (no-others (command_words command))
+    by (Some n) limited = limited
 
-are-names : (command : Command) → AreNames (command_words command)
-are-names (Answer (readings.Item Any n)) = (λ h. omega (arith, h), tt)
-are-names (Answer (readings.Item (Deterministic LengthFirst) n)) = (λ h. omega (arith, h), (λ h. omega (arith, h), tt))
-are-names (Answer (readings.Item (Deterministic Bytewise) n)) =
-    (λ h. omega (arith, h), (λ h. omega (arith, h), (λ h. omega (arith, h), tt)))
-are-names (Answer readings.Sequence) = (λ h. omega (arith, h), tt)
-are-names (Answer (readings.Form LengthFirst n)) = (λ h. omega (arith, h), tt)
-are-names (Answer (readings.Form Bytewise n)) = (λ h. omega (arith, h), (λ h. omega (arith, h), tt))
-are-names (Answer (readings.Notation OneLine n)) = (λ h. omega (arith, h), tt)
-are-names (Answer (readings.Notation Indented n)) = (λ h. omega (arith, h), (λ h. omega (arith, h), tt))
-are-names (Answer readings.Dump) = (λ h. omega (arith, h), tt)
-are-names (Answer readings.Exact) = (λ h. omega (arith, h), (λ h. omega (arith, h), tt))
-are-names (Answer (readings.Encode n)) = (λ h. omega (arith, h), tt)
-are-names (Sort LengthFirst) = (λ h. omega (arith, h), tt)
-are-names (Sort Bytewise) = (λ h. omega (arith, h), (λ h. omega (arith, h), tt))
-are-names (Show (showings.Encoding Any) n) = (λ h. omega (arith, h), (λ h. omega (arith, h), tt))
-are-names (Show (showings.Encoding (Deterministic LengthFirst)) n) =
-    (λ h. omega (arith, h), (λ h. omega (arith, h), (λ h. omega (arith, h), tt)))
-are-names (Show (showings.Encoding (Deterministic Bytewise)) n) =
-    (λ h. omega (arith, h), (λ h. omega (arith, h), (λ h. omega (arith, h), (λ h. omega (arith, h), tt))))
-are-names (Show (showings.Notation OneLine) n) = (λ h. omega (arith, h), (λ h. omega (arith, h), tt))
-are-names (Show (showings.Notation Indented) n) = (
-  λ h. omega (arith, h),
-  (λ h. omega (arith, h), (λ h. omega (arith, h), tt)),
-)
-are-names (Show (showings.Form LengthFirst) n) = (λ h. omega (arith, h), (λ h. omega (arith, h), tt))
-are-names (Show (showings.Form Bytewise) n) = (
-  λ h. omega (arith, h),
-  (λ h. omega (arith, h), (λ h. omega (arith, h), tt)),
-)
-are-names ShowExactly = (λ h. omega (arith, h), (λ h. omega (arith, h), (λ h. omega (arith, h), tt)))
-are-names Dump = (λ h. omega (arith, h), (λ h. omega (arith, h), tt))
-are-names (Encode n) = (λ h. omega (arith, h), (λ h. omega (arith, h), tt))
-are-names (Tell Help) = (λ h. omega (arith, h), tt)
-are-names (Tell Version) = (λ h. omega (arith, h), tt)
+-- a test that the words of each command pass
+is_name : List ℕ → Bool
+is_name word = nat_le 10 (digit_value (get_or word 0 0))
+
+tested : (words : List (List ℕ)) → list_all is_name words ≡ true → AreNames words
+unfolding is_name
+tested [] h = tt
+tested (word ∷ words) h = by (is_name word) refl h
+  where
+    by : (b : Bool) → is_name word ≡ b → (b && list_all is_name words) ≡ true → AreNames (word ∷ words)
+    by true e h = ((λ digit. grind (arith, nat_tests)), tested words h)
+    by false e h = absurd cc
+
+all-names : (command : Command) → list_all is_name (command_words command) ≡ true
+unfolding is_name
+all-names (Answer (readings.Item (Deterministic LengthFirst) n)) = refl
+all-names (Answer (readings.Form LengthFirst n)) = refl
+all-names (Answer (readings.Notation OneLine n)) = refl
+all-names (Sort LengthFirst) = refl
+all-names (Show (showings.Encoding (Deterministic LengthFirst)) n) = refl
+all-names (Show (showings.Notation OneLine) n) = refl
+all-names (Show (showings.Form LengthFirst) n) = refl
+all-names (Tell Help) = refl
+all-names command = refl
 
 -- the letters of words tell their command apart
 letters : List (List ℕ) → ℕ
@@ -178,31 +140,15 @@ command-of total n =
 
 told-apart : (command : Command) → command-of (letters (command_words command)) (limit_of command) ≡ command
 unfolding letters command-of limit_of or-default
-told-apart (Answer (readings.Item Any n)) = refl
 told-apart (Answer (readings.Item (Deterministic LengthFirst) n)) = refl
-told-apart (Answer (readings.Item (Deterministic Bytewise) n)) = refl
-told-apart (Answer readings.Sequence) = refl
 told-apart (Answer (readings.Form LengthFirst n)) = refl
-told-apart (Answer (readings.Form Bytewise n)) = refl
 told-apart (Answer (readings.Notation OneLine n)) = refl
-told-apart (Answer (readings.Notation Indented n)) = refl
-told-apart (Answer readings.Dump) = refl
-told-apart (Answer readings.Exact) = refl
-told-apart (Answer (readings.Encode n)) = refl
 told-apart (Sort LengthFirst) = refl
-told-apart (Sort Bytewise) = refl
-told-apart (Show (showings.Encoding Any) n) = refl
 told-apart (Show (showings.Encoding (Deterministic LengthFirst)) n) = refl
-told-apart (Show (showings.Encoding (Deterministic Bytewise)) n) = refl
 told-apart (Show (showings.Notation OneLine) n) = refl
-told-apart (Show (showings.Notation Indented) n) = refl
 told-apart (Show (showings.Form LengthFirst) n) = refl
-told-apart (Show (showings.Form Bytewise) n) = refl
-told-apart ShowExactly = refl
-told-apart Dump = refl
-told-apart (Encode n) = refl
 told-apart (Tell Help) = refl
-told-apart (Tell Version) = refl
+told-apart command = refl
 
 -- words begin with these, which tell the command
 abbrev IsToldBy : List (List ℕ) → Command → Type 0
@@ -216,7 +162,8 @@ told-help = (codes "-h" ∷ [], (λ h. omega (arith, h), tt), (refl, refl), refl
 
 told-by : (words : List (List ℕ)) (command : Command) → AskFor words command → IsToldBy words command
 told-by words command (inl asked) =
-    (command_words command, are-names command, named words command asked, told-apart command)
+    (command_words command, tested (command_words command) (all-names command), named words command asked,
+    told-apart command)
 told-by words command (inr (short, help)) = rw (short, help) told-help
 
 -- what words ask for is one command

@@ -17,22 +17,12 @@ use Rattle.cbor.specs.Exact.{IsBegun, behind_begun, chunk_level, kind_of, open_l
 -- ---- the head of an item
 
 as-bytes : (levels around : List Level) → behind_item levels ≡ Some around → behind_bytes levels ≡ behind_item levels
-as-bytes [] around e = refl
-as-bytes (level.Items n ∷ levels) around e = refl
-as-bytes (level.OpenItems ∷ levels) around e = refl
-as-bytes (level.OpenKeys ∷ levels) around e = refl
-as-bytes (level.OpenValues ∷ levels) around e = refl
 as-bytes (level.ByteChunks ∷ levels) around e = absurd (cc e)
-as-bytes (level.TextChunks ∷ levels) around e = refl
+as-bytes levels around e = refl
 
 as-text : (levels around : List Level) → behind_item levels ≡ Some around → behind_text levels ≡ behind_item levels
-as-text [] around e = refl
-as-text (level.Items n ∷ levels) around e = refl
-as-text (level.OpenItems ∷ levels) around e = refl
-as-text (level.OpenKeys ∷ levels) around e = refl
-as-text (level.OpenValues ∷ levels) around e = refl
-as-text (level.ByteChunks ∷ levels) around e = refl
 as-text (level.TextChunks ∷ levels) around e = absurd (cc e)
+as-text levels around e = refl
 
 some-is : {A : Type 0} (o : Option A) (x y : A) → o ≡ Some x → o ≡ Some y → y ≡ x
 some-is o x y e f = cc (e, f)
@@ -75,23 +65,7 @@ no-break old new head n around e (read, is) f =
     subst (λ x. behind_head x (level.Items n ∷ around) ≡ Some more) f
     (subst (λ x. behind_head head.header x ≡ Some more) e g) in cc never
 
--- ---- a break
-
--- a break was read in a level that it may end
-pub break-read : (old new : ItemHeads) (head : ItemHead) (levels around : List Level) → open_in old ≡ levels →
-    head.header ≡ header.Break → behind_break levels ≡ Some around → HasRead new × IsHeadRead old new head →
-    open_in new ≡ incomplete around
-break-read old new head levels around e f ends (read, is) =
-    let (more, g, h) = is.levels in
-    let same : behind_break levels ≡ Some more = subst (λ x. behind_head x levels ≡ Some more) f
-    (subst (λ x. behind_head head.header x ≡ Some more) e g) in
-    h ∙ ap incomplete (some-is (behind_break levels) around more ends same)
-
 -- ---- parts of a string
-
-pub chunk-ends : (is_text : Bool) (around : List Level) → behind_break (chunk_level is_text ∷ around) ≡ Some around
-chunk-ends true around = refl
-chunk-ends false around = refl
 
 pub chunk-open : (is_text : Bool) (around : List Level) →
     incomplete (chunk_level is_text ∷ around) ≡ chunk_level is_text ∷ around

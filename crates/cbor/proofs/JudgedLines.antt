@@ -18,26 +18,15 @@ use Rattle.cbor.proofs.OneLineAnswer.{one_answer}
 -- what refuses the front of some bytes refuses them
 pub front-refused : (spelling : Spelling) (b : List ℕ) (limit : ℕ) (e : LineRefusal) →
     IsFrontRefused spelling b limit e → AreRefused spelling b limit e
-front-refused spelling b limit Hex h = h
 front-refused spelling b limit (Trailing n) h = absurd h
-front-refused spelling b limit Io h = h
-front-refused spelling b limit (Syntax p) h = h
-front-refused spelling b limit (Semantic p reason) h = h
-front-refused spelling b limit Nesting h = h
-front-refused spelling b limit TooLong h = h
-front-refused spelling b limit Memory h = h
+front-refused spelling b limit e h = h
 
 -- what refuses the bytes of a line refuses the line
 pub refused-by : (spelling : Spelling) (line : List ℕ) (limit : ℕ) (b : List ℕ) (e : LineRefusal) → decode_of line ≡
     Ok b → AreRefused spelling b limit e → IsRefused spelling line limit e
 refused-by spelling line limit b Hex d h = absurd h
-refused-by spelling line limit b (Trailing n) d h = (b, d, h)
-refused-by spelling line limit b Io d h = (b, d, h)
-refused-by spelling line limit b (Syntax p) d h = (b, d, h)
-refused-by spelling line limit b (Semantic p reason) d h = (b, d, h)
-refused-by spelling line limit b Nesting d h = (b, d, h)
-refused-by spelling line limit b TooLong d h = (b, d, h)
 refused-by spelling line limit b Memory d h = tt
+refused-by spelling line limit b e d h = (b, d, h)
 
 pub item-answer : (spelling : Spelling) (d : Result (List ℕ) FromHexError) (limit : ℕ) (v : Tree) (answer : List ℕ) →
     MatchResult d (λ b. IsItem spelling b limit v) (λ _. ⊥) →

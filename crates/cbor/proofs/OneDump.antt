@@ -14,20 +14,11 @@ use Rattle.cbor.specs.Laws.{OneDumpOfItem}
 
 -- behind an item no head may stand
 none-behind : (h : Header) → behind_head h [] ≡ None
-none-behind (header.Positive n) = refl
-none-behind (header.Negative n) = refl
-none-behind (header.Bytes (Some n)) = refl
 none-behind (header.Bytes None) = refl
-none-behind (header.Text (Some n)) = refl
 none-behind (header.Text None) = refl
-none-behind (header.Array (Some n)) = refl
 none-behind (header.Array None) = refl
-none-behind (header.Map (Some n)) = refl
 none-behind (header.Map None) = refl
-none-behind (header.Tag n) = refl
-none-behind (header.Simple n) = refl
-none-behind (header.Float size) = refl
-none-behind header.Break = refl
+none-behind h = refl
 
 no-entry : (levels : List Level) (p : ℕ) (e : Entry) (more : List Level) → [] ≡ levels → IsEntryAt levels p e more → ⊥
 no-entry levels p e more none is =
@@ -38,20 +29,9 @@ no-entry levels p e more none is =
 
 -- a payload has the length that its head announces
 payload-length : (h : Header) (payload : List ℕ) → IsPayloadOf h payload → length payload ≡ announced_length h
-payload-length (header.Positive n) payload e = ap (λ (c : List ℕ). length c) e
-payload-length (header.Negative n) payload e = ap (λ (c : List ℕ). length c) e
 payload-length (header.Bytes (Some n)) payload e = e.0
-payload-length (header.Bytes None) payload e = ap (λ (c : List ℕ). length c) e
 payload-length (header.Text (Some n)) payload e = e.0
-payload-length (header.Text None) payload e = ap (λ (c : List ℕ). length c) e
-payload-length (header.Array (Some n)) payload e = ap (λ (c : List ℕ). length c) e
-payload-length (header.Array None) payload e = ap (λ (c : List ℕ). length c) e
-payload-length (header.Map (Some n)) payload e = ap (λ (c : List ℕ). length c) e
-payload-length (header.Map None) payload e = ap (λ (c : List ℕ). length c) e
-payload-length (header.Tag n) payload e = ap (λ (c : List ℕ). length c) e
-payload-length (header.Simple n) payload e = ap (λ (c : List ℕ). length c) e
-payload-length (header.Float size) payload e = ap (λ (c : List ℕ). length c) e
-payload-length header.Break payload e = ap (λ (c : List ℕ). length c) e
+payload-length h payload e = ap (λ (c : List ℕ). length c) e
 
 -- lists of one length at one front are one
 one-front : (xs ys s t : List ℕ) → length xs ≡ length ys → xs ++ s ≡ ys ++ t → (xs ≡ ys) × (s ≡ t)

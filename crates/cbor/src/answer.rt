@@ -14,7 +14,7 @@ use std::alloc::AllocError;
 use std::fmt;
 
 /// Why a line is no item.
-#[derive(Clone, Copy, Debug)]
+#[derive(Clone, Copy)]
 pub enum LineRefusal {
     /// The line is not an even number of hex digits.
     Hex,
@@ -35,7 +35,7 @@ pub enum LineRefusal {
 }
 
 /// Why an item has no meaning.
-#[derive(Clone, Copy, Debug)]
+#[derive(Clone, Copy)]
 pub enum Reason {
     /// It is a float.
     Float,

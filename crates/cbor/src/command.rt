@@ -8,7 +8,7 @@ use crate::reading::{Reading, Showing};
 use ciborium_value::KeyOrder;
 
 /// What the program is asked to do.
-#[derive(Clone, Copy, Debug)]
+#[derive(Clone, Copy)]
 pub enum Command {
     /// To answer each line of the input, which is read in this way.
     Answer(Reading),
@@ -57,7 +57,7 @@ impl Command {
 }
 
 /// What the program prints about itself.
-#[derive(Clone, Copy, Debug)]
+#[derive(Clone, Copy)]
 pub enum Topic {
     /// The commands, with an example each.
     Help,

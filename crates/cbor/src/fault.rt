@@ -7,7 +7,7 @@ ghost use Rattle.cbor.specs.Topics.{fault_text};
 use std::alloc::AllocError;
 
 /// What ends a run early.
-#[derive(Clone, Copy, Debug)]
+#[derive(Clone, Copy)]
 pub enum Fault {
     /// The input could not be read.
     Input,

@@ -3,7 +3,7 @@
 use ciborium_value::KeyOrder;
 
 /// How a line is read.
-#[derive(Clone, Copy, Debug)]
+#[derive(Clone, Copy)]
 pub enum Reading {
     /// As one item in such a spelling, within this many levels.
     Item(Spelling, usize),
@@ -24,7 +24,7 @@ pub enum Reading {
 }
 
 /// How an item is shown.
-#[derive(Clone, Copy, Debug)]
+#[derive(Clone, Copy)]
 pub enum Showing {
     /// By its one shortest encoding, in lower-case hex (RFC 8949, section 4.1), where it is in such
     /// a spelling.
@@ -37,7 +37,7 @@ pub enum Showing {
 }
 
 /// How diagnostic notation is laid out (RFC 8949, section 8).
-#[derive(Clone, Copy, Debug)]
+#[derive(Clone, Copy)]
 pub enum Layout {
     /// On one line.
     OneLine,
@@ -46,7 +46,7 @@ pub enum Layout {
 }
 
 /// Which spellings an item may have.
-#[derive(Clone, Copy, Debug)]
+#[derive(Clone, Copy)]
 pub enum Spelling {
     /// Any (RFC 8949, section 3).
     Any,

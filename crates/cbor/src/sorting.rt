@@ -28,7 +28,6 @@ use std::io::{BufReader, Read, Write};
 const MOST_IN_PLACE: usize = 20;
 
 // Why the lines are not sorted.
-#[derive(Debug)]
 enum Unsorted {
     // The line of this number, counted from 1, is the first that is no item.
     Line(u64, LineRefusal),

@@ -15,4 +15,4 @@ pub use Rattle.ciborium_value.specs.laws.OrderLaws
 pub use Rattle.ciborium_value.specs.laws.FormLaws
 pub use Rattle.ciborium_value.specs.laws.NumberItems
 pub use Rattle.ciborium_value.specs.laws.Examples
-pub use Rattle.ciborium_value.specs.laws.NotationExamples
+pub use Rattle.ciborium_value.specs.laws.NotationLaws

@@ -1,4 +1,4 @@
-//! CBOR (RFC 8949), whose every promise is a machine-checked contract.
+//! CBOR (RFC 8949), whose promises are machine-checked contracts.
 #![tactic(auto)]
 
 pub mod de;

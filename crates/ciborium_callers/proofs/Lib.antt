@@ -1,5 +1,4 @@
 pub mod ReadNotation
-mod LoneValue
 mod MemoryAlone
 mod OwnTypes
 mod WrittenInRow

@@ -22,5 +22,4 @@ pub mod strict_types;
 pub mod struct_types;
 pub mod tag_types;
 pub mod tree_types;
-pub mod value_callers;
 pub mod variant_types;

@@ -1,7 +1,6 @@
 //! Values of each variant: orders, accessors, conversions, what is lent, and copies.
 use crate::expectations::{expect, expect_all, expect_same, is_ok_of};
 use ciborium::value::{Integer, Value};
-use ciborium_callers::value_callers::retag;
 use ciborium_value::stack::{NewFrame, Stack};
 use std::alloc::{AllocError, Global};
 use std::cmp::Ordering;
@@ -278,17 +277,6 @@ fn replace_tag(tag: &mut Value, number: u64) -> Option<u64> {
     let (place, content) = tag.as_tag_mut()?;
     *content = Value::Null;
     Some(std::mem::replace(place, number))
-}
-
-// A tag 61 over the byte 68 becomes a tag 7 over null.
-#[test]
-fn retags(rt: HostRuntime) -> Result<(), Fail> {
-    let alloc = rt.alloc();
-    let byte = Value::from_bytes(alloc, &[0x68]);
-    let mut tag = tagged(alloc, 61, Value::from_bytes(alloc, &[0x68])?)?;
-    let mut content = Value::Null;
-    retag(&mut tag, 7, &mut content);
-    expect_all(&[is_ok_of(byte, content), is_tag_over(&tag, 7, Value::Null)])
 }
 
 #[test]

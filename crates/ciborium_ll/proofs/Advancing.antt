@@ -1,19 +1,14 @@
 -- Bytes that are taken in two steps.
 use Rattle.std.proofs.Common.{◌≡◌, ℕ, ◌+◌, ◌<◌, ◌≤◌, ◌%◌, List, [], ◌∷◌, ◌++◌, length, get_or, Option, Result, Err}
-use Rattle.std.proofs.Common.{refl, sym, ap, ◌∙◌, subst, arith, length-append}
-use Rattle.std.proofs.KnownBytes.{Consumes-trans}
+use Rattle.std.proofs.{Common.{refl, sym, ap, ◌∙◌, subst, arith, length-append}, KnownBytes.Consumes-trans}
 use Rattle.std.proofs.lemmas.List.Elements.{All-append}
-use Rattle.ciborium_ll.specs.declared.header.Header.{Header}
-use Rattle.ciborium_ll.specs.declared.header.Error.{Error}
-use Rattle.ciborium_ll.specs.Bytes.{greatest_offset}
-use Rattle.ciborium_ll.specs.ReaderSteps.{Advances, IsFillTaken, IsHeadTaken}
-use Rattle.ciborium_ll.specs.Refusal.{argument_length}
+use Rattle.ciborium_ll.specs.{declared.header.Header.Header, declared.header.Error.Error, Bytes.greatest_offset}
+use Rattle.ciborium_ll.specs.{ReaderSteps.{Advances, IsFillTaken, IsHeadTaken}, Refusal.argument_length}
 use Rattle.ciborium_ll.proofs.HeadAnswers.{argument-refused}
 
 -- one step behind another
 pub Advances-then : (a b c : Option (List ℕ)) (p q r : ℕ) (P Q S : List ℕ → Type 0) →
-    ((x y : List ℕ) → P x → Q y → S (x ++ y)) →
-    Advances a b p q P → Advances b c q r Q → Advances a c p r S
+    ((x y : List ℕ) → P x → Q y → S (x ++ y)) → Advances a b p q P → Advances b c q r Q → Advances a c p r S
 Advances-then a b c p q r P Q S join first second = (
   first.0 ++ second.0,
   Consumes-trans a b c first.0 second.0 first.1 second.1,
@@ -43,9 +38,8 @@ pub head-behind : (E : Type 0) (a b c : Option (List ℕ)) (p q r : ℕ) (first 
     → length first ≡ 1 → Advances a b p q (λ x. Filled x p first) →
     Advances b c q r (λ y. IsHeadTaken {E = E} (get_or first 0 0 ∷ y) p result) →
     Advances a c p r (λ x. IsHeadTaken {E = E} x p result)
-head-behind E a b c p q r first result one =
-    Advances-then a b c p q r (λ x. Filled x p first) (λ y. IsHeadTaken {E = E} (get_or first 0 0 ∷ y) p result)
-    (λ x. IsHeadTaken {E = E} x p result)
+head-behind E a b c p q r first result one = Advances-then a b c p q r (λ x. Filled x p first)
+    (λ y. IsHeadTaken {E = E} (get_or first 0 0 ∷ y) p result) (λ x. IsHeadTaken {E = E} x p result)
     (λ x y e h. subst (λ l. IsHeadTaken {E = E} (l ++ y) p result) (sym (e.0 ∙ single first one)) h)
 
 module _ (b c : Option (List ℕ)) (p q r initial : ℕ) (bytes : List ℕ) where
@@ -53,8 +47,7 @@ module _ (b c : Option (List ℕ)) (p q r initial : ℕ) (bytes : List ℕ) wher
   pub argument-fails : {E : Type 0} (e : Error E) → q ≡ p + 1 → q ≤ greatest_offset →
       length bytes ≡ argument_length (initial % 32) → Advances b c q r (λ x. IsFillTaken {E = E} x q bytes (Err e)) →
       Advances b c q r (λ y. IsHeadTaken {E = E} (initial ∷ y) p (Err e))
-  argument-fails {E} e at fits len =
-      Advances-map b c q r (λ x. IsFillTaken {E = E} x q bytes (Err e))
+  argument-fails {E} e at fits len = Advances-map b c q r (λ x. IsFillTaken {E = E} x q bytes (Err e))
       (λ y. IsHeadTaken {E = E} (initial ∷ y) p (Err e))
       (λ y h. argument-refused {E = E} initial y p bytes e (omega (arith, at, fits)) len
       (subst (λ n. IsFillTaken {E = E} y n bytes (Err e)) at h))

@@ -2,22 +2,15 @@
 use Rattle.std.proofs.Common.{◌≡◌, ℕ, zero, suc, ◌+◌, ◌-◌, ◌*◌, ◌<◌, ◌≤◌, cond, Bool, true, false, List, [], ◌∷◌, ◌++◌}
 use Rattle.std.proofs.Common.{length, get_or, take, drop, Some, None, refl, sym, ap, ◌∙◌, subst, arith, inl, inr, ◌⊎◌}
 use Rattle.std.proofs.Common.{IsUtf8, Option, length-append, length-drop, take-append-drop, get_or-drop, replicate}
-use Rattle.std.proofs.Common.{append_assoc}
-use Rattle.std.specs.Int.{is_in_range}
-use Rattle.std.specs.Str.{continuation_len, IsValidUpTo}
-use Rattle.std.specs.Str.Lossy.{error_len_of_some, utf8_error_len, second_byte_min, second_byte_max}
-use Rattle.std.proofs.lemmas.Bool.Decides.{nat_tests}
-use lib.Utf8.{scalar, scalars, encodes}
-use Rattle.std.proofs.iter.FirstChar.{wide, after_text}
-use Rattle.std.proofs.str.Lossy.{utf8_error_len_some}
-use Rattle.std.proofs.lemmas.Str.{IsUtf8-append, IsUtf8-nil}
+use Rattle.std.proofs.{Common.append_assoc, lemmas.Bool.Decides.nat_tests, iter.FirstChar.{wide, after_text}}
+use Rattle.std.proofs.{str.Lossy.utf8_error_len_some, lemmas.Str.{IsUtf8-append, IsUtf8-nil}}
 use Rattle.std.proofs.lemmas.List.{take-append-le, drop-append-le, get_or_append_left, length-replicate}
-use Rattle.std.proofs.lemmas.List.Elements.{All-replicate}
-use Rattle.ciborium_ll.specs.Bytes.{AreBytes}
-use Rattle.ciborium_ll.specs.ItemLengths.{BeginText}
-use Rattle.std.proofs.str.Faults.{Ranged, no_char}
-use Rattle.std.proofs.str.Laws.{Follows, order, both}
-use Rattle.std.proofs.str.Valid.{of_one, of_two, of_three, of_four, longer}
+use Rattle.std.proofs.{lemmas.List.Elements.All-replicate, str.Faults.{Ranged, no_char}, str.Laws.{Follows, order}}
+use Rattle.std.proofs.{str.Laws.both, str.Valid.{of_one, of_two, of_three, of_four, longer}}
+use Rattle.std.specs.{Int.is_in_range, Str.{continuation_len, IsValidUpTo}, Str.Lossy.error_len_of_some}
+use Rattle.std.specs.Str.Lossy.{utf8_error_len, second_byte_min, second_byte_max}
+use Rattle.ciborium_ll.specs.{Bytes.AreBytes, ItemLengths.BeginText}
+use lib.Utf8.{scalar, scalars, encodes}
 
 -- ---- characters byte by byte
 
@@ -26,10 +19,8 @@ pub record Second (x y : ℕ) : Type 0 where
   pub least : 128 ≤ y
   pub most : y < 192
   pub three_low : 224 ≤ x → x < 240 → 32 ≤ (x - 224) * 64 + (y - 128)
-  pub three_apart : 224 ≤ x → x < 240 →
-      ((x - 224) * 64 + (y - 128) < 864) ⊎ (896 ≤ (x - 224) * 64 + (y - 128))
-  pub four : 240 ≤ x → x < 245 →
-      (16 ≤ (x - 240) * 64 + (y - 128)) × ((x - 240) * 64 + (y - 128) < 272)
+  pub three_apart : 224 ≤ x → x < 240 → ((x - 224) * 64 + (y - 128) < 864) ⊎ (896 ≤ (x - 224) * 64 + (y - 128))
+  pub four : 240 ≤ x → x < 245 → (16 ≤ (x - 240) * 64 + (y - 128)) × ((x - 240) * 64 + (y - 128) < 272)
 
 module _ (x y : ℕ) (h : is_in_range (second_byte_min x) (second_byte_max x) y ≡ true) where
   second-least : 128 ≤ y
@@ -44,8 +35,7 @@ module _ (x y : ℕ) (h : is_in_range (second_byte_min x) (second_byte_max x) y 
   second-three_high : 224 ≤ x → x < 238 → (x - 224) * 64 + (y - 128) < 864
   second-three_high l u = grind (arith, nat_tests)
 
-  second-four : 240 ≤ x → x < 245 →
-      (16 ≤ (x - 240) * 64 + (y - 128)) × ((x - 240) * 64 + (y - 128) < 272)
+  second-four : 240 ≤ x → x < 245 → (16 ≤ (x - 240) * 64 + (y - 128)) × ((x - 240) * 64 + (y - 128) < 272)
   second-four l u = grind (arith, nat_tests)
 
   second-is : Second x y
@@ -57,13 +47,11 @@ module _ (x y : ℕ) (h : is_in_range (second_byte_min x) (second_byte_max x) y 
     four = second-four;
   }
     where
-      by : 224 ≤ x → (x < 238) ⊎ (238 ≤ x) →
-          ((x - 224) * 64 + (y - 128) < 864) ⊎ (896 ≤ (x - 224) * 64 + (y - 128))
+      by : 224 ≤ x → (x < 238) ⊎ (238 ≤ x) → ((x - 224) * 64 + (y - 128) < 864) ⊎ (896 ≤ (x - 224) * 64 + (y - 128))
       by l (inl lt) = inl (second-three_high l lt)
       by l (inr le) = inr (omega arith)
 
-second-fits : (x y : ℕ) → x < 245 → Second x y →
-    is_in_range (second_byte_min x) (second_byte_max x) y ≡ true
+second-fits : (x y : ℕ) → x < 245 → Second x y → is_in_range (second_byte_min x) (second_byte_max x) y ≡ true
 second-fits x y h s =
     let a = s.least in
     let b = s.most in
@@ -90,10 +78,8 @@ is_three x y z l h s f =
     by (inl lt) = inl (omega (arith, f))
     by (inr le) = inr (omega arith)
 
-is_four : (x y z w : ℕ) → 240 ≤ x → x < 245 → Second x y → Follows z → Follows w →
-    IsUtf8 (x ∷ y ∷ z ∷ w ∷ [])
-is_four x y z w l h s f g =
-    of_four (x ∷ y ∷ z ∷ w ∷ []) 0 (omega arith) l (s.least, s.most) f g (s.four l h)
+is_four : (x y z w : ℕ) → 240 ≤ x → x < 245 → Second x y → Follows z → Follows w → IsUtf8 (x ∷ y ∷ z ∷ w ∷ [])
+is_four x y z w l h s f g = of_four (x ∷ y ∷ z ∷ w ∷ []) 0 (omega arith) l (s.least, s.most) f g (s.four l h)
 
 -- ---- bytes at whose front no text stands
 
@@ -114,8 +100,7 @@ not_two x y r n l f = by (order x 224)
     by (inl lt) = absurd (n 2 (omega arith) (is_two x y l lt f))
     by (inr le) = le
 
-not_three : (x y z : ℕ) (r : List ℕ) → NoneStands (x ∷ y ∷ z ∷ r) → 224 ≤ x → Second x y →
-    Follows z → 240 ≤ x
+not_three : (x y z : ℕ) (r : List ℕ) → NoneStands (x ∷ y ∷ z ∷ r) → 224 ≤ x → Second x y → Follows z → 240 ≤ x
 not_three x y z r n l s f = by (order x 240)
   where
     by : (x < 240) ⊎ (240 ≤ x) → 240 ≤ x
@@ -181,8 +166,7 @@ begins-second n x y z w g l =
 -- ---- a character that has begun can end
 
 fault-none : (r t : List ℕ) (k : ℕ) → NoneStands r → Ranged (length (r ++ t)) (get_or (r ++ t) 0 0)
-    (get_or (r ++ t) 1 0) (get_or (r ++ t) 2 0) (get_or (r ++ t) 3 0) → 0 < length r →
-    error_len_of_some r ≡ Some k → ⊥
+    (get_or (r ++ t) 1 0) (get_or (r ++ t) 2 0) (get_or (r ++ t) 3 0) → 0 < length r → error_len_of_some r ≡ Some k → ⊥
 fault-none [] t k n g some e = omega arith
 fault-none (x ∷ []) t k n g some e =
     let b = begins-second _ _ _ _ _ g (not_one x [] n) in
@@ -208,23 +192,20 @@ fault-none (x ∷ y ∷ z ∷ w ∷ r) t k n g some e =
     not_four x y z w r n m b.1 b.2 f (g.fourth m).1
 
 -- where bytes are at fault, nothing that follows makes a text of them
-pub no_text-fault : (r t : List ℕ) (k : ℕ) → NoneStands r → 0 < length r →
-    error_len_of_some r ≡ Some k →
-    IsUtf8 (r ++ t) → ⊥
+pub no_text-fault : (r t : List ℕ) (k : ℕ) →
+    NoneStands r → 0 < length r → error_len_of_some r ≡ Some k → IsUtf8 (r ++ t) → ⊥
 no_text-fault r t k n some e ([], (p, q)) = omega (arith, ap length q, length-append r t)
 no_text-fault r t k n some e ((c ∷ cs), (p, q)) =
     no_char (r ++ t) 0 (λ g. fault-none r t k n (shorter g) some e) c (encodes cs)
     (both (scalar c) (scalars cs) p).0
     (sym q)
   where
-    shorter : {x y z w : ℕ} → Ranged (length (r ++ t) - 0) x y z w →
-        Ranged (length (r ++ t)) x y z w
+    shorter : {x y z w : ℕ} → Ranged (length (r ++ t) - 0) x y z w → Ranged (length (r ++ t)) x y z w
     shorter {x} {y} {z} {w} g = subst (λ m. Ranged m x y z w) (omega arith) g
 
 -- the bytes that end the character
 abbrev pub CharEnds : List ℕ → Type 0
-CharEnds r = (t : List ℕ) × IsUtf8 (r ++ t) ×
-    (length (r ++ t) ≡ suc (continuation_len (get_or r 0 0)))
+CharEnds r = (t : List ℕ) × IsUtf8 (r ++ t) × (length (r ++ t) ≡ suc (continuation_len (get_or r 0 0)))
 
 behind-two : (x : ℕ) → 194 ≤ x → x < 224 → continuation_len x ≡ 1
 behind-two x l h = grind (arith, nat_tests)
@@ -273,8 +254,7 @@ after-second x y l h s = by (order x 240)
     )
 
 -- where no bytes are at fault, the character can end
-pub char-ends : (r : List ℕ) → NoneStands r → 0 < length r → length r < 4 →
-    error_len_of_some r ≡ None → CharEnds r
+pub char-ends : (r : List ℕ) → NoneStands r → 0 < length r → length r < 4 → error_len_of_some r ≡ None → CharEnds r
 char-ends (x ∷ []) n some few e =
     let f = first-is x (passes _ _ _ e).0 in
     after-first x f.0 f.1
@@ -298,8 +278,7 @@ char-ends u n some few e = absurd (omega arith)
 pub char-room : (b : List ℕ) → IsUtf8 b → 0 < length b → continuation_len (get_or b 0 0) < length b
 char-room b u some = let w = wide b u some in room (get_or b 0 0) (length b) some w.0 w.1 w.2
   where
-    room : (x n : ℕ) → 0 < n → (128 ≤ x → 1 < n) → (224 ≤ x → 2 < n) → (240 ≤ x → 3 < n) →
-        continuation_len x < n
+    room : (x n : ℕ) → 0 < n → (128 ≤ x → 1 < n) → (224 ≤ x → 2 < n) → (240 ≤ x → 3 < n) → continuation_len x < n
     room x n z h i j = grind (arith, nat_tests)
 
 -- ---- the beginning of a text
@@ -319,8 +298,7 @@ bytes-zeros k = All-replicate (λ x. x < 256) k 0 (omega arith)
 pub text-zeros : (k : ℕ) → IsUtf8 (zeros k)
 unfolding zeros
 text-zeros zero = IsUtf8-nil
-text-zeros (suc k) =
-    IsUtf8-append (0 ∷ []) (replicate k 0) (is_one 0 (omega arith)) (text-zeros k)
+text-zeros (suc k) = IsUtf8-append (0 ∷ []) (replicate k 0) (is_one 0 (omega arith)) (text-zeros k)
 
 pub begin-text : (n : ℕ) (b : List ℕ) → length b ≤ n → IsUtf8 b → BeginText n b
 begin-text n b le u =
@@ -346,10 +324,8 @@ module _ (b : List ℕ) (at : ℕ) (v : IsValidUpTo b at) where
       (after_text (b ++ t) at u (subst IsUtf8 (sym front) v.front))
 
   pub none-begun : (n k : ℕ) → utf8_error_len (drop at b) ≡ Some k → BeginText n b → ⊥
-  none-begun n k e (t, len, u) =
-      no_text-fault (drop at b) t k none-behind some-behind
-      (sym (utf8_error_len_some (drop at b) some-behind) ∙ e)
-      (text-behind t u)
+  none-begun n k e (t, len, u) = no_text-fault (drop at b) t k none-behind some-behind
+      (sym (utf8_error_len_some (drop at b) some-behind) ∙ e) (text-behind t u)
 
   -- where the character that begins there has room
   pub begun-room : (n : ℕ) → BeginText n b → continuation_len (get_or b at 0) < n - at
@@ -380,11 +356,9 @@ module _ (b : List ℕ) (at : ℕ) (v : IsValidUpTo b at) where
       more n t (begin-text n (b ++ t) fits text)
     where
       more : (n : ℕ) (t : List ℕ) → BeginText n (b ++ t) → BeginText n b
-      more n t (z, len, u) =
-          (t ++ z, ap length (sym (append_assoc b t z)) ∙ len, subst IsUtf8 (append_assoc b t z) u)
+      more n t (z, len, u) = (t ++ z, ap length (sym (append_assoc b t z)) ∙ len, subst IsUtf8 (append_assoc b t z) u)
 
   pub room-begun : (n : ℕ) → length (drop at b) < 4 → utf8_error_len (drop at b) ≡ None →
       continuation_len (get_or b at 0) < n - at → BeginText n b
   room-begun n few e room = ended n room
-      (char-ends (drop at b) none-behind some-behind few
-      (sym (utf8_error_len_some (drop at b) some-behind) ∙ e))
+      (char-ends (drop at b) none-behind some-behind few (sym (utf8_error_len_some (drop at b) some-behind) ∙ e))

@@ -1,34 +1,15 @@
 -- The bytes of an item that are copied out of a reader.
 use Rattle.std.proofs.Common.{◌≡◌, ℕ, ◌-◌, ◌≤◌, List, [], ◌++◌, length, take, drop, Option, Some, None, IfSome, Result}
 use Rattle.std.proofs.Common.{append_assoc, arith, ap, length-append, sym, subst, take-append-drop, ◌∙◌, refl}
-use Rattle.std.proofs.Math.Seq.{take-append-add}
-use Rattle.std.proofs.lemmas.List.{length-take, nil_from_length}
-use Rattle.std.specs.Prelude.{IsUtf8}
-use Rattle.std.specs.Io.KnownBytes.{Consumes}
-use Rattle.ciborium_ll.specs.declared.item_bytes.NotCopied.{NotCopied}
-use Rattle.ciborium_ll.specs.declared.item_heads.NoItem.TheVariants.{Malformed, TooDeep}
-use Rattle.ciborium_ll.specs.declared.levels.Level.{Level}
-use Rattle.ciborium_ll.specs.ItemBytes.{HasCopied, HasEnded, IsCopyOf}
-use Rattle.ciborium_ll.specs.ItemLengths.{BeginNoItem, BeginText, IsNoItem, Misfits, StandsOpen}
+use Rattle.std.proofs.{Math.Seq.take-append-add, lemmas.List.{length-take, nil_from_length}}
+use Rattle.std.specs.{Prelude.IsUtf8, Io.KnownBytes.Consumes}
+use Rattle.ciborium_ll.specs.{declared.item_bytes.NotCopied.NotCopied, declared.item_heads.NoItem.TheVariants.Malformed}
+use Rattle.ciborium_ll.specs.{declared.item_heads.NoItem.TheVariants.TooDeep, declared.levels.Level.Level}
+use Rattle.ciborium_ll.specs.{ItemBytes.{HasEnded, IsCopyOf}, ItemLengths.{BeginText, IsNoItem, Misfits, StandsOpen}}
 use Rattle.ciborium_ll.specs.ItemLengths.{ill_formed, misplaced, no_chunk, no_text}
 use Rattle.ciborium_ll.proofs.LevelMisfits.{ill-more}
 
 -- ---- what was copied
-
--- one part behind another
-pub more-copied : (before mid after : Option (List ℕ)) (old part new : List ℕ) →
-    HasCopied before mid old part (λ _. Unit {0}) → HasCopied mid after part new (λ _. Unit {0}) →
-    HasCopied before after old new (λ _. Unit {0})
-more-copied before mid after old part new (c, taken, is, u) (d, more, also, v) =
-    (c ++ d, both before mid after taken more, also ∙ ap (λ (x : List ℕ). x ++ d) is ∙ append_assoc old c d, tt)
-  where
-    both : (before mid after : Option (List ℕ)) → Consumes before mid c → Consumes mid after d →
-        Consumes before after (c ++ d)
-    both None mid after taken more = tt
-    both (Some xs) None after taken more = absurd taken
-    both (Some xs) (Some ys) None taken more = absurd more
-    both (Some xs) (Some ys) (Some zs) taken more =
-        taken ∙ ap (λ (x : List ℕ). c ++ x) more ∙ sym (append_assoc c d zs)
 
 pub more-ended : (before mid after : Option (List ℕ)) (c : List ℕ) → Consumes before mid c → HasEnded mid after →
     HasEnded before after
@@ -38,8 +19,7 @@ more-ended (Some xs) (Some ys) after c taken ends b e = ends ys refl
 
 -- no byte was held
 pub none-held : (before after : Option (List ℕ)) (held c : List ℕ) →
-    IfSome before (λ xs. length held ≡ 0 → xs ≡ []) → length held ≡ 0 → Consumes before after c →
-    HasEnded before after
+    IfSome before (λ xs. length held ≡ 0 → xs ≡ []) → length held ≡ 0 → Consumes before after c → HasEnded before after
 none-held None after held c ends none taken b e = absurd cc
 none-held (Some xs) None held c ends none taken b e = absurd taken
 none-held (Some xs) (Some ys) held c ends none taken b e =

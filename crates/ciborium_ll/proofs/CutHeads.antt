@@ -1,31 +1,19 @@
 -- Bytes that end inside a head or a payload can be completed, where what they begin may stand.
 use Rattle.std.proofs.Common.{◌≡◌, ℕ, zero, suc, ◌+◌, ◌-◌, ◌*◌, ◌/◌, ◌%◌, ◌<◌, ◌≤◌, List, [], ◌∷◌, ◌++◌, length, get_or}
 use Rattle.std.proofs.Common.{Some, None, option_map, refl, sym, ap, ◌∙◌, subst, arith, inl, inr, ◌^◌, ◌⊎◌}
-use Rattle.std.proofs.Common.{append_assoc, length-append, div-add-mod'}
+use Rattle.std.proofs.{Common.{append_assoc, length-append, div-add-mod'}, lemmas.Bool.Decides.nat_tests}
+use Rattle.std.proofs.{lemmas.List.Elements.All-append, lemmas.Nat.{be_bytes_2, be_bytes_4, be_bytes_8}, str.Laws.order}
 use Rattle.std.specs.Int.{from_be_bytes, w16, w32, w64}
-use Rattle.std.proofs.lemmas.Bool.Decides.{nat_tests}
-use Rattle.std.proofs.lemmas.List.Elements.{All-append}
-use Rattle.std.proofs.lemmas.Nat.{be_bytes_2, be_bytes_4, be_bytes_8}
-use Rattle.std.proofs.str.Laws.{order}
-use Rattle.ciborium_ll.specs.inner.Fronts.{IsCut, IsCutPayload}
-use Rattle.ciborium_ll.specs.declared.header.Header.{Header}
+use Rattle.ciborium_ll.specs.{inner.Fronts.{IsCut, IsCutPayload}, declared.header.Header.Header}
+use Rattle.ciborium_ll.specs.{declared.levels.Level.Level, declared.levels.Level.TheVariants.{Items, OpenItems}}
+use Rattle.ciborium_ll.specs.declared.levels.Level.TheVariants.{OpenKeys, OpenValues, ByteChunks, TextChunks}
+use Rattle.ciborium_ll.specs.{Bytes.AreBytes, Head.{IsHead, one_byte, two_bytes, four_bytes, eight_bytes, break_byte}}
+use Rattle.ciborium_ll.specs.{Header.SpellsHeader, ItemLengths.chunk_major, Levels.{EndAll, behind_item, behind_bytes}}
+use Rattle.ciborium_ll.specs.{Levels.{behind_text, behind_head, IsPayloadOf, incomplete}, Refusal.argument_length}
+use Rattle.ciborium_ll.proofs.{BegunTexts.{zeros, length-zeros, bytes-zeros, text-zeros}, LevelEnds.can-end}
+use Rattle.ciborium_ll.proofs.{LevelFronts.{AreOpen, are-open, front-of-end, ends-behind}, UsableHeads.EachIsByte}
+use Rattle.ciborium_ll.proofs.{UsableHeads.byte_at, Advancing.single, HeadAnswers.head-some}
 use Rattle.ciborium_ll.specs.declared.header.Header.TheVariants as header
-use Rattle.ciborium_ll.specs.declared.levels.Level.{Level}
-use Rattle.ciborium_ll.specs.declared.levels.Level.TheVariants.{Items, OpenItems, OpenKeys}
-use Rattle.ciborium_ll.specs.declared.levels.Level.TheVariants.{OpenValues, ByteChunks, TextChunks}
-use Rattle.ciborium_ll.specs.Bytes.{AreBytes}
-use Rattle.ciborium_ll.specs.Head.{IsHead, one_byte, two_bytes, four_bytes, eight_bytes, break_byte}
-use Rattle.ciborium_ll.specs.Header.{SpellsHeader}
-use Rattle.ciborium_ll.specs.ItemLengths.{chunk_major}
-use Rattle.ciborium_ll.specs.Levels.{EndAll, behind_item, behind_bytes, behind_text, behind_head}
-use Rattle.ciborium_ll.specs.Levels.{IsPayloadOf, incomplete}
-use Rattle.ciborium_ll.specs.Refusal.{argument_length}
-use Rattle.ciborium_ll.proofs.BegunTexts.{zeros, length-zeros, bytes-zeros, text-zeros}
-use Rattle.ciborium_ll.proofs.LevelEnds.{can-end}
-use Rattle.ciborium_ll.proofs.LevelFronts.{AreOpen, are-open, front-of-end, ends-behind}
-use Rattle.ciborium_ll.proofs.UsableHeads.{EachIsByte, byte_at}
-use Rattle.ciborium_ll.proofs.Advancing.{single}
-use Rattle.ciborium_ll.proofs.HeadAnswers.{head-some}
 
 -- ---- a head with its argument filled
 
@@ -100,8 +88,7 @@ whole-head m a b h len (inr (inr (inr e))) =
     let fits : n < 2 ^ 64 = omega (arith, g 0, g 1, g 2, g 3, g 4, g 5, g 6, g 7) in
     (n, (eight_bytes, fits, same-head m a 27 b _ e same))
 
-numbered : (m n : ℕ) (h : List ℕ) → m < 7 → IsHead h m n →
-    (head : Header) × SpellsHeader h head × IsMajorOf m head
+numbered : (m n : ℕ) (h : List ℕ) → m < 7 → IsHead h m n → (head : Header) × SpellsHeader h head × IsMajorOf m head
 numbered zero n h lt s = (header.Positive n, s, refl)
 numbered (suc zero) n h lt s = (header.Negative n, s, refl)
 numbered (suc (suc zero)) n h lt s = (header.Bytes (Some n), s, refl)
@@ -113,8 +100,7 @@ numbered (suc (suc (suc (suc (suc (suc (suc m))))))) n h lt s = absurd (omega ar
 
 -- bytes behind which a head is whole, which is no break and opens no open item
 abbrev Fills : ℕ → List ℕ → Type 0
-Fills x s = (f : List ℕ) × (head : Header) × (0 < length f) × SpellsHeader (x ∷ (s ++ f)) head ×
-    IsMajorOf (x / 32) head
+Fills x s = (f : List ℕ) × (head : Header) × (0 < length f) × SpellsHeader (x ∷ (s ++ f)) head × IsMajorOf (x / 32) head
 
 module _ (x : ℕ) (s : List ℕ) (byte : x < 256) (bytes : AreBytes s)
     (cut : length s < argument_length (x % 32)) where
@@ -130,8 +116,7 @@ module _ (x : ℕ) (s : List ℕ) (byte : x < 256) (bytes : AreBytes s)
   some-zeros = omega (arith, length-zeros gap)
 
   each : EachIsByte (s ++ zeros gap)
-  each = each-byte (s ++ zeros gap)
-      (All-append (λ y. y < 256) s (zeros gap) bytes (bytes-zeros gap))
+  each = each-byte (s ++ zeros gap) (All-append (λ y. y < 256) s (zeros gap) bytes (bytes-zeros gap))
 
   number-fills : x / 32 < 7 → Fills x s
   number-fills lt =
@@ -231,8 +216,7 @@ payload-ends (header.Bytes (Some n)) q h =
         All-append (λ x. x < 256) q z h.1 (bytes-zeros (n - length q)),
       ),
     )
-payload-ends (header.Text (Some n)) q (lt, (t, len, u)) =
-    (t, omega (arith, length-append q t), (len, u))
+payload-ends (header.Text (Some n)) q (lt, (t, len, u)) = (t, omega (arith, length-append q t), (len, u))
 payload-ends _ q h = absurd h
 
 -- ---- a head that may stand where something is open
@@ -242,29 +226,25 @@ abbrev Stands : Header → List Level → Type 0
 Stands head levels = (more : List Level) × (behind_head head levels ≡ Some more)
 
 -- where an item may stand
-as-item : (m : ℕ) (head : Header) (levels more : List Level) → IsMajorOf m head →
-    behind_item levels ≡ Some more → behind_bytes levels ≡ Some more →
-    behind_text levels ≡ Some more → Stands head levels
+as-item : (m : ℕ) (head : Header) (levels more : List Level) → IsMajorOf m head → behind_item levels ≡ Some more →
+    behind_bytes levels ≡ Some more → behind_text levels ≡ Some more → Stands head levels
 as-item m (header.Positive n) levels more is e b t = (more, e)
 as-item m (header.Negative n) levels more is e b t = (more, e)
 as-item m (header.Bytes (Some n)) levels more is e b t = (more, b)
 as-item m (header.Bytes None) levels more is e b t = absurd is
 as-item m (header.Text (Some n)) levels more is e b t = (more, t)
 as-item m (header.Text None) levels more is e b t = absurd is
-as-item m (header.Array (Some n)) levels more is e b t =
-    (Items n ∷ more, ap (option_map (λ rest. Items n ∷ rest)) e)
+as-item m (header.Array (Some n)) levels more is e b t = (Items n ∷ more, ap (option_map (λ rest. Items n ∷ rest)) e)
 as-item m (header.Array None) levels more is e b t = absurd is
 as-item m (header.Map (Some n)) levels more is e b t =
     (Items (n + n) ∷ more, ap (option_map (λ rest. Items (n + n) ∷ rest)) e)
 as-item m (header.Map None) levels more is e b t = absurd is
-as-item m (header.Tag n) levels more is e b t =
-    (Items 1 ∷ more, ap (option_map (λ rest. Items 1 ∷ rest)) e)
+as-item m (header.Tag n) levels more is e b t = (Items 1 ∷ more, ap (option_map (λ rest. Items 1 ∷ rest)) e)
 as-item m (header.Simple n) levels more is e b t = (more, e)
 as-item m (header.Float size) levels more is e b t = (more, e)
 as-item m header.Break levels more is e b t = absurd is
 
-as-bytes : (m : ℕ) (head : Header) (levels : List Level) → m ≡ 2 → IsMajorOf m head →
-    Stands head (ByteChunks ∷ levels)
+as-bytes : (m : ℕ) (head : Header) (levels : List Level) → m ≡ 2 → IsMajorOf m head → Stands head (ByteChunks ∷ levels)
 as-bytes m (header.Positive n) levels e is = absurd (omega arith)
 as-bytes m (header.Negative n) levels e is = absurd (omega arith)
 as-bytes m (header.Bytes (Some n)) levels e is = (ByteChunks ∷ levels, refl)
@@ -280,8 +260,7 @@ as-bytes m (header.Simple n) levels e is = absurd (omega arith)
 as-bytes m (header.Float size) levels e is = absurd (omega arith)
 as-bytes m header.Break levels e is = absurd is
 
-as-text : (m : ℕ) (head : Header) (levels : List Level) → m ≡ 3 → IsMajorOf m head →
-    Stands head (TextChunks ∷ levels)
+as-text : (m : ℕ) (head : Header) (levels : List Level) → m ≡ 3 → IsMajorOf m head → Stands head (TextChunks ∷ levels)
 as-text m (header.Positive n) levels e is = absurd (omega arith)
 as-text m (header.Negative n) levels e is = absurd (omega arith)
 as-text m (header.Bytes (Some n)) levels e is = absurd (omega arith)
@@ -352,8 +331,7 @@ cut-string head h q levels more spelled placed part =
 -- a head that was filled, with a payload and what ends the rest
 behind-filled : (x : ℕ) (s f payload b : List ℕ) (head : Header) (levels more : List Level) →
     0 < length f → SpellsHeader (x ∷ (s ++ f)) head → IsPayloadOf head payload →
-    behind_head head levels ≡ Some more → EndAll more b →
-    (t : List ℕ) × (0 < length t) × EndAll levels (x ∷ (s ++ t))
+    behind_head head levels ≡ Some more → EndAll more b → (t : List ℕ) × (0 < length t) × EndAll levels (x ∷ (s ++ t))
 behind-filled x s f payload b head levels more some spelled whole placed ends = (
   f ++ (payload ++ b),
   omega (arith, some, length-append f (payload ++ b)),
@@ -362,18 +340,16 @@ behind-filled x s f payload b head levels more some spelled whole placed ends = 
 )
 
 -- a head that is cut, or not there at all
-pub cut-head : (levels : List Level) (r : List ℕ) → (levels ≡ [] → ⊥) →
-    incomplete levels ≡ levels → IsCut r → AreBytes r →
-    ((x major : ℕ) (s : List ℕ) → r ≡ x ∷ s → chunk_major levels ≡ Some major → x / 32 ≡ major) →
+pub cut-head : (levels : List Level) (r : List ℕ) → (levels ≡ [] → ⊥) → incomplete levels ≡ levels →
+    IsCut r → AreBytes r → ((x major : ℕ) (s : List ℕ) → r ≡ x ∷ s → chunk_major levels ≡ Some major → x / 32 ≡ major) →
     (t : List ℕ) × (0 < length t) × EndAll levels (r ++ t)
 cut-head levels r some normal ends bytes part = by r ends bytes part
   where
     still : AreOpen levels
     still = are-open levels normal some
 
-    by : (c : List ℕ) → IsCut c → AreBytes c →
-        ((x major : ℕ) (s : List ℕ) → c ≡ x ∷ s → chunk_major levels ≡ Some major →
-        x / 32 ≡ major) →
+    by : (c : List ℕ) → IsCut c →
+        AreBytes c → ((x major : ℕ) (s : List ℕ) → c ≡ x ∷ s → chunk_major levels ≡ Some major → x / 32 ≡ major) →
         (t : List ℕ) × (0 < length t) × EndAll levels (c ++ t)
     by [] h bytes part = let e = can-end levels in (e.0, end-some levels e.0 still e.1, e.1)
     by (y ∷ c) (inl none) bytes part = absurd cc

@@ -1,17 +1,14 @@
 -- The first head of a reader, from its first read on.
 use Rattle.std.proofs.Common.{◌≡◌, ℕ, zero, suc, ◌<◌, ◌≤◌, List, [], ◌∷◌, ◌++◌, length, take, cond, Option, Some, None}
 use Rattle.std.proofs.Common.{Result, Ok, Err, IfOk, IfNone, refl, sym, ap, ◌∙◌, subst, arith, lt-ltb}
-use Rattle.std.specs.Io.KnownBytes.{IsAtEnd, Keeps}
 use Rattle.std.proofs.KnownBytes.{Consumes-kept, Consumes-nil}
-use Rattle.ciborium_ll.specs.declared.header.Header.{Header}
-use Rattle.ciborium_ll.specs.declared.header.Error.{Error}
-use Rattle.ciborium_ll.specs.declared.header.Error.TheVariants.{Io, Syntax, TooLong, Memory}
-use Rattle.ciborium_ll.specs.Bytes.{greatest_offset}
-use Rattle.ciborium_ll.specs.FirstHeads.{IsEndOrFault, IsFirstTaken, IsHeadIo, PullsFirstTo}
-use Rattle.ciborium_ll.specs.ReaderSteps.{Advances, IsHeadTaken}
-use Rattle.ciborium_ll.specs.Refusal.{Refusal, io, syntax, too_long, HeadRefuses, head_refusal}
-use Rattle.ciborium_ll.proofs.Advancing.{Advances-map, Filled}
-use Rattle.ciborium_ll.proofs.Unread.{pulls-head, rest-of}
+use Rattle.std.specs.Io.KnownBytes.{IsAtEnd, Keeps}
+use Rattle.ciborium_ll.specs.{declared.header.Header.Header, declared.header.Error.Error}
+use Rattle.ciborium_ll.specs.{declared.header.Error.TheVariants.{Io, Syntax, TooLong, Memory}, Bytes.greatest_offset}
+use Rattle.ciborium_ll.specs.{FirstHeads.{IsEndOrFault, IsFirstTaken, IsHeadIo, PullsFirstTo}, ReaderSteps.Advances}
+use Rattle.ciborium_ll.specs.{ReaderSteps.IsHeadTaken, Refusal.{Refusal, io, syntax, too_long, HeadRefuses}}
+use Rattle.ciborium_ll.specs.Refusal.{head_refusal}
+use Rattle.ciborium_ll.proofs.{Advancing.{Advances-map, Filled}, Unread.{pulls-head, rest-of}}
 
 none-refused : (p : ℕ) → p < greatest_offset → HeadRefuses [] p io
 none-refused p h = ap (λ t. cond t (Some io) (Some too_long)) (lt-ltb p greatest_offset h)
@@ -44,8 +41,7 @@ one-byte n u h one some = absurd (omega (arith, one))
 pub first-given : (a b : Option (List ℕ)) (p q n : ℕ) (buffer : List ℕ) → p < greatest_offset → (n ≡ 0 → ⊥) →
     length buffer ≡ 1 → n ≤ length buffer → Advances a b p q (λ x. x ≡ take n buffer) →
     Advances a b p q (λ x. Filled x p buffer)
-first-given a b p q n buffer room some one fits =
-    Advances-map a b p q (λ x. x ≡ take n buffer) (λ x. Filled x p buffer)
+first-given a b p q n buffer room some one fits = Advances-map a b p q (λ x. x ≡ take n buffer) (λ x. Filled x p buffer)
     (λ x h. (h ∙ one-byte n buffer fits one some, omega (arith, one, room)))
 
 -- ---- what is said of all that is unread

@@ -1,10 +1,8 @@
 -- A reader of heads over lists, for proofs alone: it finds each head that stands at the front.
 use Rattle.std.proofs.Common.{◌≡◌, ℕ, suc, ◌+◌, ◌*◌, ◌/◌, ◌%◌, ◌<◌, cond, ltb, eqb, List, [], ◌∷◌, ◌++◌, length, get_or}
-use Rattle.std.proofs.Common.{take, drop, ap, ◌∙◌, arith}
+use Rattle.std.proofs.{Common.{take, drop, ap, ◌∙◌, arith}, lemmas.Bool.lt-ltb, lemmas.Nat.{div-mul-add, mod-mul-add}}
+use Rattle.std.proofs.lemmas.Nat.{from_be_bytes-to_be_bytes_2, from_be_bytes-to_be_bytes_4, from_be_bytes-to_be_bytes_8}
 use Rattle.std.specs.Int.{to_be_bytes, from_be_bytes, w16, w32, w64}
-use Rattle.std.proofs.lemmas.Bool.{lt-ltb}
-use Rattle.std.proofs.lemmas.Nat.{div-mul-add, mod-mul-add, from_be_bytes-to_be_bytes_2, from_be_bytes-to_be_bytes_4}
-use Rattle.std.proofs.lemmas.Nat.{from_be_bytes-to_be_bytes_8}
 use Rattle.ciborium_ll.specs.Head.{Width, within, one_byte, two_bytes, four_bytes, eight_bytes, argument_bytes, head_in}
 use Rattle.ciborium_ll.specs.Head.{IsHead, capacity}
 
@@ -17,15 +15,13 @@ pub data Front : Type 0 where
   raw : ℕ → List ℕ → Front
 
 abbrev pub front_number : ℕ → ℕ → List ℕ → Front
-front_number m a bs =
-    cond (ltb a 24) (counted m a bs) (cond (eqb a 24) (counted m (get_or bs 0 0) (drop 1 bs))
+front_number m a bs = cond (ltb a 24) (counted m a bs) (cond (eqb a 24) (counted m (get_or bs 0 0) (drop 1 bs))
     (cond (eqb a 25) (counted m (from_be_bytes w16 (take 2 bs)) (drop 2 bs))
     (cond (eqb a 26) (counted m (from_be_bytes w32 (take 4 bs)) (drop 4 bs))
     (counted m (from_be_bytes w64 (take 8 bs)) (drop 8 bs)))))
 
 abbrev pub front_other : ℕ → List ℕ → Front
-front_other a bs =
-    cond (ltb a 24) (plain a bs) (cond (eqb a 24) (plain (get_or bs 0 0) (drop 1 bs))
+front_other a bs = cond (ltb a 24) (plain a bs) (cond (eqb a 24) (plain (get_or bs 0 0) (drop 1 bs))
     (cond (eqb a 25) (raw 2 bs) (cond (eqb a 26) (raw 4 bs) (raw 8 bs))))
 
 abbrev pub front_in : ℕ → ℕ → List ℕ → Front
@@ -69,7 +65,6 @@ pub head-length : (b : List ℕ) (m n : ℕ) → IsHead b m n → 0 < length b
 head-length b m n h = let more : length b ≡ suc (length (argument_bytes h.0 n)) = ap length h.2 in omega (arith, more)
 
 pub front-simple : (n : ℕ) (bs : List ℕ) → n < 24 → front ((224 + n) ∷ bs) ≡ plain n bs
-front-simple n bs h =
-    front_first 7 n bs (omega arith) ∙ ap (λ t. cond t (front_other n bs) (opened 7 bs)) (lt-ltb n 31 (omega arith)) ∙
-    ap (λ t. cond t (plain n bs) (cond (eqb n 24) (plain (get_or bs 0 0) (drop 1 bs))
+front-simple n bs h = front_first 7 n bs (omega arith) ∙ ap (λ t. cond t (front_other n bs) (opened 7 bs))
+    (lt-ltb n 31 (omega arith)) ∙ ap (λ t. cond t (plain n bs) (cond (eqb n 24) (plain (get_or bs 0 0) (drop 1 bs))
     (cond (eqb n 25) (raw 2 bs) (cond (eqb n 26) (raw 4 bs) (raw 8 bs))))) (lt-ltb n 24 h)

@@ -1,21 +1,16 @@
 -- What the bytes of a head say where they were read: one byte, then as many as it asks for.
 use Rattle.std.proofs.Common.{◌≡◌, ℕ, zero, suc, ◌+◌, ◌/◌, ◌%◌, ◌<◌, ◌≤◌, cond, ltb, Bool, true, false, ◌&&◌, ◌||◌}
 use Rattle.std.proofs.Common.{List, [], ◌∷◌, length, take, Some, None, Ok, Err, IsTrue, refl, sym, ap, ◌∙◌, subst}
-use Rattle.std.proofs.Common.{arith, inl, inr, ◌⊎◌, lt-ltb, le-ltb, ne_eqb, append-nil}
-use Rattle.std.proofs.lemmas.Bool.Decides.{nat_tests}
+use Rattle.std.proofs.{Common.{arith, inl, inr, ◌⊎◌, lt-ltb, le-ltb, ne_eqb, append-nil}, lemmas.Bool.Decides.nat_tests}
 use Rattle.std.proofs.lemmas.Nat.{div-mul-add, mod-mul-add}
-use Rattle.ciborium_ll.specs.declared.header.Header.{Header}
-use Rattle.ciborium_ll.specs.declared.header.Header.TheVariants.{Positive, Negative, Bytes, Text, Array, Map, Tag}
-use Rattle.ciborium_ll.specs.declared.header.Header.TheVariants.{Simple, Float, Break}
-use Rattle.ciborium_ll.specs.declared.header.Error.{Error}
-use Rattle.ciborium_ll.specs.declared.header.Error.TheVariants.{Io, Syntax, TooLong}
-use Rattle.ciborium_ll.specs.Bytes.{greatest_offset}
-use Rattle.ciborium_ll.specs.Head.{Width, capacity, information, argument_bytes, initial_byte, IsHead}
-use Rattle.ciborium_ll.specs.Header.{SpellsHeader, announced_length}
-use Rattle.ciborium_ll.specs.ReaderSteps.{IsFillTaken, IsHeadTaken, NoneIsSpare}
-use Rattle.ciborium_ll.specs.Refusal.{Refusal, io, syntax, too_long, argument_length, is_reserved, is_low_simple}
-use Rattle.ciborium_ll.specs.Refusal.{is_ill_formed, payload_length, initial_refusal, head_refusal, HeadRefuses}
-use Rattle.ciborium_ll.specs.Refusal.{IsUsable}
+use Rattle.ciborium_ll.specs.{declared.header.Header.Header, declared.header.Header.TheVariants.{Positive, Negative}}
+use Rattle.ciborium_ll.specs.declared.header.Header.TheVariants.{Bytes, Text, Array, Map, Tag, Simple, Float, Break}
+use Rattle.ciborium_ll.specs.{declared.header.Error.Error, declared.header.Error.TheVariants.{Io, Syntax, TooLong}}
+use Rattle.ciborium_ll.specs.{Bytes.greatest_offset, Head.{Width, capacity, information, argument_bytes, initial_byte}}
+use Rattle.ciborium_ll.specs.{Head.IsHead, Header.{SpellsHeader, announced_length}, ReaderSteps.IsFillTaken}
+use Rattle.ciborium_ll.specs.{ReaderSteps.{IsHeadTaken, NoneIsSpare}, Refusal.{Refusal, io, syntax, too_long}}
+use Rattle.ciborium_ll.specs.Refusal.{argument_length, is_reserved, is_low_simple, is_ill_formed, payload_length}
+use Rattle.ciborium_ll.specs.Refusal.{initial_refusal, head_refusal, HeadRefuses, IsUsable}
 use Rattle.ciborium_ll.proofs.UsableHeads.{pass, low, unreserved, not_low, and_false, information-below}
 use Rattle.ciborium_ll.proofs.UsableHeads.{argument-information, argument_length-information, HeadFits, usable-fits}
 use Rattle.ciborium_ll.proofs.ReadHeads.{payload_length-is}
@@ -38,8 +33,7 @@ unreserved-long m a h = grind (arith, nat_tests)
 long-other : (x : ℕ) → 1 < argument_length (x % 32) → x ≡ 248 → ⊥
 long-other x h e = let one : argument_length (x % 32) ≡ 1 = ap (λ y. argument_length (y % 32)) e in omega arith
 
-pub short-low : (x : ℕ) (b : List ℕ) → length b < argument_length (x % 32) →
-    is_low_simple x b ≡ false
+pub short-low : (x : ℕ) (b : List ℕ) → length b < argument_length (x % 32) → is_low_simple x b ≡ false
 short-low x [] h = refl
 short-low x (y ∷ b) h = ap (λ t. t && ltb y 32) (ne_eqb x 248 (long-other x (omega arith)))
 
@@ -49,8 +43,7 @@ empty-io p h = hold _ _ _ (lt-ltb p greatest_offset h)
 -- less than the initial byte asks for
 short-io : (x : ℕ) (b : List ℕ) (p : ℕ) → length b < argument_length (x % 32) →
     p + 1 + argument_length (x % 32) ≤ greatest_offset → HeadRefuses (x ∷ b) p io
-short-io x b p h room =
-    behind-first x b p (omega arith) (and_false _ _ (short-low x b h)) ∙
+short-io x b p h room = behind-first x b p (omega arith) (and_false _ _ (short-low x b h)) ∙
     pass _ _ _ (unreserved-long (x / 32) (x % 32) (omega arith)) ∙
     pass _ _ _ (le-ltb greatest_offset (p + 1 + argument_length (x % 32)) room) ∙
     hold _ _ _ (lt-ltb (length b) (argument_length (x % 32)) h)

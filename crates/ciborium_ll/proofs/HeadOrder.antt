@@ -2,18 +2,14 @@
 -- argument.
 use Rattle.std.proofs.Common.{◌≡◌, ℕ, zero, suc, ◌+◌, ◌*◌, ◌/◌, ◌%◌, ◌^◌, ◌<◌, List, length, Bool, true, false, refl}
 use Rattle.std.proofs.Common.{sym, ap, ◌∙◌, arith, Ordering, Less, Equal, Greater, nat_cmp, lit<, [], ◌∷◌}
-use Rattle.std.proofs.Math.Nat.{mul_comm, div-one, mod-one, mod-eq_of_lt, pow-succ'}
-use Rattle.std.proofs.lemmas.Nat.{mul-add-lt, mod_below}
-use Rattle.std.proofs.lemmas.Cmp.{ranked, tied_itself, nat_cmp_total}
-use Rattle.std.specs.Cmp.{nat_cmp_is}
-use Rattle.std.specs.Cmp.Lexicographic.{slice_cmp}
-use Rattle.std.specs.Int.{byte_at, bytes_high_first, complement_if}
+use Rattle.std.proofs.{Math.Nat.{mul_comm, div-one, mod-one, mod-eq_of_lt, pow-succ'}, lemmas.Nat.mul-add-lt}
+use Rattle.std.proofs.{lemmas.Nat.mod_below, lemmas.Cmp.{ranked, tied_itself, nat_cmp_total}}
+use Rattle.std.specs.{Cmp.nat_cmp_is, Cmp.Lexicographic.slice_cmp, Int.{byte_at, bytes_high_first, complement_if}}
 use Rattle.std.specs.Ordering.{MatchOrdering, ordering_then, bool_cmp}
-use lib.Arith.{mod-mul}
 use Rattle.ciborium_ll.specs.Head.{Width, within, one_byte, two_bytes, four_bytes, eight_bytes, capacity, head_in}
-use Rattle.ciborium_ll.specs.Head.{narrowest, shortest_head, initial_byte}
+use Rattle.ciborium_ll.specs.{Head.{narrowest, shortest_head, initial_byte}, Integer.integer_order}
 use Rattle.ciborium_ll.proofs.ShortestHead.{narrowest-holds}
-use Rattle.ciborium_ll.specs.Integer.{integer_order}
+use lib.Arith.{mod-mul}
 
 -- ---- big-endian bytes
 
@@ -32,9 +28,8 @@ by_places Equal Greater a b r s p l k h m = rw h (omega (arith, m))
 -- the high place decides, and then the low one
 pub places : (a b r s p : ℕ) → r < p → s < p → ordering_then (nat_cmp a b) (nat_cmp r s) ≡ nat_cmp (a * p + r)
     (b * p + s)
-places a b r s p l k =
-    nat_cmp_is (a * p + r) (b * p + s) _ (by_places (nat_cmp a b) (nat_cmp r s) a b r s p l k (ranked a b _ refl)
-    (ranked r s _ refl))
+places a b r s p l k = nat_cmp_is (a * p + r)
+    (b * p + s) _ (by_places (nat_cmp a b) (nat_cmp r s) a b r s p l k (ranked a b _ refl) (ranked r s _ refl))
 
 pub byte_at-is : (k n : ℕ) → byte_at k n ≡ n / 256 ^ k % 256
 byte_at-is zero n = sym (ap (λ x. x % 256) (div-one n))

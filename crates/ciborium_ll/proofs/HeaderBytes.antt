@@ -1,9 +1,8 @@
 -- What is written for a header is the shortest spelling of it.
 use Rattle.std.proofs.Common.{◌≡◌, ℕ, suc, ◌<◌, ◌≤◌, ◌⊎◌, cond, List, [], ◌∷◌, length, Option, Some, None, refl, sym}
 use Rattle.std.proofs.Common.{ap, ◌∙◌, inl, inr, arith, lt-ltb, le-ltb}
-use Rattle.ciborium_ll.specs.declared.header.Header.{Header}
-use Rattle.ciborium_ll.specs.declared.header.Header.TheVariants.{Positive, Negative, Bytes, Text, Array, Map, Tag}
-use Rattle.ciborium_ll.specs.declared.header.Header.TheVariants.{Simple, Float, Break}
+use Rattle.ciborium_ll.specs.{declared.header.Header.Header, declared.header.Header.TheVariants.{Positive, Negative}}
+use Rattle.ciborium_ll.specs.declared.header.Header.TheVariants.{Bytes, Text, Array, Map, Tag, Simple, Float, Break}
 use Rattle.ciborium_ll.specs.Head.{initial_byte, IsHead, shortest_head, IsSimple, simple_bytes, IsFloat}
 use Rattle.ciborium_ll.specs.Header.{IsCounted, counted_bytes, header_bytes, SpellsHeader, IsProperCount}
 use Rattle.ciborium_ll.specs.laws.HeaderLaws.{HeaderBytesSpell, NoSpellingIsShorter, NoOtherSpellingIsAsShort}

@@ -1,37 +1,23 @@
 -- What a reader of an item's heads has read, and what its answers say of all the bytes.
 use Rattle.std.proofs.Common.{◌≡◌, ℕ, ◌+◌, ◌-◌, ◌<◌, ◌≤◌, List, [], ◌∷◌, ◌++◌, length, take, drop, Some, None, Err}
-use Rattle.std.proofs.Common.{Bool, true, false, IsTrue}
-use Rattle.std.proofs.Common.{refl, sym, ap, subst, eqb, ◌∙◌, ◌%◌, inl, inr, arith, append_assoc, drop-drop}
-use Rattle.std.proofs.Common.{take-append-drop, length-take-le}
-use Rattle.std.proofs.Math.Seq.{take-add}
-use Rattle.std.proofs.lemmas.Bool.{eqb-false}
-use Rattle.std.proofs.lemmas.List.{length-drop, take_rest}
-use Rattle.ciborium_ll.specs.declared.header.Header.{Header}
-use Rattle.ciborium_ll.specs.declared.header.Header.TheVariants.{Bytes, Text}
-use Rattle.ciborium_ll.specs.declared.item_heads.ItemHeads.{ItemHeads}
-use Rattle.ciborium_ll.specs.declared.item_heads.NoItem.{NoItem}
+use Rattle.std.proofs.Common.{Bool, true, false, IsTrue, refl, sym, ap, subst, eqb, ◌∙◌, ◌%◌, inl, inr, arith}
+use Rattle.std.proofs.{Common.{append_assoc, drop-drop, take-append-drop, length-take-le}, Math.Seq.take-add}
+use Rattle.std.proofs.{lemmas.Bool.eqb-false, lemmas.List.{length-drop, take_rest}}
+use Rattle.ciborium_ll.specs.{declared.header.Header.Header, declared.header.Header.TheVariants.{Bytes, Text}}
+use Rattle.ciborium_ll.specs.{declared.item_heads.ItemHeads.ItemHeads, declared.item_heads.NoItem.NoItem}
 use Rattle.ciborium_ll.specs.declared.item_heads.NoItem.TheVariants.{Incomplete, Malformed, TooDeep}
-use Rattle.ciborium_ll.specs.declared.levels.Level.{Level}
-use Rattle.ciborium_ll.specs.declared.levels.Level.TheVariants.{Items}
-use Rattle.ciborium_ll.specs.declared.levels.Levels.{Levels}
-use Rattle.ciborium_ll.specs.declared.levels.Misfit.{Misfit}
-use Rattle.ciborium_ll.specs.declared.levels.Misfit.TheVariants as misfit
-use Rattle.ciborium_ll.specs.Bytes.{AreBytes}
-use Rattle.ciborium_ll.specs.Head.{break_byte}
-use Rattle.ciborium_ll.specs.Header.{SpellsHeader}
-use Rattle.ciborium_ll.specs.Refusal.{argument_length}
-use Rattle.ciborium_ll.specs.ItemHeads.{HasRead, open_in, unread, was_read}
-use Rattle.ciborium_ll.specs.ItemLengths.{BeginNoItem, BeginText, EndInside, IsNoItem, Misfits, OpensTooMany}
-use Rattle.ciborium_ll.specs.ItemLengths.{StandsOpen}
-use Rattle.ciborium_ll.specs.Levels.{AreItem, EndAll, IsOpenBehind, IsPayloadOf, behind_head, incomplete}
-use Rattle.ciborium_ll.specs.inner.Fronts.{IsCut, IsCutPayload, IsNoChunk, MayBeChunk}
-use Rattle.ciborium_ll.specs.inner.KeptLevels.{IsPassed, levels_in}
-use Rattle.ciborium_ll.specs.Spells.{Spells}
-use Rattle.ciborium_ll.proofs.UniqueSpelling.{none_begins_another}
-use Rattle.ciborium_ll.proofs.CutHeads.{cut-head, cut-string, long-no-break}
+use Rattle.ciborium_ll.specs.{declared.levels.Level.Level, declared.levels.Level.TheVariants.Items}
+use Rattle.ciborium_ll.specs.{declared.levels.Levels.Levels, declared.levels.Misfit.Misfit, Bytes.AreBytes}
+use Rattle.ciborium_ll.specs.{Head.break_byte, Header.SpellsHeader, Refusal.argument_length, ItemHeads.HasRead}
+use Rattle.ciborium_ll.specs.{ItemHeads.{open_in, unread, was_read}, ItemLengths.{BeginNoItem, BeginText, EndInside}}
+use Rattle.ciborium_ll.specs.{ItemLengths.{IsNoItem, Misfits, OpensTooMany, StandsOpen}, Levels.{AreItem, EndAll}}
+use Rattle.ciborium_ll.specs.{Levels.{IsOpenBehind, IsPayloadOf, behind_head, incomplete}, inner.Fronts.IsCut}
+use Rattle.ciborium_ll.specs.{inner.Fronts.{IsCutPayload, IsNoChunk, MayBeChunk}, inner.KeptLevels.IsPassed}
+use Rattle.ciborium_ll.specs.{inner.KeptLevels.levels_in, Spells.Spells}
+use Rattle.ciborium_ll.proofs.{UniqueSpelling.none_begins_another, CutHeads.{cut-head, cut-string, long-no-break}}
 use Rattle.ciborium_ll.proofs.LevelEnds.{incomplete-again, open-end, open-incomplete, open-start}
-use Rattle.ciborium_ll.proofs.LevelFronts.{open-behind}
-use Rattle.ciborium_ll.proofs.LevelMisfits.{no-item}
+use Rattle.ciborium_ll.proofs.{LevelFronts.open-behind, LevelMisfits.no-item}
+use Rattle.ciborium_ll.specs.declared.levels.Misfit.TheVariants as misfit
 
 -- ---- the beginning, and the end
 
@@ -101,9 +87,8 @@ cut-inside-payload heads header size more h spelled placed part =
 -- it may not stand there
 pub misplaced : (heads : ItemHeads) (header : Header) (size : ℕ) → SpellsHeader (take size (unread heads)) header →
     behind_head header (open_in heads) ≡ None → Misfits (open_in heads) (unread heads)
-misplaced heads header size spelled none =
-    Misfits.misplaced header (take size (unread heads)) (drop size (unread heads)) spelled
-    (sym (take-append-drop size (unread heads))) none
+misplaced heads header size spelled none = Misfits.misplaced header (take size (unread heads))
+    (drop size (unread heads)) spelled (sym (take-append-drop size (unread heads))) none
 
 -- it opens too many levels
 pub opens-too-many : (heads : ItemHeads) (header : Header) (size : ℕ) → SpellsHeader (take size (unread heads)) header →
@@ -228,8 +213,7 @@ was-too-deep header old new m e p = subst (λ k. IsPassed header old new (Err k)
 -- ---- whether all bytes are an item
 
 -- an item of another length stands not at the front of one
-pub other-length : (b : List ℕ) (n : ℕ) → (n ≤ length b) × AreItem (take n b) → AreItem b →
-    ¬ (eqb n (length b) ≡ false)
+pub other-length : (b : List ℕ) (n : ℕ) → (n ≤ length b) × AreItem (take n b) → AreItem b → ¬ (eqb n (length b) ≡ false)
 other-length b n (fits, i) j f =
     let none : drop n b ≡ [] = none_begins_another (take n b) (drop n b) i.0 j.0 i.1
     (subst (λ c. Spells c j.0) (sym (take-append-drop n b)) j.1) in

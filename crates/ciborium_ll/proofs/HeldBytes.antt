@@ -1,14 +1,9 @@
 -- Bytes that a reader holds, and how they are taken from there.
 use Rattle.std.proofs.Common.{◌≡◌, ℕ, suc, ◌+◌, ◌-◌, ◌<◌, ◌≤◌, List, [], ◌∷◌, ◌++◌, length, length-take-le, get_or}
 use Rattle.std.proofs.Common.{take, drop, slice_range, Option, Some, None, IfSome, sym, ap, ◌∙◌, subst, arith}
-use Rattle.std.proofs.Common.{take-append-drop}
-use Rattle.std.proofs.Math.Seq.{take-take}
-use Rattle.std.proofs.lemmas.List.Elements.{All-take}
-use Rattle.std.specs.Io.{StartsWith}
-use Rattle.std.specs.Io.KnownBytes.{Consumes, Keeps}
-use Rattle.ciborium_ll.specs.Accesses.{TakesSome}
-use Rattle.ciborium_ll.specs.Bytes.{AreBytes}
-use Rattle.ciborium_ll.specs.ReaderSteps.{Advances}
+use Rattle.std.proofs.{Common.take-append-drop, Math.Seq.take-take, lemmas.List.Elements.All-take}
+use Rattle.std.specs.{Io.StartsWith, Io.KnownBytes.{Consumes, Keeps}}
+use Rattle.ciborium_ll.specs.{Accesses.TakesSome, Bytes.AreBytes, ReaderSteps.Advances}
 
 -- the bytes of a head: the initial byte, and those behind it
 pub head-bytes : (n : ℕ) (xs : List ℕ) → 0 < length xs → take (1 + n) xs ≡ get_or xs 0 0 ∷ slice_range xs 1 (1 + n)
@@ -61,9 +56,3 @@ cut held n P fits bytes h =
 pub counted : (old new : Option (List ℕ)) (p n : ℕ) (P : List ℕ → Type 0) → TakesSome old new n P →
     Advances old new p (p + n) P
 counted old new p n P (b, taken, len, h, bytes) = (b, taken, omega (arith, len), h, bytes)
-
-keeps-first : (a b o : Option (List ℕ)) (x : List ℕ) → Keeps a b → Consumes b o x → Consumes a o x
-keeps-first None b o x k t = tt
-keeps-first (Some xs) None o x k t = absurd k
-keeps-first (Some xs) (Some ys) None x k t = absurd t
-keeps-first (Some xs) (Some ys) (Some zs) x k t = sym k ∙ t

@@ -1,14 +1,13 @@
 -- A reader of items over lists, for proofs alone: it finds each item that is spelled at the front.
 use Rattle.std.proofs.Common.{◌≡◌, ℕ, zero, suc, ◌+◌, ◌-◌, ◌*◌, ◌<◌, ◌≤◌, cond, eqb, Bool, true, false, List, [], ◌∷◌}
 use Rattle.std.proofs.Common.{◌++◌, length, take, drop, Option, Some, None, option_map, option_and_then, refl, sym, ap}
-use Rattle.std.proofs.Common.{◌∙◌, arith, inl, inr, append_assoc, length-append}
+use Rattle.std.proofs.{Common.{◌∙◌, arith, inl, inr, append_assoc, length-append}, Math.Seq.take-append_seam}
+use Rattle.std.proofs.Math.Seq.{drop-append_seam}
 use Rattle.std.specs.Prelude.{IsUtf8}
-use Rattle.std.proofs.Math.Seq.{take-append_seam, drop-append_seam}
-use Rattle.ciborium_ll.specs.Head.{IsHead, IsSimple, IsFloat}
-use Rattle.ciborium_ll.specs.Item.{Item, unsigned, negative, bytes, text, array, map, tag, simple, float, Items}
-use Rattle.ciborium_ll.specs.Item.{no_items, item, Pairs, no_pairs, pair, items_count, pairs_count}
-use Rattle.ciborium_ll.specs.Bytes.{AreBytes}
-use Rattle.ciborium_ll.specs.Spells.{AreChunks, joined, IsString, Spells, SpellsItems, SpellsPairs}
+use Rattle.ciborium_ll.specs.{Head.{IsHead, IsSimple, IsFloat}, Item.{Item, unsigned, negative, bytes, text, array}}
+use Rattle.ciborium_ll.specs.Item.{map, tag, simple, float, Items, no_items, item, Pairs, no_pairs, pair, items_count}
+use Rattle.ciborium_ll.specs.{Item.pairs_count, Bytes.AreBytes, Spells.{AreChunks, joined, IsString, Spells}}
+use Rattle.ciborium_ll.specs.Spells.{SpellsItems, SpellsPairs}
 use Rattle.ciborium_ll.proofs.FrontHeads.{Front, nothing, counted, opened, plain, raw, front, front_open, front-head}
 use Rattle.ciborium_ll.proofs.FrontHeads.{front-simple, head-length}
 
@@ -73,17 +72,14 @@ parts (suc k) bs = part_in (parts k) (front bs)
 -- ---- items
 
 abbrev counted_item : Parse Item → ℕ → ℕ → Parse Item
-counted_item p m n r =
-    cond (eqb m 0) (Some (unsigned n, r)) (cond (eqb m 1) (Some (negative n, r))
+counted_item p m n r = cond (eqb m 0) (Some (unsigned n, r)) (cond (eqb m 1) (Some (negative n, r))
     (cond (eqb m 2) (Some (bytes false (take n r), drop n r)) (cond (eqb m 3) (Some (text false (take n r), drop n r))
     (cond (eqb m 4) (parse_map (array false) (many p n r))
     (cond (eqb m 5) (parse_map (map false) (many_pairs p n r)) (parse_map (tag n) (p r)))))))
 
 abbrev opened_item : Parse Item → ℕ → ℕ → Parse Item
-opened_item p k m r =
-    cond (eqb m 2) (parse_map (bytes true) (parts (length r) r))
-    (cond (eqb m 3) (parse_map (text true) (parts (length r) r))
-    (cond (eqb m 4) (parse_map (array true) (until p k r))
+opened_item p k m r = cond (eqb m 2) (parse_map (bytes true) (parts (length r) r))
+    (cond (eqb m 3) (parse_map (text true) (parts (length r) r)) (cond (eqb m 4) (parse_map (array true) (until p k r))
     (cond (eqb m 5) (parse_map (map true) (until_pairs p k r)) None)))
 
 abbrev item_at : Parse Item → ℕ → Front → Option (Item × List ℕ)
@@ -127,9 +123,8 @@ front-counted b h q x m n k s e = ap (λ (c : List ℕ). front (c ++ x)) e ∙ a
 
 front-opened : (b q x : List ℕ) (m : ℕ) → b ≡ (m * 32 + 31) ∷ (q ++ (255 ∷ [])) →
     front (b ++ x) ≡ opened m (q ++ (255 ∷ x))
-front-opened b q x m e =
-    ap (λ (c : List ℕ). front (c ++ x)) e ∙ ap (λ (c : List ℕ). front ((m * 32 + 31) ∷ c)) (append_assoc q (255 ∷ []) x)
-    ∙ front_open m (q ++ (255 ∷ x))
+front-opened b q x m e = ap (λ (c : List ℕ). front (c ++ x)) e ∙
+    ap (λ (c : List ℕ). front ((m * 32 + 31) ∷ c)) (append_assoc q (255 ∷ []) x) ∙ front_open m (q ++ (255 ∷ x))
 
 read-break : (d : ℕ) (x : List ℕ) → 0 < d → read d (255 ∷ x) ≡ None
 read-break d x h = read_is d (255 ∷ x) h ∙ ap (item_at (read (d - 1)) (d - 1)) (front_open 7 x)
@@ -167,8 +162,7 @@ parts-again m u v w b x lt le s = let never : ⊥ = omega arith in absurd never
 
 string-again : (d : ℕ) (o : Bool) (p b x : List ℕ) → 0 < d → IsString o 2 AreBytes b p →
     read d (b ++ x) ≡ found (bytes o p) x
-string-again d false p b x h s =
-    read_is d (b ++ x) h ∙ ap (item_at (read (d - 1)) (d - 1))
+string-again d false p b x h s = read_is d (b ++ x) h ∙ ap (item_at (read (d - 1)) (d - 1))
     (front-counted b s.0 p x 2 (length p) (omega arith) s.1 s.3) ∙ taken (bytes false) p x
 string-again d true p b x h s =
     let r = s.1 in
@@ -179,8 +173,7 @@ string-again d true p b x h s =
 
 text-again : (d : ℕ) (o : Bool) (p b x : List ℕ) → 0 < d → IsString o 3 IsUtf8 b p →
     read d (b ++ x) ≡ found (text o p) x
-text-again d false p b x h s =
-    read_is d (b ++ x) h ∙ ap (item_at (read (d - 1)) (d - 1))
+text-again d false p b x h s = read_is d (b ++ x) h ∙ ap (item_at (read (d - 1)) (d - 1))
     (front-counted b s.0 p x 3 (length p) (omega arith) s.1 s.3) ∙ taken (text false) p x
 text-again d true p b x h s =
     let r = s.1 in
@@ -198,9 +191,8 @@ simple-again d n b x h (inr s) =
 
 float_at : (d w x : ℕ) (r b y : List ℕ) → 0 < d → length r ≡ w → b ≡ x ∷ r → front (x ∷ (r ++ y)) ≡ raw w (r ++ y) →
     read d (b ++ y) ≡ found (float r) y
-float_at d w x r b y h l e f =
-    read_is d (b ++ y) h ∙ ap (λ (c : List ℕ). item_at (read (d - 1)) (d - 1) (front (c ++ y))) e ∙
-    ap (item_at (read (d - 1)) (d - 1)) f ∙
+float_at d w x r b y h l e f = read_is d (b ++ y) h ∙
+    ap (λ (c : List ℕ). item_at (read (d - 1)) (d - 1) (front (c ++ y))) e ∙ ap (item_at (read (d - 1)) (d - 1)) f ∙
     ap (λ (n : ℕ). found (float (take n (r ++ y))) (drop n (r ++ y))) (sym l) ∙ taken float r y
 
 float-again : (d : ℕ) (r b x : List ℕ) → 0 < d → IsFloat b r → read d (b ++ x) ≡ found (float r) x
@@ -216,23 +208,20 @@ mutual
       read_is d (b ++ x) (omega arith) ∙ ap (item_at (read (d - 1)) (d - 1)) (front-head b 1 n x (omega arith) s)
   read-again (bytes o p) d b x le s = string-again d o p b x (omega arith) s
   read-again (text o p) d b x le s = text-again d o p b x (omega arith) s
-  read-again (array false is) d b x le s =
-      read_is d (b ++ x) (omega arith) ∙ ap (item_at (read (d - 1)) (d - 1))
-      (front-counted b s.2.0 s.0 x 4 (items_count is) (omega arith) s.2.1 s.2.2) ∙
+  read-again (array false is) d b x le s = read_is d (b ++ x) (omega arith) ∙
+      ap (item_at (read (d - 1)) (d - 1)) (front-counted b s.2.0 s.0 x 4 (items_count is) (omega arith) s.2.1 s.2.2) ∙
       ap (parse_map (array false)) (many-again is (d - 1) s.0 x (omega arith) s.1)
   read-again (array true is) d b x le s =
       read_is d (b ++ x) (omega arith) ∙ ap (item_at (read (d - 1)) (d - 1)) (front-opened b s.0 x 4 s.2) ∙
       ap (parse_map (array true)) (until-again is (d - 1) (d - 1) s.0 x (omega arith) (omega arith) s.1)
-  read-again (map false ps) d b x le s =
-      read_is d (b ++ x) (omega arith) ∙ ap (item_at (read (d - 1)) (d - 1))
-      (front-counted b s.2.0 s.0 x 5 (pairs_count ps) (omega arith) s.2.1 s.2.2) ∙
+  read-again (map false ps) d b x le s = read_is d (b ++ x) (omega arith) ∙
+      ap (item_at (read (d - 1)) (d - 1)) (front-counted b s.2.0 s.0 x 5 (pairs_count ps) (omega arith) s.2.1 s.2.2) ∙
       ap (parse_map (map false)) (many_pairs-again ps (d - 1) s.0 x (omega arith) s.1)
   read-again (map true ps) d b x le s =
       read_is d (b ++ x) (omega arith) ∙ ap (item_at (read (d - 1)) (d - 1)) (front-opened b s.0 x 5 s.2) ∙
       ap (parse_map (map true)) (until_pairs-again ps (d - 1) (d - 1) s.0 x (omega arith) (omega arith) s.1)
-  read-again (tag n i) d b x le s =
-      read_is d (b ++ x) (omega arith) ∙ ap (item_at (read (d - 1)) (d - 1))
-      (front-counted b s.0 s.1 x 6 n (omega arith) s.2 s.4) ∙
+  read-again (tag n i) d b x le s = read_is d (b ++ x) (omega arith) ∙
+      ap (item_at (read (d - 1)) (d - 1)) (front-counted b s.0 s.1 x 6 n (omega arith) s.2 s.4) ∙
       ap (parse_map (tag n)) (read-again i (d - 1) s.1 x (omega arith) s.3)
   read-again (simple n) d b x le s = simple-again d n b x (omega arith) s
   read-again (float r) d b x le s = float-again d r b x (omega arith) s
@@ -248,8 +237,7 @@ mutual
 
   until-again : (is : Items) (d k : ℕ) (b x : List ℕ) → items_weight is ≤ d → items_weight is ≤ k → SpellsItems b is →
       until (read d) k (b ++ (255 ∷ x)) ≡ found is x
-  until-again no_items d (suc k) b x le lk s =
-      ap (λ (c : List ℕ). until (read d) (suc k) (c ++ (255 ∷ x))) s ∙
+  until-again no_items d (suc k) b x le lk s = ap (λ (c : List ℕ). until (read d) (suc k) (c ++ (255 ∷ x))) s ∙
       ap (λ r. or_end r (ended (255 ∷ x)) (item_then (until (read d) k) r)) (read-break d x (omega arith))
   until-again (item i is) d (suc k) b x le lk s =
       let y : List ℕ = 255 ∷ x in

@@ -1,13 +1,9 @@
 -- The levels that are kept: those of a room from a place on.
-use Rattle.std.proofs.Common.{◌≡◌, ℕ, zero, suc, ◌+◌, ◌-◌, ◌<◌, List, [], ◌∷◌, length, Some, refl, sym, ap}
-use Rattle.std.proofs.Common.{◌∙◌, arith, drop, set}
-use Rattle.std.proofs.lemmas.List.{drop-set, length-drop, length-set}
-use Rattle.ciborium_ll.specs.declared.header.Header.{Header}
-use Rattle.ciborium_ll.specs.declared.levels.Step.{Step}
-use Rattle.ciborium_ll.specs.declared.levels.Step.TheVariants.{Within, Opens}
-use Rattle.ciborium_ll.specs.declared.levels.Level.{Level}
-use Rattle.ciborium_ll.specs.declared.levels.Level.TheVariants.{Items}
-use Rattle.ciborium_ll.specs.Levels.{behind_head, incomplete, levels_by}
+use Rattle.std.proofs.Common.{◌≡◌, ℕ, zero, suc, ◌+◌, ◌-◌, ◌<◌, List, [], ◌∷◌, length, Some, refl, sym, ap, ◌∙◌, arith}
+use Rattle.std.proofs.{Common.{drop, set}, lemmas.List.{drop-set, length-drop, length-set}}
+use Rattle.ciborium_ll.specs.{declared.header.Header.Header, declared.levels.Step.Step}
+use Rattle.ciborium_ll.specs.{declared.levels.Step.TheVariants.{Within, Opens}, declared.levels.Level.Level}
+use Rattle.ciborium_ll.specs.{declared.levels.Level.TheVariants.Items, Levels.{behind_head, incomplete, levels_by}}
 use Rattle.ciborium_ll.specs.inner.KeptLevels.{top_of}
 
 -- the innermost level stands before the others
@@ -46,9 +42,8 @@ IsStep header k room step = behind_head header (drop k room) ≡ levels_by step 
 pub step-here : (header : Header) (k : ℕ) (room : List Level) (level : Level) (step : Step) →
     top_of (drop k room) ≡ Some level →
     ((around : List Level) → behind_head header (level ∷ around) ≡ levels_by step around) → IsStep header k room step
-step-here header k room level step e f =
-    ap (behind_head header) (top-first k room level e ∙ ap (λ n. level ∷ drop n room) (one-more k)) ∙
-    f (drop (k + 1) room)
+step-here header k room level step e f = ap (behind_head header)
+    (top-first k room level e ∙ ap (λ n. level ∷ drop n room) (one-more k)) ∙ f (drop (k + 1) room)
 
 pub not-zero : (k : ℕ) → ¬ (k ≡ 0) → 0 < k
 not-zero zero h = absurd (h refl)
@@ -69,10 +64,9 @@ kept-opened header k room level inner less some s =
     ap (λ (ls : List Level). inner ∷ ls) (drop-set room k level less)))
 
 -- one level more than there is room for
-pub one-too-many : (header : Header) (k : ℕ) (room : List Level) (level inner : Level) → k ≡ 0 → length room ≡ 257 →
-    k < length room → IsStep header k room (Opens level inner) →
-    (more : List Level) × (behind_head header (drop k room) ≡ Some more) × (length (drop k room) ≡ 257) ×
-    (length more ≡ 258)
+pub one-too-many : (header : Header) (k : ℕ) (room : List Level) (level inner : Level) →
+    k ≡ 0 → length room ≡ 257 → k < length room → IsStep header k room (Opens level inner) → (more : List Level) ×
+    (behind_head header (drop k room) ≡ Some more) × (length (drop k room) ≡ 257) × (length more ≡ 258)
 one-too-many header k room level inner z e less s = (
   inner ∷ level ∷ drop (k + 1) room,
   s,

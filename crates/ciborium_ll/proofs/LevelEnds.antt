@@ -1,13 +1,10 @@
 -- What completes some levels: bytes that do so can always be found, and complete levels need none.
-use Rattle.std.proofs.Common.{◌≡◌, ℕ, zero, suc, ◌+◌, List, [], ◌∷◌, ◌++◌, length, refl, sym, ap, ◌∙◌, subst}
-use Rattle.std.proofs.Common.{arith, append-nil, append_assoc}
-use Rattle.ciborium_ll.specs.declared.levels.Level.{Level}
-use Rattle.ciborium_ll.specs.declared.levels.Level.TheVariants.{Items, OpenItems, OpenKeys}
-use Rattle.ciborium_ll.specs.declared.levels.Level.TheVariants.{OpenValues, ByteChunks, TextChunks}
-use Rattle.ciborium_ll.specs.Head.{within}
-use Rattle.ciborium_ll.specs.Item.{unsigned, no_items, item, no_pairs, items_count, pairs_count}
-use Rattle.ciborium_ll.specs.Levels.{Ends, EndAll, EndsPairs, AreItem, IsOpenBehind, incomplete}
-use Rattle.ciborium_ll.specs.Spells.{Spells}
+use Rattle.std.proofs.Common.{◌≡◌, ℕ, zero, suc, ◌+◌, List, [], ◌∷◌, ◌++◌, length, refl, sym, ap, ◌∙◌, subst, arith}
+use Rattle.std.proofs.Common.{append-nil, append_assoc}
+use Rattle.ciborium_ll.specs.{declared.levels.Level.Level, declared.levels.Level.TheVariants.{Items, OpenItems}}
+use Rattle.ciborium_ll.specs.declared.levels.Level.TheVariants.{OpenKeys, OpenValues, ByteChunks, TextChunks}
+use Rattle.ciborium_ll.specs.{Head.within, Item.{unsigned, no_items, item, no_pairs, items_count, pairs_count}}
+use Rattle.ciborium_ll.specs.{Levels.{Ends, EndAll, EndsPairs, AreItem, IsOpenBehind, incomplete}, Spells.Spells}
 use Rattle.ciborium_ll.proofs.LevelsTo.{Standing, ItemsTo, LevelTo, LevelsTo, items-to, pairs-to, to-items, to-pairs}
 use Rattle.ciborium_ll.proofs.LevelsTo.{to-incomplete, from-incomplete, start, started}
 
@@ -94,8 +91,7 @@ incomplete-again (Items zero ∷ levels) = incomplete-again levels
 incomplete-again u = refl
 
 -- complete levels may be dropped
-pub open-incomplete : (c : List ℕ) (levels : List Level) → IsOpenBehind c levels →
-    IsOpenBehind c (incomplete levels)
+pub open-incomplete : (c : List ℕ) (levels : List Level) → IsOpenBehind c levels → IsOpenBehind c (incomplete levels)
 open-incomplete c levels o = record {
   complete = λ b e. o.complete b
       (to-end levels b (from-incomplete anywhere levels b [] (end-to (incomplete levels) b e)));

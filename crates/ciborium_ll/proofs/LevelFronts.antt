@@ -1,25 +1,18 @@
 -- What ends levels begins with a head, and what ends the levels behind that head follows it.
 use Rattle.std.proofs.Common.{◌≡◌, ℕ, zero, suc, ◌+◌, ◌≤◌, List, [], ◌∷◌, ◌++◌, length, drop, Some, None, true, false}
-use Rattle.std.proofs.Common.{option_map, refl, sym, ap, ◌∙◌, subst, arith, append_assoc}
-use Rattle.std.proofs.Math.Seq.{drop-append_seam}
-use Rattle.ciborium_ll.specs.declared.header.Header.{Header}
-use Rattle.ciborium_ll.specs.declared.header.Header.TheVariants as heads
-use Rattle.ciborium_ll.specs.declared.levels.Level.{Level}
-use Rattle.ciborium_ll.specs.declared.levels.Level.TheVariants.{Items, OpenItems, OpenKeys}
-use Rattle.ciborium_ll.specs.declared.levels.Level.TheVariants.{OpenValues, ByteChunks, TextChunks}
-use Rattle.ciborium_ll.specs.Head.{IsHead, open_byte}
-use Rattle.ciborium_ll.specs.Header.{SpellsHeader}
-use Rattle.ciborium_ll.specs.Item.{Item, unsigned, negative, bytes, text, array, map, tag, simple, float}
-use Rattle.ciborium_ll.specs.Item.{items_count, pairs_count}
-use Rattle.ciborium_ll.specs.Levels.{EndAll, IsPayloadOf, IsOpenBehind, AreItem, opened, behind_item, behind_bytes}
-use Rattle.ciborium_ll.specs.Levels.{behind_text, behind_break, behind_head, incomplete}
-use Rattle.ciborium_ll.specs.Spells.{Spells}
-use Rattle.ciborium_ll.specs.StringRefusal.{IsAllowed, StringKind, of_bytes, of_text, string_major}
-use Rattle.ciborium_ll.proofs.LevelEnds.{anywhere, end-to, to-end}
-use Rattle.ciborium_ll.proofs.LevelHeads.{to-behind}
-use Rattle.ciborium_ll.proofs.LevelsTo.{Standing, ItemTo, ItemsTo, LevelTo, LevelsTo, around, behind-around, items-to}
-use Rattle.ciborium_ll.proofs.LevelsTo.{pairs-to}
+use Rattle.std.proofs.{Common.{option_map, refl, sym, ap, ◌∙◌, subst, arith, append_assoc}, Math.Seq.drop-append_seam}
+use Rattle.ciborium_ll.specs.{declared.header.Header.Header, declared.levels.Level.Level}
+use Rattle.ciborium_ll.specs.declared.levels.Level.TheVariants.{Items, OpenItems, OpenKeys, OpenValues, ByteChunks}
+use Rattle.ciborium_ll.specs.{declared.levels.Level.TheVariants.TextChunks, Head.{IsHead, open_byte}}
+use Rattle.ciborium_ll.specs.{Header.SpellsHeader, Item.{Item, unsigned, negative, bytes, text, array, map, tag}}
+use Rattle.ciborium_ll.specs.{Item.{simple, float, items_count, pairs_count}, Levels.{EndAll, IsPayloadOf}}
+use Rattle.ciborium_ll.specs.Levels.{IsOpenBehind, AreItem, opened, behind_item, behind_bytes, behind_text}
+use Rattle.ciborium_ll.specs.{Levels.{behind_break, behind_head, incomplete}, Spells.Spells, StringRefusal.IsAllowed}
+use Rattle.ciborium_ll.specs.StringRefusal.{StringKind, of_bytes, of_text, string_major}
+use Rattle.ciborium_ll.proofs.{LevelEnds.{anywhere, end-to, to-end}, LevelHeads.to-behind, LevelsTo.{Standing, ItemTo}}
+use Rattle.ciborium_ll.proofs.LevelsTo.{ItemsTo, LevelTo, LevelsTo, around, behind-around, items-to, pairs-to}
 use Rattle.ciborium_ll.proofs.OneHeader.{one_header_at_front}
+use Rattle.ciborium_ll.specs.declared.header.Header.TheVariants as heads
 
 -- ---- levels of which something is still to come
 
@@ -33,8 +26,7 @@ incomplete-length : (levels : List Level) → length (incomplete levels) ≤ len
 incomplete-length (Items zero ∷ levels) = let le = incomplete-length levels in omega arith
 incomplete-length u = omega arith
 
-pub are-open : (levels : List Level) → incomplete levels ≡ levels → ¬ (levels ≡ []) →
-    AreOpen levels
+pub are-open : (levels : List Level) → incomplete levels ≡ levels → ¬ (levels ≡ []) → AreOpen levels
 are-open [] same some = some refl
 are-open (Items zero ∷ levels) same some =
     let le = incomplete-length levels in
@@ -43,9 +35,8 @@ are-open (Items zero ∷ levels) same some =
 are-open (level ∷ levels) same some = tt
 
 -- no head may stand where neither an item, nor a part, nor a break may
-none-behind : (header : Header) (levels : List Level) → behind_item levels ≡ None →
-    behind_bytes levels ≡ None → behind_text levels ≡ None → behind_break levels ≡ None →
-    behind_head header levels ≡ None
+none-behind : (header : Header) (levels : List Level) → behind_item levels ≡ None → behind_bytes levels ≡ None →
+    behind_text levels ≡ None → behind_break levels ≡ None → behind_head header levels ≡ None
 none-behind (heads.Bytes (Some n)) levels i b t k = b
 none-behind (heads.Bytes None) levels i b t k = ap (option_map (λ rest. ByteChunks ∷ rest)) i
 none-behind (heads.Text (Some n)) levels i b t k = t
@@ -59,8 +50,7 @@ none-behind heads.Break levels i b t k = k
 none-behind header levels i b t k = i
 
 -- where a head may stand, something is still to come
-pub behind-open : (header : Header) (levels more : List Level) →
-    behind_head header levels ≡ Some more → AreOpen levels
+pub behind-open : (header : Header) (levels more : List Level) → behind_head header levels ≡ Some more → AreOpen levels
 behind-open header [] more behind =
     let none = none-behind header [] refl refl refl refl in absurd cc
 behind-open header (Items zero ∷ levels) more behind =
@@ -84,8 +74,7 @@ pub data FirstOf (S : Standing) (level : Level) (levels : List Level) (b z : Lis
       FirstOf S level levels b z
 
 first-part : (h p t u r x b : List ℕ) → t ≡ h ++ p → r ≡ t ++ u → b ≡ r ++ x → b ≡ h ++ (p ++ (u ++ x))
-first-part h p t u r x b f g e =
-    e ∙ ap (λ (c : List ℕ). c ++ x) (g ∙ ap (λ (c : List ℕ). c ++ u) f) ∙ simp append_assoc
+first-part h p t u r x b f g e = e ∙ ap (λ (c : List ℕ). c ++ x) (g ∙ ap (λ (c : List ℕ). c ++ u) f) ∙ simp append_assoc
 
 pub first-of : (S : Standing) (level : Level) (levels : List Level) (b z : List ℕ) → AreOpen (level ∷ levels) →
     LevelsTo S (level ∷ levels) b z → FirstOf S level levels b z
@@ -198,9 +187,8 @@ module _ (S : Standing) (b c z : List ℕ) (levels more : List Level) (behind : 
             (sym (append_assoc r (255 ∷ []) c)) (items-to S (length more) is r (255 ∷ c) spelled
             (inside (λ n. S.MayAll n is) ((S.arrays (around levels) true is).1 w))),
       )
-  item-first (map false ps) s (r, spelled, (h, head, whole)) split w =
-      opening (heads.Map (Some (pairs_count ps))) (Items (pairs_count ps + pairs_count ps)) h r s head refl refl
-      split whole
+  item-first (map false ps) s (r, spelled, (h, head, whole)) split w = opening (heads.Map (Some (pairs_count ps)))
+      (Items (pairs_count ps + pairs_count ps)) h r s head refl refl split whole
       (pairs-to S (length more) ps r c spelled (inside (λ n. S.MayPairs n ps) ((S.maps (around levels) false ps).1 w)))
   item-first (map true ps) s (r, spelled, whole) split w =
       opening (heads.Map None) OpenKeys (open_byte 5 ∷ []) (r ++ (255 ∷ [])) s refl refl refl split whole (
@@ -252,8 +240,7 @@ payload-lengths header p q a b = ap length (a ∙ sym b)
 -- equally long beginnings leave the same
 rests-same : (p q a b : List ℕ) → length p ≡ length q → p ++ a ≡ q ++ b → a ≡ b
 rests-same p q a b long e =
-    sym (drop-append_seam p a) ∙ ap (drop (length p)) e ∙
-    ap (λ n. drop n (q ++ b)) long ∙ drop-append_seam q b
+    sym (drop-append_seam p a) ∙ ap (drop (length p)) e ∙ ap (λ n. drop n (q ++ b)) long ∙ drop-append_seam q b
 
 module _ (S : Standing) where
   pub behind-to : (header : Header) (h p y z : List ℕ) (levels more : List Level) → SpellsHeader h header →
@@ -280,8 +267,7 @@ module _ (S : Standing) where
 
 -- ---- what ends the levels, with nothing behind it
 
-pub front-of-end : (levels : List Level) (x : List ℕ) → AreOpen levels → EndAll levels x →
-    HeadTo anywhere levels x []
+pub front-of-end : (levels : List Level) (x : List ℕ) → AreOpen levels → EndAll levels x → HeadTo anywhere levels x []
 front-of-end levels x some ends = front anywhere levels x [] some (end-to levels x ends)
 
 pub ends-behind : (header : Header) (h payload : List ℕ) (levels more : List Level) (b : List ℕ) →

@@ -1,19 +1,15 @@
 -- What ends the levels behind a head, with the head and its payload before it, ends the levels where it stands.
-use Rattle.std.proofs.Common.{◌≡◌, ℕ, suc, ◌+◌, List, [], ◌∷◌, ◌++◌, length, Option, Some, None, true, false}
-use Rattle.std.proofs.Common.{refl, sym, ap, ◌∙◌, subst, append_assoc, option_map}
-use Rattle.ciborium_ll.specs.declared.header.Header.{Header}
-use Rattle.ciborium_ll.specs.declared.header.Header.TheVariants as heads
-use Rattle.ciborium_ll.specs.declared.levels.Level.{Level}
+use Rattle.std.proofs.Common.{◌≡◌, ℕ, suc, ◌+◌, List, [], ◌∷◌, ◌++◌, length, Option, Some, None, true, false, refl, sym}
+use Rattle.std.proofs.Common.{ap, ◌∙◌, subst, append_assoc, option_map}
+use Rattle.ciborium_ll.specs.{declared.header.Header.Header, declared.levels.Level.Level}
 use Rattle.ciborium_ll.specs.declared.levels.Level.TheVariants.{Items, OpenItems, OpenKeys, ByteChunks, TextChunks}
-use Rattle.ciborium_ll.specs.Head.{IsHead, open_byte}
-use Rattle.ciborium_ll.specs.Header.{SpellsHeader}
-use Rattle.ciborium_ll.specs.Item.{Item, unsigned, negative, bytes, text, array, map, tag, simple, float}
-use Rattle.ciborium_ll.specs.Levels.{IsPayloadOf, opened, behind_item, behind_bytes, behind_text, behind_break}
-use Rattle.ciborium_ll.specs.Levels.{behind_head}
-use Rattle.ciborium_ll.specs.Spells.{Spells, joined}
+use Rattle.ciborium_ll.specs.{Head.{IsHead, open_byte}, Header.SpellsHeader, Item.{Item, unsigned, negative, bytes}}
+use Rattle.ciborium_ll.specs.{Item.{text, array, map, tag, simple, float}, Levels.{IsPayloadOf, opened, behind_item}}
+use Rattle.ciborium_ll.specs.{Levels.{behind_bytes, behind_text, behind_break, behind_head}, Spells.{Spells, joined}}
 use Rattle.ciborium_ll.specs.StringRefusal.{IsAllowed, StringKind, of_bytes, of_text, string_major}
-use Rattle.ciborium_ll.proofs.LevelsTo.{Standing, IsFlat, ItemTo, ItemsTo, LevelTo, LevelsTo, ChunksTo}
-use Rattle.ciborium_ll.proofs.LevelsTo.{around, behind-around, item-to, to-items, to-pairs}
+use Rattle.ciborium_ll.proofs.LevelsTo.{Standing, IsFlat, ItemTo, ItemsTo, LevelTo, LevelsTo, ChunksTo, around}
+use Rattle.ciborium_ll.proofs.LevelsTo.{behind-around, item-to, to-items, to-pairs}
+use Rattle.ciborium_ll.specs.declared.header.Header.TheVariants as heads
 
 -- a head that takes a level: that of an array, of a map or of a tag
 abbrev pub TakesLevel : Header → Type 0
@@ -49,8 +45,7 @@ chunk-more kind h p y c head allowed (ps, r, parts, e) = (
 )
 
 module _ (S : Standing) where
-  array-closed : (n k : ℕ) (h y c : List ℕ) → IsHead h 4 k → S.Room n → ItemsTo S (suc n) k y c →
-      ItemTo S n (h ++ y) c
+  array-closed : (n k : ℕ) (h y c : List ℕ) → IsHead h 4 k → S.Room n → ItemsTo S (suc n) k y c → ItemTo S n (h ++ y) c
   array-closed n k h y c head room here = let (is, s, count, spelled, e, w) = to-items S (suc n) k y c here in (
     array false is,
     h ++ s,
@@ -91,8 +86,7 @@ module _ (S : Standing) where
         (S.maps n true ps).0 room w,
       )
 
-  tag-closed : (n t : ℕ) (h y c : List ℕ) → IsHead h 6 t → S.Room n → ItemsTo S (suc n) 1 y c →
-      ItemTo S n (h ++ y) c
+  tag-closed : (n t : ℕ) (h y c : List ℕ) → IsHead h 6 t → S.Room n → ItemsTo S (suc n) 1 y c → ItemTo S n (h ++ y) c
   tag-closed n t h y c head room (d, (i, s, one, e, w), f) = (
     tag t i,
     h ++ s,
@@ -163,10 +157,8 @@ module _ (S : Standing) where
     where
       by : (header : Header) → SpellsHeader h header → IsPayloadOf header p → behind_head header levels ≡ Some more →
           (TakesLevel header → S.Room (around levels)) → LevelsTo S levels (h ++ (p ++ y)) z
-      by (heads.Positive n) hd none behind room =
-          bare-to S h p y z levels more ends (unsigned n) tt none hd behind
-      by (heads.Negative n) hd none behind room =
-          bare-to S h p y z levels more ends (negative n) tt none hd behind
+      by (heads.Positive n) hd none behind room = bare-to S h p y z levels more ends (unsigned n) tt none hd behind
+      by (heads.Negative n) hd none behind room = bare-to S h p y z levels more ends (negative n) tt none hd behind
       by (heads.Bytes (Some n)) hd content behind room =
           bytes-to h p y z levels more (subst (IsHead h 2) (sym content.0) hd) content.1 behind ends
       by (heads.Bytes None) hd none behind room = opens-to S h p y z levels more ends ByteChunks none (λ c here. (
@@ -195,10 +187,7 @@ module _ (S : Standing) where
           (λ c here. open-map-closed S (around levels) h y c hd (room tt) here) behind
       by (heads.Tag t) hd none behind room = opens-to S h p y z levels more ends (Items 1) none
           (λ c here. tag-closed S (around levels) t h y c hd (room tt) here) behind
-      by (heads.Simple n) hd none behind room =
-          bare-to S h p y z levels more ends (simple n) tt none hd behind
-      by (heads.Float size) hd none behind room =
-          bare-to S h p y z levels more ends (float hd.0) tt none hd.1 behind
-      by heads.Break hd none behind room =
-          subst (λ (x : List ℕ). LevelsTo S levels (h ++ (x ++ y)) z) (sym none)
+      by (heads.Simple n) hd none behind room = bare-to S h p y z levels more ends (simple n) tt none hd behind
+      by (heads.Float size) hd none behind room = bare-to S h p y z levels more ends (float hd.0) tt none hd.1 behind
+      by heads.Break hd none behind room = subst (λ (x : List ℕ). LevelsTo S levels (h ++ (x ++ y)) z) (sym none)
           (subst (λ (x : List ℕ). LevelsTo S levels (x ++ y) z) (sym hd) (break-to S y z levels more behind ends))

@@ -1,25 +1,18 @@
 -- What misfits the open levels begins nothing that ends them, and so no item stands at the front.
 use Rattle.std.proofs.Common.{◌≡◌, ℕ, zero, suc, ◌/◌, ◌%◌, ltb, Bool, true, false, ◌&&◌, ◌||◌, List, [], ◌∷◌, ◌++◌}
 use Rattle.std.proofs.Common.{length, take, Some, refl, sym, ap, ◌∙◌, subst, arith, inl, inr, ◌⊎◌, ne_eqb, append_assoc}
-use Rattle.std.proofs.Math.Seq.{take-append_seam}
-use Rattle.std.proofs.lemmas.Nat.{div-mul-add, mod-mul-add}
+use Rattle.std.proofs.{Math.Seq.take-append_seam, lemmas.Nat.{div-mul-add, mod-mul-add}}
 use Rattle.std.specs.Prelude.{IsUtf8}
-use Rattle.ciborium_ll.specs.declared.header.Header.{Header}
-use Rattle.ciborium_ll.specs.declared.header.Header.TheVariants as heads
-use Rattle.ciborium_ll.specs.declared.levels.Level.{Level}
-use Rattle.ciborium_ll.specs.declared.levels.Level.TheVariants.{ByteChunks, TextChunks}
-use Rattle.ciborium_ll.specs.Head.{IsHead, information, argument_bytes, initial_byte}
-use Rattle.ciborium_ll.specs.Header.{SpellsHeader}
-use Rattle.ciborium_ll.specs.ItemLengths.{Misfits, ill_formed, misplaced, no_chunk, no_text}
-use Rattle.ciborium_ll.specs.ItemLengths.{BeginNoItem, BeginText, chunk_major}
+use Rattle.ciborium_ll.specs.{declared.header.Header.Header, declared.levels.Level.Level}
+use Rattle.ciborium_ll.specs.{declared.levels.Level.TheVariants.{ByteChunks, TextChunks}, Head.{IsHead, information}}
+use Rattle.ciborium_ll.specs.{Head.{argument_bytes, initial_byte}, Header.SpellsHeader, ItemLengths.Misfits}
+use Rattle.ciborium_ll.specs.ItemLengths.{ill_formed, misplaced, no_chunk, no_text, BeginNoItem, BeginText, chunk_major}
 use Rattle.ciborium_ll.specs.Levels.{EndAll, AreItem, IsOpenBehind, IsPayloadOf, behind_head, incomplete}
 use Rattle.ciborium_ll.specs.Refusal.{argument_length, is_reserved, is_low_simple, is_ill_formed}
-use Rattle.ciborium_ll.proofs.HeadAnswers.{Facts, header-begins}
-use Rattle.ciborium_ll.proofs.LevelEnds.{anywhere, can-end}
-use Rattle.ciborium_ll.proofs.LevelFronts.{are-open, HeadTo, front-of-end}
-use Rattle.ciborium_ll.proofs.OneHeader.{one_header_at_front}
-use Rattle.ciborium_ll.proofs.UniqueSpelling.{none_begins_another}
-use Rattle.ciborium_ll.proofs.UsableHeads.{information-below}
+use Rattle.ciborium_ll.proofs.{HeadAnswers.{Facts, header-begins}, LevelEnds.{anywhere, can-end}, LevelFronts.are-open}
+use Rattle.ciborium_ll.proofs.{LevelFronts.{HeadTo, front-of-end}, OneHeader.one_header_at_front}
+use Rattle.ciborium_ll.proofs.{UniqueSpelling.none_begins_another, UsableHeads.information-below}
+use Rattle.ciborium_ll.specs.declared.header.Header.TheVariants as heads
 
 -- ---- a spelled head is well-formed, whatever follows
 
@@ -36,8 +29,7 @@ ill-more (x ∷ []) t e = by (is_reserved (x / 32) (x % 32)) (is_low_simple x t)
     by false v e = absurd cc
 ill-more (x ∷ y ∷ b) t e = e
 
-high-more : (m a n : ℕ) (c r : List ℕ) → Facts m a c n →
-    is_low_simple (initial_byte m a) (c ++ r) ≡ false
+high-more : (m a n : ℕ) (c r : List ℕ) → Facts m a c n → is_low_simple (initial_byte m a) (c ++ r) ≡ false
 high-more m a n [] [] f = refl
 high-more m a n [] (y ∷ r) f = ap (λ t. t && ltb y 32) (ne_eqb (initial_byte m a) 248 other)
   where
@@ -50,8 +42,7 @@ high-more m a n [] (y ∷ r) f = ap (λ t. t && ltb y 32) (ne_eqb (initial_byte 
         omega arith
 high-more m a n (y ∷ c) r f = f.high
 
-pub spelled-well : (h r : List ℕ) (header : Header) → SpellsHeader h header →
-    is_ill_formed (h ++ r) ≡ false
+pub spelled-well : (h r : List ℕ) (header : Header) → SpellsHeader h header → is_ill_formed (h ++ r) ≡ false
 spelled-well h r header spelled =
     let (m, a, c, whole, f) = header-begins h header spelled in
     let x : ℕ = initial_byte m a in
@@ -75,13 +66,11 @@ head-part h m n (w, lt, whole) =
     (initial_byte m (information w n), argument_bytes w n, whole, inl major)
 
 part-first : (levels more : List Level) (header : Header) (h : List ℕ) (major : ℕ) →
-    chunk_major levels ≡ Some major → behind_head header levels ≡ Some more →
-    SpellsHeader h header → BeginsPart major h
+    chunk_major levels ≡ Some major → behind_head header levels ≡ Some more → SpellsHeader h header → BeginsPart major h
 part-first (ByteChunks ∷ levels) more (heads.Bytes (Some n)) h major kind behind spelled =
     let two : 2 ≡ major = cc kind in
     subst (λ m. BeginsPart m h) two (head-part h 2 n spelled)
-part-first (ByteChunks ∷ levels) more heads.Break h major kind behind spelled =
-    (255, [], spelled, inr refl)
+part-first (ByteChunks ∷ levels) more heads.Break h major kind behind spelled = (255, [], spelled, inr refl)
 part-first (ByteChunks ∷ levels) more (heads.Text (Some n)) h major kind behind spelled = absurd cc
 part-first (ByteChunks ∷ levels) more (heads.Array (Some n)) h major kind behind spelled = absurd cc
 part-first (ByteChunks ∷ levels) more (heads.Map (Some n)) h major kind behind spelled = absurd cc
@@ -89,8 +78,7 @@ part-first (ByteChunks ∷ levels) more header h major kind behind spelled = abs
 part-first (TextChunks ∷ levels) more (heads.Text (Some n)) h major kind behind spelled =
     let three : 3 ≡ major = cc kind in
     subst (λ m. BeginsPart m h) three (head-part h 3 n spelled)
-part-first (TextChunks ∷ levels) more heads.Break h major kind behind spelled =
-    (255, [], spelled, inr refl)
+part-first (TextChunks ∷ levels) more heads.Break h major kind behind spelled = (255, [], spelled, inr refl)
 part-first (TextChunks ∷ levels) more (heads.Bytes (Some n)) h major kind behind spelled = absurd cc
 part-first (TextChunks ∷ levels) more (heads.Array (Some n)) h major kind behind spelled = absurd cc
 part-first (TextChunks ∷ levels) more (heads.Map (Some n)) h major kind behind spelled = absurd cc
@@ -106,8 +94,7 @@ take-begins (suc n) [] t = (take (suc n) t, refl)
 take-begins (suc n) (x ∷ r) t =
     let (u, e) = take-begins n r t in (u, ap (λ (c : List ℕ). x ∷ c) e)
 
-text-begun : (n : ℕ) (r t p q : List ℕ) → r ++ t ≡ p ++ q → length p ≡ n → IsUtf8 p →
-    BeginText n (take n r)
+text-begun : (n : ℕ) (r t p q : List ℕ) → r ++ t ≡ p ++ q → length p ≡ n → IsUtf8 p → BeginText n (take n r)
 text-begun n r t p q e long utf8 =
     let (u, split) = take-begins n r t in
     let whole : take n r ++ u ≡ p =
@@ -126,10 +113,8 @@ misfit-front levels b t x z misfit f e = by misfit
     -- a head at the front is that of f
     one : (header : Header) (h r : List ℕ) → SpellsHeader h header → b ≡ h ++ r →
         (h ≡ f.head) × (r ++ t ≡ f.payload ++ (f.rest ++ z)) × (header ≡ f.header)
-    one header h r spelled whole =
-        one_header_at_front h f.head (r ++ t) (f.payload ++ (f.rest ++ z)) header f.header
-        spelled f.spelled
-        (sym (append_assoc h r t) ∙ ap (λ (c : List ℕ). c ++ t) (sym whole) ∙ placed)
+    one header h r spelled whole = one_header_at_front h f.head (r ++ t) (f.payload ++ (f.rest ++ z)) header f.header
+        spelled f.spelled (sym (append_assoc h r t) ∙ ap (λ (c : List ℕ). c ++ t) (sym whole) ∙ placed)
 
     by : Misfits levels b → ⊥
     by (ill_formed ill) =
@@ -152,8 +137,7 @@ misfit-front levels b t x z misfit f e = by misfit
         let is : x ≡ y = cc same in
         neither x y is part other broken
       where
-        neither : (x y : ℕ) → x ≡ y → (y / 32 ≡ major) ⊎ (y ≡ 255) → ¬ (x / 32 ≡ major) →
-            ¬ (x ≡ 255) → ⊥
+        neither : (x y : ℕ) → x ≡ y → (y / 32 ≡ major) ⊎ (y ≡ 255) → ¬ (x / 32 ≡ major) → ¬ (x ≡ 255) → ⊥
         neither x y is (inl m) other broken = other (ap (λ k. k / 32) is ∙ m)
         neither x y is (inr m) other broken = broken (is ∙ m)
     by (no_text n h r spelled whole none) =
@@ -165,8 +149,7 @@ misfit-front levels b t x z misfit f e = by misfit
 pub misfit-never : (levels : List Level) (b : List ℕ) → incomplete levels ≡ levels →
     ¬ (levels ≡ []) → Misfits levels b → (t x z : List ℕ) → b ++ t ≡ x ++ z → ¬ EndAll levels x
 misfit-never levels b normal some misfit t x z e ends =
-    misfit-front levels b t x z misfit
-    (front-of-end levels x (are-open levels normal some) ends) e
+    misfit-front levels b t x z misfit (front-of-end levels x (are-open levels normal some) ends) e
 
 -- ---- no item stands at the front
 
@@ -181,8 +164,7 @@ overlap (x ∷ a) b (y ∷ c) d e = by (overlap a b c d (cc e))
     first = cc e
 
     by : ((z : List ℕ) × (c ≡ a ++ z) × (b ≡ z ++ d)) ⊎ ((z : List ℕ) × (a ≡ c ++ z)) →
-        ((z : List ℕ) × (y ∷ c ≡ x ∷ (a ++ z)) × (b ≡ z ++ d)) ⊎
-        ((z : List ℕ) × (x ∷ a ≡ y ∷ (c ++ z)))
+        ((z : List ℕ) × (y ∷ c ≡ x ∷ (a ++ z)) × (b ≡ z ++ d)) ⊎ ((z : List ℕ) × (x ∷ a ≡ y ∷ (c ++ z)))
     by (inl (z, is, rest)) = inl (z, (cc), rest)
     by (inr (z, is)) = inr (z, (cc))
 
@@ -196,8 +178,7 @@ no-item c r levels normal some o misfit t s z e found =
     by (overlap c (r ++ t) s z (sym (append_assoc c r t) ∙ e))
   where
     by : ((x : List ℕ) × (s ≡ c ++ x) × (r ++ t ≡ x ++ z)) ⊎ ((y : List ℕ) × (c ≡ s ++ y)) → ⊥
-    by (inl (x, is, rest)) = misfit-never levels r normal some misfit t x z rest
-        (o.only x (subst AreItem is found))
+    by (inl (x, is, rest)) = misfit-never levels r normal some misfit t x z rest (o.only x (subst AreItem is found))
     by (inr (y, is)) =
         let (b, ends) = can-end levels in
         let whole : c ++ b ≡ s ++ (y ++ b) =

@@ -1,14 +1,12 @@
 -- Bytes at whose front stands what ends levels, of items that may stand there.
-use Rattle.std.proofs.Common.{◌≡◌, ℕ, zero, suc, ◌+◌, ◌≤◌, Bool, List, [], ◌∷◌, ◌++◌, length, Some, refl, sym, ap}
-use Rattle.std.proofs.Common.{◌∙◌, subst, arith, append_assoc, length-append, ◌↔◌}
-use Rattle.ciborium_ll.specs.declared.levels.Level.{Level}
-use Rattle.ciborium_ll.specs.declared.levels.Level.TheVariants.{Items, OpenItems, OpenKeys}
-use Rattle.ciborium_ll.specs.declared.levels.Level.TheVariants.{OpenValues, ByteChunks, TextChunks}
-use Rattle.ciborium_ll.specs.Item as items
+use Rattle.std.proofs.Common.{◌≡◌, ℕ, zero, suc, ◌+◌, ◌≤◌, Bool, List, [], ◌∷◌, ◌++◌, length, Some, refl, sym, ap, ◌∙◌}
+use Rattle.std.proofs.Common.{subst, arith, append_assoc, length-append, ◌↔◌}
+use Rattle.ciborium_ll.specs.{declared.levels.Level.Level, declared.levels.Level.TheVariants.{Items, OpenItems}}
+use Rattle.ciborium_ll.specs.declared.levels.Level.TheVariants.{OpenKeys, OpenValues, ByteChunks, TextChunks}
 use Rattle.ciborium_ll.specs.Item.{Item, array, map, tag, no_items, item, no_pairs, pair, items_count, pairs_count}
-use Rattle.ciborium_ll.specs.Levels.{behind_item, incomplete}
-use Rattle.ciborium_ll.specs.Spells.{AreChunks, Spells, SpellsItems, SpellsPairs}
+use Rattle.ciborium_ll.specs.{Levels.{behind_item, incomplete}, Spells.{AreChunks, Spells, SpellsItems, SpellsPairs}}
 use Rattle.ciborium_ll.specs.StringRefusal.{IsAllowed, StringKind, of_bytes, of_text, string_major}
+use Rattle.ciborium_ll.specs.Item as items
 
 -- no array, no map and no tag
 abbrev pub IsFlat : Item → Type 0
@@ -33,8 +31,7 @@ pub record Standing : Type 1 where
       (Room n → MayAll (suc n) is → May n (array o is)) × (May n (array o is) → MayAll (suc n) is)
   pub maps : (n : ℕ) (o : Bool) (ps : items.Pairs) →
       (Room n → MayPairs (suc n) ps → May n (map o ps)) × (May n (map o ps) → MayPairs (suc n) ps)
-  pub tags : (n t : ℕ) (i : Item) →
-      (Room n → May (suc n) i → May n (tag t i)) × (May n (tag t i) → May (suc n) i)
+  pub tags : (n t : ℕ) (i : Item) → (Room n → May (suc n) i → May n (tag t i)) × (May n (tag t i) → May (suc n) i)
 
 -- parts of a string and the break begin b, and z follows them
 abbrev pub ChunksTo : StringKind → List ℕ → List ℕ → Type 0
@@ -157,13 +154,11 @@ module _ (S : Standing) where
   pub not-done : (levels : List Level) (b z : List ℕ) → LevelsTo levels b z → LevelsTo (Items 0 ∷ levels) b z
   not-done levels b z ends = (b, refl, ends)
 
-  pub to-incomplete : (levels : List Level) (b z : List ℕ) → LevelsTo levels b z →
-      LevelsTo (incomplete levels) b z
+  pub to-incomplete : (levels : List Level) (b z : List ℕ) → LevelsTo levels b z → LevelsTo (incomplete levels) b z
   to-incomplete (Items zero ∷ levels) b z ends = to-incomplete levels b z (done levels b z ends)
   to-incomplete levels b z ends = ends
 
-  pub from-incomplete : (levels : List Level) (b z : List ℕ) → LevelsTo (incomplete levels) b z →
-      LevelsTo levels b z
+  pub from-incomplete : (levels : List Level) (b z : List ℕ) → LevelsTo (incomplete levels) b z → LevelsTo levels b z
   from-incomplete (Items zero ∷ levels) b z ends = not-done levels b z (from-incomplete levels b z ends)
   from-incomplete levels b z ends = ends
 

@@ -1,13 +1,12 @@
 -- What follows a head does not change how the head is judged.
 use Rattle.std.proofs.Common.{◌≡◌, ℕ, ◌+◌, ◌/◌, ◌%◌, ◌<◌, ◌≤◌, cond, ltb, eqb, Bool, true, false, ◌&&◌, ◌||◌, List, []}
 use Rattle.std.proofs.Common.{◌∷◌, ◌++◌, length, get_or, Option, Some, None, refl, sym, ap, ◌∙◌, arith, le-ltb}
-use Rattle.std.proofs.Common.{ltb-false, ltb-true, eqb-true, length-append}
-use Rattle.std.specs.Int.{from_be_bytes, w16, w32, w64}
-use Rattle.std.proofs.lemmas.Bool.{eqb-false}
+use Rattle.std.proofs.{Common.{ltb-false, ltb-true, eqb-true, length-append}, lemmas.Bool.eqb-false}
 use Rattle.std.proofs.lemmas.List.{take-append-le}
-use Rattle.ciborium_ll.specs.Bytes.{greatest_offset}
-use Rattle.ciborium_ll.specs.Refusal.{Refusal, io, syntax, too_long, argument_length, is_reserved, is_low_simple}
-use Rattle.ciborium_ll.specs.Refusal.{argument, payload_length, initial_refusal, head_refusal}
+use Rattle.std.specs.Int.{from_be_bytes, w16, w32, w64}
+use Rattle.ciborium_ll.specs.{Bytes.greatest_offset, Refusal.{Refusal, io, syntax, too_long, argument_length}}
+use Rattle.ciborium_ll.specs.Refusal.{is_reserved, is_low_simple, argument, payload_length, initial_refusal}
+use Rattle.ciborium_ll.specs.Refusal.{head_refusal}
 use Rattle.ciborium_ll.proofs.UsableHeads.{pass}
 
 cond-same : {A : Type 0} (t : Bool) (x y z w : A) → (t ≡ true → x ≡ z) → (t ≡ false → y ≡ w) → cond t x y ≡ cond t z w
@@ -107,7 +106,6 @@ refusal-more (x ∷ y ∷ b) r p o h n = by (ltb p greatest_offset) (ltb (p + 1)
     h
   where
     by : (t u : Bool) → cond t (cond u (Some (syntax p)) (initial_refusal (x / 32) (x % 32) (y ∷ b) p)) (Some too_long)
-        ≡ o →
-        cond t (cond u (Some (syntax p)) (initial_refusal (x / 32) (x % 32) (y ∷ (b ++ r)) p)) (Some too_long) ≡ o
+        ≡ o → cond t (cond u (Some (syntax p)) (initial_refusal (x / 32) (x % 32) (y ∷ (b ++ r)) p)) (Some too_long) ≡ o
     by true false h = initial-more (x / 32) (x % 32) p (y ∷ b) r o h n
     by u v h = h

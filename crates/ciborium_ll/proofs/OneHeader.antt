@@ -1,20 +1,16 @@
 -- Bytes have at most one spelled header at their front: what the reader of heads finds there says which.
 use Rattle.std.proofs.Common.{◌≡◌, ℕ, ◌<◌, cond, eqb, List, [], ◌∷◌, ◌++◌, length, drop, Option, Some, None, refl, sym}
-use Rattle.std.proofs.Common.{ap, ◌∙◌, inl, inr, arith}
-use Rattle.std.proofs.lemmas.List.{append_cancel_right}
-use lib.Seq.{drop_at}
-use Rattle.ciborium_ll.specs.declared.header.Header.{Header}
-use Rattle.ciborium_ll.specs.declared.header.Header.TheVariants.{Positive, Negative, Bytes, Text, Array, Map, Tag}
-use Rattle.ciborium_ll.specs.declared.header.Header.TheVariants.{Simple, Float, Break}
-use Rattle.ciborium_ll.specs.Header.{SpellsHeader, IsCounted}
-use Rattle.ciborium_ll.specs.laws.HeaderLaws.{OneHeader, OneHeaderAtFront}
+use Rattle.std.proofs.{Common.{ap, ◌∙◌, inl, inr, arith}, lemmas.List.append_cancel_right}
+use Rattle.ciborium_ll.specs.{declared.header.Header.Header, declared.header.Header.TheVariants.{Positive, Negative}}
+use Rattle.ciborium_ll.specs.declared.header.Header.TheVariants.{Bytes, Text, Array, Map, Tag, Simple, Float, Break}
+use Rattle.ciborium_ll.specs.{Header.{SpellsHeader, IsCounted}, laws.HeaderLaws.{OneHeader, OneHeaderAtFront}}
 use Rattle.ciborium_ll.proofs.FrontHeads.{Front, nothing, counted, opened, plain, raw, front, front_open, front-head}
 use Rattle.ciborium_ll.proofs.FrontHeads.{front-simple}
+use lib.Seq.{drop_at}
 
 abbrev counted_header : ℕ → ℕ → Header
-counted_header m n =
-    cond (eqb m 0) (Positive n) (cond (eqb m 1) (Negative n)
-    (cond (eqb m 2) (Bytes (Some n)) (cond (eqb m 3) (Text (Some n))
+counted_header m n = cond (eqb m 0)
+    (Positive n) (cond (eqb m 1) (Negative n) (cond (eqb m 2) (Bytes (Some n)) (cond (eqb m 3) (Text (Some n))
     (cond (eqb m 4) (Array (Some n)) (cond (eqb m 5) (Map (Some n)) (Tag n))))))
 
 abbrev opened_header : ℕ → Header
@@ -55,9 +51,8 @@ found-counted b r m None H lt e o s = found (b ++ r) (opened m r) (H None) r
 -- behind an initial byte and raw bytes
 found-float : (b bytes r : List ℕ) (first size k : ℕ) → front (first ∷ (bytes ++ r)) ≡ raw k (bytes ++ r) →
     b ≡ first ∷ bytes → length bytes ≡ k → length bytes ≡ size → Stands (b ++ r) (Float size) r
-found-float b bytes r first size k f e l s =
-    found (b ++ r) (raw k (bytes ++ r)) (Float size) r (ap (λ c. front (c ++ r)) e ∙ f) (ap Float (sym l ∙ s))
-    (drop_at bytes r k l)
+found-float b bytes r first size k f e l s = found (b ++ r)
+    (raw k (bytes ++ r)) (Float size) r (ap (λ c. front (c ++ r)) e ∙ f) (ap Float (sym l ∙ s)) (drop_at bytes r k l)
 
 -- a header that is spelled at the front is found there
 spelled-stands : (b r : List ℕ) (h : Header) → SpellsHeader b h → Stands (b ++ r) h r

@@ -1,22 +1,16 @@
 -- The parts of an open string, one behind the other.
 use Rattle.std.proofs.Common.{◌≡◌, ℕ, ◌+◌, ◌<◌, ◌≤◌, List, [], ◌∷◌, ◌++◌, length, Option, Ok, Err, refl, sym, ap, ◌∙◌}
 use Rattle.std.proofs.Common.{subst, arith, append_assoc, append-nil, length-append, inl, inr}
-use Rattle.ciborium_ll.specs.declared.header.Header.{Header}
-use Rattle.ciborium_ll.specs.declared.header.Header.TheVariants as header
-use Rattle.ciborium_ll.specs.declared.header.Error.{Error}
+use Rattle.std.proofs.KnownBytes.{Consumes-nil}
+use Rattle.ciborium_ll.specs.{declared.header.Header.Header, declared.header.Error.Error}
 use Rattle.ciborium_ll.specs.declared.header.Error.TheVariants.{Syntax, TooLong}
-use Rattle.ciborium_ll.specs.declared.strings.Chunk.TheVariants.{Other}
-use Rattle.ciborium_ll.specs.Bytes.{greatest_offset}
-use Rattle.ciborium_ll.specs.Head.{IsHead, break_byte}
-use Rattle.ciborium_ll.specs.Header.{SpellsHeader, announced_length}
-use Rattle.ciborium_ll.specs.ReaderSteps.{Advances, IsHeadTaken}
-use Rattle.ciborium_ll.specs.Spells.{IsDefiniteString, AreChunks, joined}
+use Rattle.ciborium_ll.specs.{declared.strings.Chunk.TheVariants.Other, Bytes.greatest_offset, Head.IsHead}
+use Rattle.ciborium_ll.specs.{Head.break_byte, Header.{SpellsHeader, announced_length}, ReaderSteps.Advances}
+use Rattle.ciborium_ll.specs.{ReaderSteps.IsHeadTaken, Spells.{IsDefiniteString, AreChunks, joined}}
 use Rattle.ciborium_ll.specs.StringRefusal.{StringKind, of_bytes, of_text, string_major, IsAllowed}
 use Rattle.ciborium_ll.specs.Strings.{string_header, IsChunk, IsPayloadTaken, IsChunkTaken, AreChunksTaken}
-use Rattle.ciborium_ll.proofs.Advancing.{Advances-then}
-use Rattle.ciborium_ll.proofs.UsableHeads.{usable-fits}
-use Rattle.ciborium_ll.proofs.HeadAnswers.{header-fits}
-use Rattle.std.proofs.KnownBytes.{Consumes-nil}
+use Rattle.ciborium_ll.proofs.{Advancing.Advances-then, UsableHeads.usable-fits, HeadAnswers.header-fits}
+use Rattle.ciborium_ll.specs.declared.header.Header.TheVariants as header
 
 -- ---- one part more at the end
 
@@ -34,10 +28,8 @@ joined-more (q ∷ ps) p = ap (λ (c : List ℕ). q ++ c) (joined-more ps p) ∙
 
 -- good parts were taken between the offsets p and q, and their payloads appended
 abbrev pub GoodParts : StringKind → Option (List ℕ) → Option (List ℕ) → ℕ → ℕ → List ℕ → List ℕ → Type 0
-GoodParts kind a b p q old new =
-    (payloads : List (List ℕ)) × (s : List ℕ) × AreChunks (string_major kind) (IsAllowed kind) s payloads ×
-    (new ≡ old ++ joined payloads) ×
-    Advances a b p q (λ x. x ≡ s) × (q ≤ greatest_offset)
+GoodParts kind a b p q old new = (payloads : List (List ℕ)) × (s : List ℕ) × AreChunks (string_major kind)
+    (IsAllowed kind) s payloads × (new ≡ old ++ joined payloads) × Advances a b p q (λ x. x ≡ s) × (q ≤ greatest_offset)
 
 string-head : (kind : StringKind) (h : List ℕ) (n : ℕ) → SpellsHeader h (string_header kind n) →
     IsHead h (string_major kind) n
@@ -52,8 +44,7 @@ WholePayload kind n b added = (length b ≡ n) × IsAllowed kind b × (added ≡
 abbrev pub WholeParts : StringKind → List ℕ → ℕ → List ℕ → Type 0
 WholeParts kind b p added =
     (payloads : List (List ℕ)) × (s : List ℕ) × AreChunks (string_major kind) (IsAllowed kind) s payloads ×
-    (p + length b ≤ greatest_offset) ×
-    (b ≡ s ++ break_byte ∷ []) × (added ≡ joined payloads)
+    (p + length b ≤ greatest_offset) × (b ≡ s ++ break_byte ∷ []) × (added ≡ joined payloads)
 
 -- a part was taken
 pub parts-more : {E : Type 0} (kind : StringKind) (a b c d : Option (List ℕ)) (p q r t n : ℕ) (old mid new : List ℕ)
@@ -85,8 +76,7 @@ parts-more {E} kind a b c d p q r t n old mid new h is (ps, s, parts, was, taken
 
 -- the break
 pub parts-end : {E : Type 0} (kind : StringKind) (a b c : Option (List ℕ)) (p q r : ℕ) (old mid : List ℕ) (h : Header) →
-    h ≡ header.Break →
-    GoodParts kind a b p q old mid → Advances b c q r (λ x. IsHeadTaken {E = E} x q (Ok h)) →
+    h ≡ header.Break → GoodParts kind a b p q old mid → Advances b c q r (λ x. IsHeadTaken {E = E} x q (Ok h)) →
     Advances a c p r (λ x. (added : List ℕ) × (mid ≡ old ++ added) × WholeParts kind x p added)
 parts-end {E} kind a b c p q r old mid h is (ps, s, parts, was, taken, below) head =
     let broken : head.0 ≡ break_byte ∷ [] = subst (SpellsHeader head.0) is head.3.answers.0 in
@@ -131,18 +121,16 @@ parts-refused {E} kind a b c p q r old mid new e (ps, s, parts, was, taken, belo
 
 -- a refused payload appended nothing
 pub nothing-appended : {E : Type 0} (kind : StringKind) (n p : ℕ) (e : Error E) (added b : List ℕ) →
-    IsPayloadTaken {E = E} kind n p b (Err e) added →
-    (added ≡ []) × IsPayloadTaken {E = E} kind n p b (Err e) []
+    IsPayloadTaken {E = E} kind n p b (Err e) added → (added ≡ []) × IsPayloadTaken {E = E} kind n p b (Err e) []
 nothing-appended kind n p (Syntax at) added b h = (h.3, (h.0, h.1, h.2, refl))
 nothing-appended kind n p TooLong added b h = absurd h
 nothing-appended kind n p u added b h = (h.1, (h.0, refl))
 
 -- the payload of a part was refused
 pub payload-refused : {E : Type 0} (kind : StringKind) (b c d : Option (List ℕ)) (k q r t n : ℕ) (mid new : List ℕ)
-    (h : Header) (e : Error E) → k ≡ q → h ≡ string_header kind n →
-    Advances b c q r (λ x. IsHeadTaken {E = E} x q (Ok h)) →
-    Advances c d r t (λ x. (added : List ℕ) × (new ≡ mid ++ added) ×
-    IsPayloadTaken {E = E} kind n k x (Err e) added) →
+    (h : Header) (e : Error E) →
+    k ≡ q → h ≡ string_header kind n → Advances b c q r (λ x. IsHeadTaken {E = E} x q (Ok h)) →
+    Advances c d r t (λ x. (added : List ℕ) × (new ≡ mid ++ added) × IsPayloadTaken {E = E} kind n k x (Err e) added) →
     (new ≡ mid) × Advances b d q t (λ x. IsChunkTaken {E = E} kind x q e)
 payload-refused {E} kind b c d k q r t n mid new h e here is head payload =
     let none = nothing-appended {E = E} kind n q e payload.3.0 payload.0

@@ -1,13 +1,11 @@
 -- Payloads that are appended piece by piece.
-use Rattle.std.proofs.Common.{◌≡◌, ℕ, ◌+◌, ◌-◌, List, [], ◌++◌, append-nil, subst, length}
-use Rattle.std.proofs.Common.{take, drop, Option, Ok, Err, refl, sym, ap, ◌∙◌, arith, append_assoc, length-append}
-use Rattle.std.proofs.lemmas.List.{take_all}
+use Rattle.std.proofs.Common.{◌≡◌, ℕ, ◌+◌, ◌-◌, List, [], ◌++◌, append-nil, subst, length, take, drop, Option, Ok, Err}
+use Rattle.std.proofs.{Common.{refl, sym, ap, ◌∙◌, arith, append_assoc, length-append}, lemmas.List.take_all}
 use Rattle.std.proofs.Math.Seq.{take-append_seam, drop-append_seam}
-use Rattle.ciborium_ll.specs.declared.header.Error.{Error}
-use Rattle.ciborium_ll.specs.declared.header.Error.TheVariants.{Io, Syntax, TooLong, Memory}
-use Rattle.ciborium_ll.specs.ReaderSteps.{Advances}
-use Rattle.ciborium_ll.specs.StringRefusal.{IsAllowed, StringKind}
-use Rattle.ciborium_ll.specs.Strings.{Extends, Grows, IsPayloadTaken, IsPiecesTaken, IsSomeTaken}
+use Rattle.ciborium_ll.specs.{declared.header.Error.Error, declared.header.Error.TheVariants.{Io, Syntax, TooLong}}
+use Rattle.ciborium_ll.specs.{declared.header.Error.TheVariants.Memory, ReaderSteps.Advances, StringRefusal.IsAllowed}
+use Rattle.ciborium_ll.specs.{StringRefusal.StringKind, Strings.{Extends, Grows, IsPayloadTaken, IsPiecesTaken}}
+use Rattle.ciborium_ll.specs.Strings.{IsSomeTaken}
 use Rattle.ciborium_ll.proofs.Advancing.{Advances-map, Advances-then}
 
 -- ---- piece after piece
@@ -31,8 +29,7 @@ some-appended E a b c p q r n left size old mid new before now =
 
 behind-some : {E : Type 0} (n left : ℕ) (old mid new x y : List ℕ) (e : Error E) → Appended n left x old mid →
     IsSomeTaken {E = E} left y (Err e) mid new → IsPiecesTaken {E = E} n (x ++ y) (Err e) old new
-behind-some n left old mid new x y (Io e) s h =
-    (omega (arith, s.1, h.0, length-append x y), (x, h.1 ∙ s.0))
+behind-some n left old mid new x y (Io e) s h = (omega (arith, s.1, h.0, length-append x y), (x, h.1 ∙ s.0))
 behind-some n left old mid new x y Memory s h = (omega (arith, s.1, h.0, length-append x y), (x, h.1 ∙ s.0))
 behind-some n left old mid new x y u s h = absurd h
 
@@ -82,8 +79,7 @@ payload-dropped {E} kind a b p q n head start old mid new e at same =
 
 -- the payload is none of its kind
 pub payload-refused : (kind : StringKind) (a b : Option (List ℕ)) (p q n head start : ℕ) (old mid new : List ℕ) →
-    start ≡ length old → new ≡ take start mid →
-    ¬ IsAllowed kind (take (length mid - start) (drop start mid)) →
+    start ≡ length old → new ≡ take start mid → ¬ IsAllowed kind (take (length mid - start) (drop start mid)) →
     Advances a b p q (λ x. (length x ≡ n) × (mid ≡ old ++ x)) →
     Advances a b p q (λ x. Grows old new (λ added. (head ≡ head) × (length x ≡ n) × ¬ IsAllowed kind x × (added ≡ [])))
 payload-refused kind a b p q n head start old mid new at same not =
@@ -100,7 +96,6 @@ pub payload-whole : (kind : StringKind) (a b : Option (List ℕ)) (p q n start :
     start ≡ length old → IsAllowed kind (take (length mid - start) (drop start mid)) →
     Advances a b p q (λ x. (length x ≡ n) × (mid ≡ old ++ x)) →
     Advances a b p q (λ x. Grows old mid (λ added. (length x ≡ n) × IsAllowed kind x × (added ≡ x)))
-payload-whole kind a b p q n start old mid at allowed =
-    Advances-map a b p q (λ x. (length x ≡ n) × (mid ≡ old ++ x))
+payload-whole kind a b p q n start old mid at allowed = Advances-map a b p q (λ x. (length x ≡ n) × (mid ≡ old ++ x))
     (λ x. Grows old mid (λ added. (length x ≡ n) × IsAllowed kind x × (added ≡ x)))
     (λ x h. (x, h.1, (h.0, subst (IsAllowed kind) (behind old mid x start at h.1) allowed, refl)))

@@ -1,7 +1,6 @@
 -- The laws of the shortest head.
 use Rattle.std.proofs.Common.{◌≡◌, ℕ, suc, ◌^◌, ◌<◌, ◌≤◌, length, refl, ap, ◌∙◌, arith}
-use Rattle.ciborium_ll.specs.Head.{Width, within, capacity}
-use Rattle.ciborium_ll.specs.Head.{argument_bytes, head_in, narrowest, shortest_head}
+use Rattle.ciborium_ll.specs.Head.{Width, within, capacity, argument_bytes, head_in, narrowest, shortest_head}
 use Rattle.ciborium_ll.specs.laws.SpellingLaws.{ShortestIsHead, NoneIsShorter, NoOtherIsAsShort}
 
 -- the narrowest width holds its number

@@ -1,8 +1,7 @@
 -- The laws of spellings: the reader of items finds each item that is spelled at the front, and finds one alone.
 use Rattle.std.proofs.Common.{◌≡◌, ℕ, ◌+◌, List, [], ◌++◌, Option, Some, None, sym, ap, ◌∙◌, arith, append-nil, refl}
 use Rattle.std.proofs.lemmas.List.{append_cancel_right}
-use Rattle.ciborium_ll.specs.Item.{Item}
-use Rattle.ciborium_ll.specs.laws.SpellingLaws.{NoneBeginsAnother, OneItem, OneAtFront}
+use Rattle.ciborium_ll.specs.{Item.Item, laws.SpellingLaws.{NoneBeginsAnother, OneItem, OneAtFront}}
 use Rattle.ciborium_ll.proofs.ItemReader.{found, read, weight, read-again}
 
 -- the item that was found, or i

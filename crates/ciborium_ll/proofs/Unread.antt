@@ -1,24 +1,18 @@
 -- What calls answer, said of all that is unread.
 use Rattle.std.proofs.Common.{◌≡◌, ℕ, ◌+◌, ◌<◌, List, [], ◌∷◌, ◌++◌, length, Option, Some, None, Result, Ok, Err, IfErr}
-use Rattle.std.proofs.Common.{refl, sym, ap, ◌∙◌, subst, append_assoc, append-nil, inl, inr}
-use Rattle.std.specs.Io.KnownBytes.{Consumes}
-use Rattle.std.specs.Prelude.{IsUtf8}
-use Rattle.std.proofs.lemmas.Str.{IsUtf8-append, IsUtf8-nil}
-use Rattle.ciborium_ll.specs.declared.header.Header.{Header}
-use Rattle.ciborium_ll.specs.declared.header.Header.TheVariants as header
-use Rattle.ciborium_ll.specs.declared.header.Error.{Error}
-use Rattle.ciborium_ll.specs.declared.header.Error.TheVariants.{Io, Syntax, TooLong, Memory}
-use Rattle.ciborium_ll.specs.Head.{break_byte}
-use Rattle.ciborium_ll.specs.Header.{SpellsHeader}
-use Rattle.ciborium_ll.specs.Decoding.{PullsTo}
-use Rattle.ciborium_ll.specs.ReaderSteps.{Advances, IsRefusalOf, IsHeadTaken}
+use Rattle.std.proofs.{Common.{refl, sym, ap, ◌∙◌, subst, append_assoc, append-nil, inl, inr}, lemmas.Str.IsUtf8-append}
+use Rattle.std.proofs.lemmas.Str.{IsUtf8-nil}
+use Rattle.std.specs.{Io.KnownBytes.Consumes, Prelude.IsUtf8}
+use Rattle.ciborium_ll.specs.{declared.header.Header.Header, declared.header.Error.Error}
+use Rattle.ciborium_ll.specs.{declared.header.Error.TheVariants.{Io, Syntax, TooLong, Memory}, Head.break_byte}
+use Rattle.ciborium_ll.specs.{Header.SpellsHeader, Decoding.PullsTo, ReaderSteps.{Advances, IsRefusalOf, IsHeadTaken}}
 use Rattle.ciborium_ll.specs.Refusal.{Refusal, io, syntax, too_long, HeadRefuses, IsUsable, HasHead, IsAtFront}
-use Rattle.ciborium_ll.specs.Spells.{AreChunks, joined}
-use Rattle.ciborium_ll.specs.StringRefusal.{StringKind, of_bytes, of_text, string_major, IsAllowed, PayloadRefuses}
-use Rattle.ciborium_ll.specs.StringRefusal.{HasStringHead, ChunkRefuses, ChunksRefuse, ContentRefuses}
-use Rattle.ciborium_ll.specs.Strings.{string_header, IsPayloadTaken, IsChunkTaken, AreChunksTaken, IsStringTaken}
-use Rattle.ciborium_ll.proofs.MoreBytes.{refusal-more}
-use Rattle.ciborium_ll.proofs.OneHeader.{one_header_at_front}
+use Rattle.ciborium_ll.specs.{Spells.{AreChunks, joined}, StringRefusal.{StringKind, of_bytes, of_text, string_major}}
+use Rattle.ciborium_ll.specs.StringRefusal.{IsAllowed, PayloadRefuses, HasStringHead, ChunkRefuses, ChunksRefuse}
+use Rattle.ciborium_ll.specs.{StringRefusal.ContentRefuses, Strings.{string_header, IsPayloadTaken, IsChunkTaken}}
+use Rattle.ciborium_ll.specs.Strings.{AreChunksTaken, IsStringTaken}
+use Rattle.ciborium_ll.proofs.{MoreBytes.refusal-more, OneHeader.one_header_at_front}
+use Rattle.ciborium_ll.specs.declared.header.Header.TheVariants as header
 
 -- what known bytes have left behind those that were taken
 pub known-rest : (b : List ℕ) (new : Option (List ℕ)) (x : List ℕ) → Consumes (Some b) new x → (r : List ℕ) ×
@@ -59,8 +53,7 @@ taken-whole x r b left is rest end = is ∙ ap (λ (l : List ℕ). x ++ l) (insi
 
 -- bytes of a head that were refused, with what follows
 pub head-refuses : {E : Type 0} (x r b : List ℕ) (p : ℕ) (left : Option (List ℕ)) (e : Error E) →
-    IsHeadTaken {E = E} x p (Err e) → b ≡ x ++ r → left ≡ Some r →
-    IsRefusalOf left e (HeadRefuses b p)
+    IsHeadTaken {E = E} x p (Err e) → b ≡ x ++ r → left ≡ Some r → IsRefusalOf left e (HeadRefuses b p)
 head-refuses x r b p left (Io e) t is rest = λ end. subst (λ c. HeadRefuses c p io)
     (sym (taken-whole x r b left is rest end)) t.answers
 head-refuses x r b p left (Syntax at) t is rest = subst (λ c. HeadRefuses c p (syntax at)) (sym is)
@@ -70,8 +63,7 @@ head-refuses x r b p left TooLong t is rest = subst (λ c. HeadRefuses c p too_l
 head-refuses x r b p left Memory t is rest = tt
 
 pub reads-head : {E : Type 0} (old new : Option (List ℕ)) (b : List ℕ) (p q : ℕ) (result : Result Header (Error E)) →
-    old ≡ Some b →
-    Advances old new p q (λ x. IsHeadTaken {E = E} x p result) → ReadsHead {E = E} new b p q result
+    old ≡ Some b → Advances old new p q (λ x. IsHeadTaken {E = E} x p result) → ReadsHead {E = E} new b p q result
 reads-head {E} old new b p q (Ok h) e (x, taken, count, t, bytes) =
     let k = rest-of old new b x e taken in
     (x, k.0, t.answers.0, subst (λ c. IsUsable c p) (sym k.2) (usable-more x k.0 p t.answers.1), k.2, count, k.1)
@@ -97,9 +89,8 @@ pub payload-refuses : {E : Type 0} (kind : StringKind) (n p : ℕ) (left : Optio
 payload-refuses kind n p left (Io e) added x r b t is rest =
     λ end. PayloadRefuses.ends_early (subst (λ (c : List ℕ). length c < n) (sym (taken-whole x r b left is rest end))
     t.0)
-payload-refuses kind n p left (Syntax at) added x r b t is rest =
-    subst (λ k. PayloadRefuses kind n p b (syntax k)) (sym t.0)
-    (subst (λ c. PayloadRefuses kind n p c (syntax p)) (sym is) (PayloadRefuses.not_allowed x r t.1 t.2))
+payload-refuses kind n p left (Syntax at) added x r b t is rest = subst (λ k. PayloadRefuses kind n p b (syntax k))
+    (sym t.0) (subst (λ c. PayloadRefuses kind n p c (syntax p)) (sym is) (PayloadRefuses.not_allowed x r t.1 t.2))
 payload-refuses kind n p left TooLong added x r b t is rest = absurd t
 payload-refuses kind n p left Memory added x r b t is rest = tt
 
@@ -130,11 +121,9 @@ break-begun x r b h s is (q, whole) = (one_header_at_front x (break_byte ∷ [])
 
 -- where a part was refused, what was left refuses so
 pub part-refuses : {E : Type 0} (kind : StringKind) (x r b : List ℕ) (p : ℕ) (left : Option (List ℕ)) (e : Error E) →
-    IsChunkTaken {E = E} kind x p e → b ≡ x ++ r →
-    left ≡ Some r → IsRefusalOf left e (ChunkRefuses kind b p)
-part-refuses {E} kind x r b p left e (inl t) is rest =
-    refused-map left e (HeadRefuses b p) (ChunkRefuses kind b p) (λ f h. ChunkRefuses.no_head h)
-    (head-refuses {E = E} x r b p left e t is rest)
+    IsChunkTaken {E = E} kind x p e → b ≡ x ++ r → left ≡ Some r → IsRefusalOf left e (ChunkRefuses kind b p)
+part-refuses {E} kind x r b p left e (inl t) is rest = refused-map left e (HeadRefuses b p)
+    (ChunkRefuses kind b p) (λ f h. ChunkRefuses.no_head h) (head-refuses {E = E} x r b p left e t is rest)
 part-refuses {E} kind x r b p left e (inr (inl (h, t, other, here))) is rest =
     subst (λ k. IsRefusalOf left k (ChunkRefuses kind b p)) (sym here)
     (ChunkRefuses.other (subst (λ c. IsUsable c p) (sym is) (usable-more x r p t.answers.1))
@@ -156,9 +145,8 @@ parts-refuse {E} kind x r b q left e added (ps, s, parts, fits, (y, split, part)
     (part-refuses {E = E} kind y r (y ++ r) (q + length s) left e part refl rest)
 
 pub string-refuses : {E : Type 0} (kind : StringKind) (len : Option ℕ) (p : ℕ) (x r b : List ℕ) (q : ℕ)
-    (left : Option (List ℕ)) (e : Error E) (added : List ℕ) →
-    IsStringTaken {E = E} kind len p x q (Err e) added → b ≡ x ++ r → left ≡ Some r →
-    IsRefusalOf left e (ContentRefuses kind len p b q)
+    (left : Option (List ℕ)) (e : Error E) (added : List ℕ) → IsStringTaken {E = E} kind len p x q (Err e) added →
+    b ≡ x ++ r → left ≡ Some r → IsRefusalOf left e (ContentRefuses kind len p b q)
 string-refuses {E} kind (Some n) p x r b q left (Io e) added (inl (over, is, none, nothing)) split rest = absurd cc
 string-refuses {E} kind (Some n) p x r b q left (Syntax at) added (inl (over, is, none, nothing)) split rest = absurd cc
 string-refuses {E} kind (Some n) p x r b q left TooLong added (inl (over, is, none, nothing)) split rest =

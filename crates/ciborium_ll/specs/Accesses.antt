@@ -1,12 +1,8 @@
 -- What is taken of a reader that may hand out the bytes that it holds.
-use Rattle.std.specs.Prelude.{◌≡◌, ℕ, ◌<◌, ◌≤◌, Bool, true, false, List, [], ◌++◌, length, Option}
-use Rattle.std.specs.Prelude.{Some, None}
-use Rattle.std.specs.Prelude.{Result, Ok, Err, IfErr}
-use Rattle.std.specs.Io.KnownBytes.{Consumes, Keeps}
-use Rattle.ciborium_ll.specs.declared.header.Header.{Header}
-use Rattle.ciborium_ll.specs.declared.header.Error.{Error}
-use Rattle.ciborium_ll.specs.declared.header.Error.TheVariants.{Io, Syntax, TooLong, Memory}
-use Rattle.ciborium_ll.specs.Bytes.{AreBytes}
+use Rattle.std.specs.Prelude.{◌≡◌, ℕ, ◌<◌, ◌≤◌, Bool, true, false, List, [], ◌++◌, length, Option, Some, None, Result}
+use Rattle.std.specs.{Prelude.{Ok, Err, IfErr}, Io.KnownBytes.{Consumes, Keeps}}
+use Rattle.ciborium_ll.specs.{declared.header.Header.Header, declared.header.Error.Error}
+use Rattle.ciborium_ll.specs.{declared.header.Error.TheVariants.{Io, Syntax, TooLong, Memory}, Bytes.AreBytes}
 use Rattle.ciborium_ll.specs.ReaderSteps.{IsHeadTaken}
 
 -- what may be left where a call could not be given more: nothing of a reader that cannot fail
@@ -47,10 +43,8 @@ abbrev pub AppendsHeld : {E : Type 0} → Option (List ℕ) → Option (List ℕ
     Result (Option ℕ) (Error E) → List ℕ → List ℕ → Type 0
 AppendsHeld old new can_fail most (Ok None) before after = Keeps old new × (after ≡ before)
 AppendsHeld old new can_fail most (Ok (Some n)) before after = (n ≤ most) ×
-    TakesSome old new n (λ b. after ≡ before ++ b) ×
-    (n ≡ 0 → 0 < most → IsUsedUp can_fail new)
-AppendsHeld old new can_fail most (Err (Io e)) before after = Keeps old new × (after ≡ before) ×
-    IsUsedUp can_fail new
+    TakesSome old new n (λ b. after ≡ before ++ b) × (n ≡ 0 → 0 < most → IsUsedUp can_fail new)
+AppendsHeld old new can_fail most (Err (Io e)) before after = Keeps old new × (after ≡ before) × IsUsedUp can_fail new
 AppendsHeld old new can_fail most (Err (Syntax p)) before after = ⊥
 AppendsHeld old new can_fail most (Err TooLong) before after = ⊥
 AppendsHeld old new can_fail most (Err Memory) before after = Keeps old new × (after ≡ before)
@@ -61,8 +55,7 @@ abbrev pub VisitsHeld : {V E : Type 0} → Option (List ℕ) → Option (List �
     (List ℕ → V → Type 0) → Option (Result V (Error E)) → Type 0
 VisitsHeld old new can_fail n Makes None = Keeps old new
 VisitsHeld old new can_fail n Makes (Some (Ok v)) = TakesSome old new n (λ b. Makes b v)
-VisitsHeld old new can_fail n Makes (Some (Err (Io e))) = Keeps old new × (0 < n) ×
-    IsUsedUp can_fail new
+VisitsHeld old new can_fail n Makes (Some (Err (Io e))) = Keeps old new × (0 < n) × IsUsedUp can_fail new
 VisitsHeld old new can_fail n Makes (Some (Err (Syntax p))) = ⊥
 VisitsHeld old new can_fail n Makes (Some (Err TooLong)) = ⊥
 VisitsHeld old new can_fail n Makes (Some (Err Memory)) = ⊥

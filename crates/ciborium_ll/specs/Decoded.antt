@@ -1,19 +1,13 @@
 -- What the calls on a decoder answer, of any reader, and what they leave: each in one record, for a
 -- call and for its twin that keeps the reader's error.
-use Rattle.std.specs.Prelude.{◌≡◌, ℕ, ◌+◌, ◌<◌, ◌≤◌, Bool, List, [], length, Option, Some, None}
-use Rattle.std.specs.Prelude.{IfErr, IfNone, IfSome, Result, Ok, Err}
-use Rattle.ciborium_ll.specs.declared.header.Header.{Header}
-use Rattle.ciborium_ll.specs.declared.header.Error.{Error}
-use Rattle.ciborium_ll.specs.declared.header.Error.TheVariants.{Io, Syntax, TooLong, Memory}
-use Rattle.ciborium_ll.specs.Bytes.{greatest_offset}
-use Rattle.ciborium_ll.specs.declared.decoder.Decoder.{Decoder}
-use Rattle.ciborium_ll.specs.Decoding.{HasEndedFor, HasSameReader, IsAhead, ReadsNothing}
-use Rattle.ciborium_ll.specs.Decoding.{MeasuresHead}
-use Rattle.ciborium_ll.specs.Decoding.{Pulls, Takes, count_of, head_len_of, last_of, left_of}
-use Rattle.ciborium_ll.specs.Decoding.{pushed_of}
-use Rattle.ciborium_ll.specs.ReaderSteps.{IsFillTaken, IsHeadTaken, IsRefusalOf}
-use Rattle.ciborium_ll.specs.StringRefusal.{ContentRefuses, StringKind}
-use Rattle.ciborium_ll.specs.Strings.{Grows, IsStringTaken}
+use Rattle.std.specs.Prelude.{◌≡◌, ℕ, ◌+◌, ◌<◌, ◌≤◌, Bool, List, [], length, Option, Some, None, IfErr, IfNone, IfSome}
+use Rattle.std.specs.Prelude.{Result, Ok, Err}
+use Rattle.ciborium_ll.specs.{declared.header.Header.Header, declared.header.Error.Error}
+use Rattle.ciborium_ll.specs.{declared.header.Error.TheVariants.{Io, Syntax, TooLong, Memory}, Bytes.greatest_offset}
+use Rattle.ciborium_ll.specs.{declared.decoder.Decoder.Decoder, Decoding.{HasEndedFor, HasSameReader, IsAhead}}
+use Rattle.ciborium_ll.specs.Decoding.{ReadsNothing, MeasuresHead, Pulls, Takes, count_of, head_len_of, last_of}
+use Rattle.ciborium_ll.specs.{Decoding.{left_of, pushed_of}, ReaderSteps.{IsFillTaken, IsHeadTaken, IsRefusalOf}}
+use Rattle.ciborium_ll.specs.{StringRefusal.{ContentRefuses, StringKind}, Strings.{Grows, IsStringTaken}}
 
 -- a head was pulled, or refused
 pub record HasPulled {S W E : Type 0} (can_fail : Bool) (remaining : S → Option (List ℕ))
@@ -22,11 +16,9 @@ pub record HasPulled {S W E : Type 0} (can_fail : Bool) (remaining : S → Optio
   pub same_reader : HasSameReader old new
   pub none_pushed : pushed_of new ≡ None
   -- a head that was pushed back is answered, and nothing is taken
-  pub pushed : IfSome (pushed_of old) (λ head. (result ≡ Ok head.0) × (last_of new ≡ head.1) ×
-      ReadsNothing old new)
+  pub pushed : IfSome (pushed_of old) (λ head. (result ≡ Ok head.0) × (last_of new ≡ head.1) × ReadsNothing old new)
   -- otherwise just the bytes that determine the answer are taken
-  pub taken : IfNone (pushed_of old) (Takes remaining old new
-      (λ b. IsHeadTaken b (count_of old) result))
+  pub taken : IfNone (pushed_of old) (Takes remaining old new (λ b. IsHeadTaken b (count_of old) result))
   pub last : IfNone (pushed_of old) (last_of new ≡ count_of old)
   pub head_len : MeasuresHead old new result
   -- the same, said of all that is unread
@@ -47,8 +39,7 @@ pub record HasFilled {S W E : Type 0} (can_fail : Bool) (remaining : S → Optio
   pub ended : IfErr result (λ e. HasEndedFor can_fail remaining new e)
 
 -- b is taken at offset p where n bytes are visited: these, of which the value is made, or none
-abbrev pub IsVisited : {V E : Type 0} → ℕ → (List ℕ → V → Type 0) → List ℕ → ℕ →
-    Option (Result V (Error E)) → Type 0
+abbrev pub IsVisited : {V E : Type 0} → ℕ → (List ℕ → V → Type 0) → List ℕ → ℕ → Option (Result V (Error E)) → Type 0
 IsVisited n Makes b p None = b ≡ []
 IsVisited n Makes b p (Some (Ok v)) = (length b ≡ n) × (p + n ≤ greatest_offset) × Makes b v
 IsVisited n Makes b p (Some (Err (Io e))) = (b ≡ []) × (0 < n) × (p + n ≤ greatest_offset)
@@ -81,7 +72,6 @@ pub record HasAppended {S W E : Type 0} (kind : StringKind) (len : Option ℕ) (
       (IsStringTaken kind len (last_of old) b (count_of old) result))
   -- the same, said of all that is unread
   pub refused : (b : List ℕ) → left_of remaining old ≡ Some b →
-      IfErr result (λ e. IsRefusalOf (left_of remaining new) e
-      (ContentRefuses kind len (last_of old) b (count_of old)))
+      IfErr result (λ e. IsRefusalOf (left_of remaining new) e (ContentRefuses kind len (last_of old) b (count_of old)))
   -- a reader that cannot fail before its end has nothing left at `Io`
   pub ended : IfErr result (λ e. HasEndedFor can_fail remaining new e)

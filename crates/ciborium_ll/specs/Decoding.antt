@@ -1,14 +1,10 @@
 -- What a decoder shows: its reader, the count of bytes read, the head that was pushed back, and
 -- where the last head stood.
-use Rattle.std.specs.Prelude.{◌≡◌, ℕ, ◌+◌, Bool, List, ◌++◌, length, Option, Some, None}
-use Rattle.std.specs.Prelude.{MatchOption, MatchResult, Result, Ok, Err}
-use Rattle.ciborium_ll.specs.declared.header.Header.{Header}
-use Rattle.ciborium_ll.specs.declared.header.Error.{Error}
-use Rattle.ciborium_ll.specs.declared.decoder.Decoder.{Decoder}
-use Rattle.ciborium_ll.specs.Accesses.{HasEnded}
-use Rattle.ciborium_ll.specs.Header.{SpellsHeader}
-use Rattle.ciborium_ll.specs.ReaderSteps.{Advances, IsRefusalOf}
-use Rattle.ciborium_ll.specs.Refusal.{HeadRefuses, IsUsable}
+use Rattle.std.specs.Prelude.{◌≡◌, ℕ, ◌+◌, Bool, List, ◌++◌, length, Option, Some, None, MatchOption, MatchResult}
+use Rattle.std.specs.Prelude.{Result, Ok, Err}
+use Rattle.ciborium_ll.specs.{declared.header.Header.Header, declared.header.Error.Error}
+use Rattle.ciborium_ll.specs.{declared.decoder.Decoder.Decoder, Accesses.HasEnded, Header.SpellsHeader}
+use Rattle.ciborium_ll.specs.{ReaderSteps.{Advances, IsRefusalOf}, Refusal.{HeadRefuses, IsUsable}}
 
 -- how many bytes were read, from the offset on at which the decoder began
 abbrev pub count_of : {S W : Type 0} → Decoder S W → ℕ
@@ -29,12 +25,9 @@ head_len_of d = d.head_len
 
 -- a head that is taken from the reader is measured; a pushed one that is answered, or a refusal,
 -- changes nothing
-abbrev pub MeasuresHead : {S W E : Type 0} → Decoder S W → Decoder S W → Result Header (Error E) →
-    Type 0
-MeasuresHead old new result =
-    MatchOption old.pushed
-    (MatchResult result (λ _. new.counter.count ≡ old.counter.count + new.head_len)
-    (λ _. new.head_len ≡ old.head_len))
+abbrev pub MeasuresHead : {S W E : Type 0} → Decoder S W → Decoder S W → Result Header (Error E) → Type 0
+MeasuresHead old new result = MatchOption old.pushed
+    (MatchResult result (λ _. new.counter.count ≡ old.counter.count + new.head_len) (λ _. new.head_len ≡ old.head_len))
     (λ _. new.head_len ≡ old.head_len)
 
 -- a head that was pushed back is the one whose bytes are counted
@@ -50,8 +43,7 @@ abbrev pub HasSameReader : {S W : Type 0} → Decoder S W → Decoder S W → Ty
 HasSameReader old new = new.reader.ghost_name ≡ old.reader.ghost_name
 
 -- where a call could not be given more, the reader is at its end, unless it can fail before
-abbrev pub HasEndedFor : {S W E : Type 0} → Bool → (S → Option (List ℕ)) → Decoder S W → Error E →
-    Type 0
+abbrev pub HasEndedFor : {S W E : Type 0} → Bool → (S → Option (List ℕ)) → Decoder S W → Error E → Type 0
 HasEndedFor can_fail remaining d e = HasEnded can_fail (left_of remaining d) e
 
 -- nothing has been pulled since the reader was lent, at this offset
@@ -63,8 +55,7 @@ pub record HasBegun {S W : Type 0} (d : Decoder S W) (lent : S) (offset : ℕ) :
   pub head_len : d.head_len ≡ 0
 
 -- some bytes are taken from the reader and counted, and nothing else, and P holds of them
-abbrev pub Takes : {S W : Type 0} → (S → Option (List ℕ)) → Decoder S W → Decoder S W →
-    (List ℕ → Type 0) → Type 0
+abbrev pub Takes : {S W : Type 0} → (S → Option (List ℕ)) → Decoder S W → Decoder S W → (List ℕ → Type 0) → Type 0
 Takes remaining old new P = Advances (left_of remaining old) (left_of remaining new)
     old.counter.count new.counter.count P
 
@@ -106,13 +97,10 @@ offset_of d = next_offset d.counter.count d.pushed
 
 -- b is unread, and its first byte is at offset p, where this head was pushed back: its bytes count
 -- as unread, and it is usable
-abbrev pub IsAheadBy : {S W : Type 0} → (S → Option (List ℕ)) → Decoder S W → List ℕ → ℕ →
-    Option (Header × ℕ) → Type 0
+abbrev pub IsAheadBy : {S W : Type 0} → (S → Option (List ℕ)) → Decoder S W → List ℕ → ℕ → Option (Header × ℕ) → Type 0
 IsAheadBy remaining d b p None = (d.counter.count ≡ p) × (left_of remaining d ≡ Some b)
-IsAheadBy remaining d b p (Some pushed) =
-    (pushed.1 ≡ p) × (h : List ℕ) × (r : List ℕ) × SpellsHeader h pushed.0 × IsUsable b p ×
-    (b ≡ h ++ r) ×
-    (d.counter.count ≡ p + length h) × (left_of remaining d ≡ Some r)
+IsAheadBy remaining d b p (Some pushed) = (pushed.1 ≡ p) × (h : List ℕ) × (r : List ℕ) × SpellsHeader h pushed.0 ×
+    IsUsable b p × (b ≡ h ++ r) × (d.counter.count ≡ p + length h) × (left_of remaining d ≡ Some r)
 
 -- b is unread, a head that was pushed back included, and its first byte is at offset p
 abbrev pub IsAhead : {S W : Type 0} → (S → Option (List ℕ)) → Decoder S W → List ℕ → ℕ → Type 0
@@ -121,11 +109,9 @@ IsAhead remaining d b p = IsAheadBy remaining d b p d.pushed
 -- reading the head at the front of b, whose first byte is at offset p, answers so: then the last
 -- head stood there, what follows it
 -- is left, and this many bytes are counted; a refusal is the one of the definitions
-abbrev pub PullsTo : {E : Type 0} → ℕ → ℕ → Option (List ℕ) → List ℕ → ℕ → Result Header (Error E) →
-    Type 0
-PullsTo last count left b p (Ok header) =
-    (h : List ℕ) × (r : List ℕ) × SpellsHeader h header × IsUsable b p × (b ≡ h ++ r) × (last ≡ p) ×
-    (count ≡ p + length h) × (left ≡ Some r)
+abbrev pub PullsTo : {E : Type 0} → ℕ → ℕ → Option (List ℕ) → List ℕ → ℕ → Result Header (Error E) → Type 0
+PullsTo last count left b p (Ok header) = (h : List ℕ) × (r : List ℕ) ×
+    SpellsHeader h header × IsUsable b p × (b ≡ h ++ r) × (last ≡ p) × (count ≡ p + length h) × (left ≡ Some r)
 PullsTo last count left b p (Err e) = IsRefusalOf left e (HeadRefuses b p)
 
 -- the decoder has read so

@@ -1,7 +1,6 @@
 -- The heads of data items: an initial byte, and the bytes of an argument that does not fit into it
 -- (RFC 8949, section 3).
-use Rattle.std.specs.Prelude.{◌≡◌, ℕ, ◌+◌, ◌*◌, ◌^◌, ◌<◌, ◌≤◌, ◌⊎◌, List, [], ◌∷◌, length}
-use Rattle.std.specs.Prelude.{if◌then◌else◌, nat_lt}
+use Rattle.std.specs.Prelude.{◌≡◌, ℕ, ◌+◌, ◌*◌, ◌^◌, ◌<◌, ◌≤◌, ◌⊎◌, List, [], ◌∷◌, length, if◌then◌else◌, nat_lt}
 use Rattle.std.specs.Int.{to_be_bytes, w16, w32, w64}
 
 -- where the argument stands: within the initial byte, or in the bytes after it
@@ -50,12 +49,8 @@ IsHead b major n = (w : Width) × (n < capacity w) × (b ≡ head_in w major n)
 
 -- the narrowest width that holds n
 abbrev pub narrowest : ℕ → Width
-narrowest n =
-    if nat_lt n 24 then within
-    else if nat_lt n (2 ^ 8) then one_byte
-    else if nat_lt n (2 ^ 16) then two_bytes
-    else if nat_lt n (2 ^ 32) then four_bytes
-    else eight_bytes
+narrowest n = if nat_lt n 24 then within else if nat_lt n (2 ^ 8) then one_byte
+    else if nat_lt n (2 ^ 16) then two_bytes else if nat_lt n (2 ^ 32) then four_bytes else eight_bytes
 
 -- the head in preferred serialization (section 4.1)
 unfoldable pub shortest_head : ℕ → ℕ → List ℕ
@@ -71,8 +66,7 @@ break_byte = 0xff
 
 -- b is the head of the simple value n, in one byte or in two (section 3.3)
 abbrev pub IsSimple : List ℕ → ℕ → Type 0
-IsSimple b n = ((n < 24) × (b ≡ initial_byte 7 n ∷ [])) ⊎
-    ((32 ≤ n) × (n < 256) × (b ≡ 0xf8 ∷ n ∷ []))
+IsSimple b n = ((n < 24) × (b ≡ initial_byte 7 n ∷ [])) ⊎ ((32 ≤ n) × (n < 256) × (b ≡ 0xf8 ∷ n ∷ []))
 
 -- the head of a simple value, in one byte where it can be
 abbrev pub simple_bytes : ℕ → List ℕ
@@ -80,6 +74,5 @@ simple_bytes n = if nat_lt n 24 then initial_byte 7 n ∷ [] else 0xf8 ∷ n ∷
 
 -- b is a float of 2, 4 or 8 raw bytes, which belong to its head (section 3.3)
 abbrev pub IsFloat : List ℕ → List ℕ → Type 0
-IsFloat b raw =
-    ((length raw ≡ 2) × (b ≡ 0xf9 ∷ raw)) ⊎ ((length raw ≡ 4) × (b ≡ 0xfa ∷ raw)) ⊎
+IsFloat b raw = ((length raw ≡ 2) × (b ≡ 0xf9 ∷ raw)) ⊎ ((length raw ≡ 4) × (b ≡ 0xfa ∷ raw)) ⊎
     ((length raw ≡ 8) × (b ≡ 0xfb ∷ raw))

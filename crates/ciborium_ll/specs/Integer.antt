@@ -1,11 +1,8 @@
 -- The numbers that one head holds, and their canonical order (RFC 8949, section 3.1; section 4.2.3;
 -- RFC 7049, section 3.9).
-use Rattle.std.specs.Prelude.{ℤ, pos, negsuc, List, ℕ, length}
-use Rattle.std.specs.declared.cmp.Ordering.{Ordering}
-use Rattle.std.specs.Ordering.{nat_cmp, then_cmp, on}
-use Rattle.std.specs.Cmp.Lexicographic.{slice_cmp}
-use Rattle.ciborium_ll.specs.Head.{shortest_head}
-use Rattle.ciborium_ll.specs.ProperItems.{IsArgument}
+use Rattle.std.specs.{Prelude.{ℤ, pos, negsuc, List, ℕ, length}, declared.cmp.Ordering.Ordering, Ordering.nat_cmp}
+use Rattle.std.specs.{Ordering.{then_cmp, on}, Cmp.Lexicographic.slice_cmp}
+use Rattle.ciborium_ll.specs.{Head.shortest_head, ProperItems.IsArgument}
 
 -- from -2^64 to 2^64 - 1
 abbrev pub IsInRange : ℤ → Type 0
@@ -20,5 +17,4 @@ integer_bytes (negsuc n) = shortest_head 1 n
 -- the sizes of the encodings, and where they are equal the bytes, of which the first that differs
 -- decides
 abbrev pub integer_order : ℤ → ℤ → Ordering
-integer_order = then_cmp (on (λ z. length (integer_bytes z)) nat_cmp)
-    (on integer_bytes (slice_cmp nat_cmp))
+integer_order = then_cmp (on (λ z. length (integer_bytes z)) nat_cmp) (on integer_bytes (slice_cmp nat_cmp))

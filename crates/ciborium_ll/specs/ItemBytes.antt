@@ -1,16 +1,12 @@
 -- The bytes of an item that are copied out of a reader (RFC 8949, section 5.3.1).
-use Rattle.std.specs.Prelude.{◌≡◌, List, [], ◌++◌, ℕ, Option, Some, Result, Ok, Err}
-use Rattle.std.specs.Io.KnownBytes.{Consumes}
-use Rattle.ciborium_ll.specs.declared.item_bytes.NotCopied.{NotCopied}
-use Rattle.ciborium_ll.specs.declared.item_bytes.NotCopied.TheVariants.{NoItem, Io, Memory}
-use Rattle.ciborium_ll.specs.ItemLengths.{IsNoItem}
+use Rattle.std.specs.{Prelude.{◌≡◌, List, [], ◌++◌, ℕ, Option, Some, Result, Ok, Err}, Io.KnownBytes.Consumes}
+use Rattle.ciborium_ll.specs.{declared.item_bytes.NotCopied.NotCopied, declared.item_bytes.NotCopied.TheVariants.NoItem}
+use Rattle.ciborium_ll.specs.{declared.item_bytes.NotCopied.TheVariants.{Io, Memory}, ItemLengths.IsNoItem}
 use Rattle.ciborium_ll.specs.Levels.{AreItem}
 
 -- bytes that a reader began with were taken, and stand behind what a list held: P holds of them
-abbrev pub HasCopied : Option (List ℕ) → Option (List ℕ) → List ℕ → List ℕ → (List ℕ → Type 0) →
-    Type 0
-HasCopied before after old new P = (copied : List ℕ) × Consumes before after copied ×
-    (new ≡ old ++ copied) × P copied
+abbrev pub HasCopied : Option (List ℕ) → Option (List ℕ) → List ℕ → List ℕ → (List ℕ → Type 0) → Type 0
+HasCopied before after old new P = (copied : List ℕ) × Consumes before after copied × (new ≡ old ++ copied) × P copied
 
 -- what was copied of b is an item, or no item stands at the front of b, or the reader or an
 -- allocation failed

@@ -1,15 +1,10 @@
 -- What a reader of an item's heads has read, and what it answers next (RFC 8949, section 3).
-use Rattle.std.specs.Prelude.{◌≡◌, ℕ, ◌-◌, ◌≤◌, List, [], ◌++◌, length, take, drop, Option, Some}
-use Rattle.std.specs.Prelude.{None, Result, Ok, Err}
-use Rattle.ciborium_ll.specs.declared.item_heads.ItemHead.{ItemHead}
-use Rattle.ciborium_ll.specs.declared.item_heads.ItemHeads.{ItemHeads}
-use Rattle.ciborium_ll.specs.declared.item_heads.NoItem.{NoItem}
-use Rattle.ciborium_ll.specs.declared.item_heads.NoItem.TheVariants.{Incomplete, Malformed, TooDeep}
-use Rattle.ciborium_ll.specs.declared.levels.Level.{Level}
-use Rattle.ciborium_ll.specs.Header.{SpellsHeader}
-use Rattle.ciborium_ll.specs.ItemLengths.{EndInside, IsNoItem}
-use Rattle.ciborium_ll.specs.Levels.{AreItem, IsOpenBehind, IsPayloadOf, behind_head, incomplete}
-use Rattle.ciborium_ll.specs.inner.KeptLevels.{levels_in}
+use Rattle.std.specs.Prelude.{◌≡◌, ℕ, ◌-◌, ◌≤◌, List, [], ◌++◌, length, take, drop, Option, Some, None, Result, Ok, Err}
+use Rattle.ciborium_ll.specs.{declared.item_heads.ItemHead.ItemHead, declared.item_heads.ItemHeads.ItemHeads}
+use Rattle.ciborium_ll.specs.{declared.item_heads.NoItem.NoItem, declared.item_heads.NoItem.TheVariants.Incomplete}
+use Rattle.ciborium_ll.specs.{declared.item_heads.NoItem.TheVariants.{Malformed, TooDeep}, declared.levels.Level.Level}
+use Rattle.ciborium_ll.specs.{Header.SpellsHeader, ItemLengths.{EndInside, IsNoItem}, Levels.{AreItem, IsOpenBehind}}
+use Rattle.ciborium_ll.specs.{Levels.{IsPayloadOf, behind_head, incomplete}, inner.KeptLevels.levels_in}
 
 -- what was read, and what is unread
 abbrev pub was_read : ItemHeads → List ℕ

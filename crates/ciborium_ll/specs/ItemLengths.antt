@@ -1,16 +1,12 @@
 -- What stands at the front of some bytes: an item, the beginning of one, or neither (RFC 8949,
 -- section 5.3.1, and appendix C).
-use Rattle.std.specs.Prelude.{◌≡◌, ℕ, ◌/◌, ◌%◌, ◌<◌, ◌≤◌, true, false, List, [], ◌∷◌, ◌++◌, length}
-use Rattle.std.specs.Prelude.{IsUtf8, Option, Some, None, take, Result, Ok, Err}
-use Rattle.ciborium_ll.specs.declared.header.Header.{Header}
-use Rattle.ciborium_ll.specs.declared.header.Header.TheVariants.{Text}
-use Rattle.ciborium_ll.specs.declared.item_heads.NoItem.{NoItem}
-use Rattle.ciborium_ll.specs.declared.item_heads.NoItem.TheVariants.{Incomplete, Malformed, TooDeep}
-use Rattle.ciborium_ll.specs.declared.levels.Level.{Level}
-use Rattle.ciborium_ll.specs.declared.levels.Level.TheVariants.{ByteChunks, TextChunks}
-use Rattle.ciborium_ll.specs.Head.{break_byte}
-use Rattle.ciborium_ll.specs.Header.{SpellsHeader, announced_length}
-use Rattle.ciborium_ll.specs.Levels.{AreItem, IsOpenBehind, behind_head}
+use Rattle.std.specs.Prelude.{◌≡◌, ℕ, ◌/◌, ◌%◌, ◌<◌, ◌≤◌, true, false, List, [], ◌∷◌, ◌++◌, length, IsUtf8, Option}
+use Rattle.std.specs.Prelude.{Some, None, take, Result, Ok, Err}
+use Rattle.ciborium_ll.specs.{declared.header.Header.Header, declared.header.Header.TheVariants.Text}
+use Rattle.ciborium_ll.specs.{declared.item_heads.NoItem.NoItem, declared.item_heads.NoItem.TheVariants.Incomplete}
+use Rattle.ciborium_ll.specs.{declared.item_heads.NoItem.TheVariants.{Malformed, TooDeep}, declared.levels.Level.Level}
+use Rattle.ciborium_ll.specs.{declared.levels.Level.TheVariants.{ByteChunks, TextChunks}, Head.break_byte}
+use Rattle.ciborium_ll.specs.{Header.{SpellsHeader, announced_length}, Levels.{AreItem, IsOpenBehind, behind_head}}
 use Rattle.ciborium_ll.specs.Refusal.{argument_length, is_ill_formed}
 
 -- the bytes are the beginning of a text of n bytes, or all of it
@@ -59,17 +55,15 @@ pub data EndInside (b : List ℕ) : Type 0 where
 -- the head at the front of r opens a level more than are kept: that of the item itself, and 256
 -- within it
 abbrev pub OpensTooMany : List Level → List ℕ → Type 0
-OpensTooMany levels r = (header : Header) × (h : List ℕ) × (s : List ℕ) × (more : List Level) ×
-    SpellsHeader h header × (r ≡ h ++ s) × (behind_head header levels ≡ Some more) ×
-    (length levels ≡ 257) × (length more ≡ 258)
+OpensTooMany levels r = (header : Header) × (h : List ℕ) × (s : List ℕ) × (more : List Level) × SpellsHeader h header ×
+    (r ≡ h ++ s) × (behind_head header levels ≡ Some more) × (length levels ≡ 257) × (length more ≡ 258)
 
 -- why no item stands at the front of b: b ends inside one, begins none, or opens too many levels
 abbrev pub IsNoItem : List ℕ → NoItem → Type 0
 IsNoItem b Incomplete = (t : List ℕ) × (0 < length t) × AreItem (b ++ t)
 IsNoItem b (Malformed p) = BeginNoItem b × ((levels : List Level) × (r : List ℕ) ×
     StandsOpen b p levels r × Misfits levels r)
-IsNoItem b (TooDeep p) = (levels : List Level) × (r : List ℕ) × StandsOpen b p levels r ×
-    OpensTooMany levels r
+IsNoItem b (TooDeep p) = (levels : List Level) × (r : List ℕ) × StandsOpen b p levels r × OpensTooMany levels r
 
 -- what stands at the front of b is answered so: an item of n bytes, or none
 abbrev pub IsLengthOf : List ℕ → Result ℕ NoItem → Type 0

@@ -1,19 +1,14 @@
 -- What is still to come of an item that is read head by head, and how each head changes it (RFC
 -- 8949, sections 3.2 and 5.3.1, and appendix C).
-use Rattle.std.specs.Prelude.{◌≡◌, ℕ, zero, suc, ◌+◌, List, [], ◌∷◌, ◌++◌, length, Option, Some}
-use Rattle.std.specs.Prelude.{None, option_map}
-use Rattle.ciborium_ll.specs.declared.header.Header.{Header}
-use Rattle.ciborium_ll.specs.declared.header.Header.TheVariants as header
-use Rattle.ciborium_ll.specs.declared.levels.Level.{Level}
-use Rattle.ciborium_ll.specs.declared.levels.Level.TheVariants.{Items, OpenItems, OpenKeys}
-use Rattle.ciborium_ll.specs.declared.levels.Level.TheVariants.{OpenValues, ByteChunks, TextChunks}
-use Rattle.ciborium_ll.specs.declared.levels.Step.{Step}
-use Rattle.ciborium_ll.specs.declared.levels.Step.TheVariants as step
-use Rattle.ciborium_ll.specs.Head.{break_byte}
-use Rattle.ciborium_ll.specs.Item as item
-use Rattle.ciborium_ll.specs.Item.{Item, items_count}
-use Rattle.ciborium_ll.specs.Spells.{AreChunks, Spells, SpellsItems, SpellsPairs}
+use Rattle.std.specs.Prelude.{◌≡◌, ℕ, zero, suc, ◌+◌, List, [], ◌∷◌, ◌++◌, length, Option, Some, None, option_map}
+use Rattle.ciborium_ll.specs.{declared.header.Header.Header, declared.levels.Level.Level}
+use Rattle.ciborium_ll.specs.declared.levels.Level.TheVariants.{Items, OpenItems, OpenKeys, OpenValues, ByteChunks}
+use Rattle.ciborium_ll.specs.{declared.levels.Level.TheVariants.TextChunks, declared.levels.Step.Step, Head.break_byte}
+use Rattle.ciborium_ll.specs.{Item.{Item, items_count}, Spells.{AreChunks, Spells, SpellsItems, SpellsPairs}}
 use Rattle.ciborium_ll.specs.StringRefusal.{IsAllowed, StringKind, of_bytes, of_text, string_major}
+use Rattle.ciborium_ll.specs.declared.header.Header.TheVariants as header
+use Rattle.ciborium_ll.specs.declared.levels.Step.TheVariants as step
+use Rattle.ciborium_ll.specs.Item as item
 
 -- ---- what completes an item
 
@@ -29,19 +24,16 @@ EndsChunks kind b = (payloads : List (List ℕ)) × (r : List ℕ) ×
 -- b are the bytes that end a level
 abbrev pub Ends : Level → List ℕ → Type 0
 Ends (Items n) b = (is : item.Items) × (items_count is ≡ n) × SpellsItems b is
-Ends OpenItems b = (is : item.Items) × (r : List ℕ) × SpellsItems r is ×
-    (b ≡ r ++ (break_byte ∷ []))
+Ends OpenItems b = (is : item.Items) × (r : List ℕ) × SpellsItems r is × (b ≡ r ++ (break_byte ∷ []))
 Ends OpenKeys b = EndsPairs b
-Ends OpenValues b = (v : Item) × (s : List ℕ) × (r : List ℕ) × Spells s v × EndsPairs r ×
-    (b ≡ s ++ r)
+Ends OpenValues b = (v : Item) × (s : List ℕ) × (r : List ℕ) × Spells s v × EndsPairs r × (b ≡ s ++ r)
 Ends ByteChunks b = EndsChunks of_bytes b
 Ends TextChunks b = EndsChunks of_text b
 
 -- b are the bytes that end these levels, the innermost first
 abbrev pub EndAll : List Level → List ℕ → Type 0
 EndAll [] b = b ≡ []
-EndAll (level ∷ levels) b = (s : List ℕ) × (r : List ℕ) × Ends level s × EndAll levels r ×
-    (b ≡ s ++ r)
+EndAll (level ∷ levels) b = (s : List ℕ) × (r : List ℕ) × Ends level s × EndAll levels r × (b ≡ s ++ r)
 
 -- some bytes spell an item
 abbrev pub AreItem : List ℕ → Type 0

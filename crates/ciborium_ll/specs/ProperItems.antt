@@ -1,9 +1,8 @@
 -- Items that memory can hold: the numbers of a head are below 2^64, and no length or count passes
 -- the greatest `usize`.
 use Rattle.std.specs.Prelude.{◌≡◌, ℕ, ◌^◌, ◌<◌, ◌≤◌, ◌⊎◌, List, length, IsUtf8}
-use Rattle.ciborium_ll.specs.Bytes.{AreBytes, greatest_offset}
-use Rattle.ciborium_ll.specs.Item.{Item, unsigned, negative, bytes, text, array, map, tag, simple}
-use Rattle.ciborium_ll.specs.Item.{float, Items, no_items, item, Pairs, no_pairs, pair, items_count}
+use Rattle.ciborium_ll.specs.{Bytes.{AreBytes, greatest_offset}, Item.{Item, unsigned, negative, bytes, text, array}}
+use Rattle.ciborium_ll.specs.Item.{map, tag, simple, float, Items, no_items, item, Pairs, no_pairs, pair, items_count}
 use Rattle.ciborium_ll.specs.Item.{pairs_count}
 
 -- a number that a head holds (RFC 8949, section 3)

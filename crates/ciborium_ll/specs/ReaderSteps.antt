@@ -1,14 +1,10 @@
 -- What a call takes from a reader, where the reader's bytes are known, and how offsets count it.
-use Rattle.std.specs.Prelude.{◌≡◌, ℕ, ◌+◌, ◌<◌, ◌≤◌, List, [], length, take, Option, Some}
-use Rattle.std.specs.Prelude.{MatchOption, IsTrue, Result, Ok, Err}
-use Rattle.std.specs.Io.KnownBytes.{Consumes}
-use Rattle.ciborium_ll.specs.declared.header.Header.{Header}
-use Rattle.ciborium_ll.specs.declared.header.Error.{Error}
-use Rattle.ciborium_ll.specs.declared.header.Error.TheVariants.{Io, Syntax, TooLong, Memory}
-use Rattle.ciborium_ll.specs.Bytes.{AreBytes, greatest_offset}
-use Rattle.ciborium_ll.specs.Header.{SpellsHeader}
-use Rattle.ciborium_ll.specs.Refusal.{Refusal, is_ill_formed, io, syntax, too_long, HeadRefuses}
-use Rattle.ciborium_ll.specs.Refusal.{IsUsable}
+use Rattle.std.specs.Prelude.{◌≡◌, ℕ, ◌+◌, ◌<◌, ◌≤◌, List, [], length, take, Option, Some, MatchOption, IsTrue, Result}
+use Rattle.std.specs.{Prelude.{Ok, Err}, Io.KnownBytes.Consumes}
+use Rattle.ciborium_ll.specs.{declared.header.Header.Header, declared.header.Error.Error}
+use Rattle.ciborium_ll.specs.{declared.header.Error.TheVariants.{Io, Syntax, TooLong, Memory}, Bytes.AreBytes}
+use Rattle.ciborium_ll.specs.{Bytes.greatest_offset, Header.SpellsHeader, Refusal.{Refusal, is_ill_formed, io, syntax}}
+use Rattle.ciborium_ll.specs.Refusal.{too_long, HeadRefuses, IsUsable}
 
 -- some bytes are taken between the offsets p and q, and nothing else, and P holds of them; each is
 -- below 256
@@ -55,8 +51,7 @@ pub record IsHeadTaken {E : Type 0} (b : List ℕ) (p : ℕ) (r : Result Header 
 -- greatest offset
 abbrev pub IsFillTaken : {E : Type 0} → List ℕ → ℕ → List ℕ → Result (Unit {0}) (Error E) → Type 0
 IsFillTaken b p buffer (Ok u) = (b ≡ buffer) × (p + length buffer ≤ greatest_offset)
-IsFillTaken b p buffer (Err (Io e)) = (length b < length buffer) ×
-    (p + length buffer ≤ greatest_offset)
+IsFillTaken b p buffer (Err (Io e)) = (length b < length buffer) × (p + length buffer ≤ greatest_offset)
 IsFillTaken b p buffer (Err (Syntax at)) = ⊥
 IsFillTaken b p buffer (Err TooLong) = (b ≡ []) × (greatest_offset < p + length buffer)
 IsFillTaken b p buffer (Err Memory) = ⊥

@@ -1,11 +1,9 @@
 -- Why bytes are refused, and when no usable head stands at their front (RFC 8949, sections 3 and
 -- 3.3, and appendix F).
-use Rattle.std.specs.Prelude.{◌≡◌, ℕ, ◌+◌, ◌/◌, ◌%◌, List, [], ◌∷◌, ◌++◌, length, Bool, false}
-use Rattle.std.specs.Prelude.{if◌then◌else◌, ◌==◌, ◌&&◌, ◌||◌, nat_lt, nat_le, slice_index, take}
-use Rattle.std.specs.Prelude.{Option, Some, None}
-use Rattle.std.specs.Int.{from_be_bytes, w16, w32, w64}
-use Rattle.ciborium_ll.specs.Bytes.{greatest_offset}
-use Rattle.ciborium_ll.specs.Head.{IsHead}
+use Rattle.std.specs.Prelude.{◌≡◌, ℕ, ◌+◌, ◌/◌, ◌%◌, List, [], ◌∷◌, ◌++◌, length, Bool, false, if◌then◌else◌, ◌==◌}
+use Rattle.std.specs.{Prelude.{◌&&◌, ◌||◌, nat_lt, nat_le, slice_index, take, Option, Some, None}, Int.from_be_bytes}
+use Rattle.std.specs.Int.{w16, w32, w64}
+use Rattle.ciborium_ll.specs.{Bytes.greatest_offset, Head.IsHead}
 
 -- why a well-formed item, or a break, has no meaning where it stands
 pub data SemanticKind : Type 0 where
@@ -55,38 +53,30 @@ is_ill_formed (first ∷ b) = is_reserved (first / 32) (first % 32) || is_low_si
 
 -- the argument that additional information and the bytes behind the initial byte give
 abbrev pub argument : ℕ → List ℕ → ℕ
-argument info b =
-    if nat_lt info 24 then info
-    else if info == 24 then slice_index b 0
-    else if info == 25 then from_be_bytes w16 (take 2 b)
-    else if info == 26 then from_be_bytes w32 (take 4 b)
-    else from_be_bytes w64 (take 8 b)
+argument info b = if nat_lt info 24 then info
+    else if info == 24 then slice_index b 0 else if info == 25 then from_be_bytes w16 (take 2 b)
+    else if info == 26 then from_be_bytes w32 (take 4 b) else from_be_bytes w64 (take 8 b)
 
 -- the length of the payload that a definite string's head announces, and 0 for another head
 abbrev pub payload_length : ℕ → ℕ → List ℕ → ℕ
-payload_length major info b = if ((major == 2) || (major == 3)) && nat_lt info 28 then argument info
-    b else 0
+payload_length major info b = if ((major == 2) || (major == 3)) && nat_lt info 28 then argument info b else 0
 
 -- the first reason why the head whose initial byte, at offset p, has this major type and additional
 -- information is not usable
 abbrev pub initial_refusal : ℕ → ℕ → List ℕ → ℕ → Option Refusal
-initial_refusal major info b p =
-    if is_reserved major info then Some (syntax p)
+initial_refusal major info b p = if is_reserved major info then Some (syntax p)
     else if nat_lt greatest_offset (p + 1 + argument_length info) then Some too_long
     else if nat_lt (length b) (argument_length info) then Some io
     else if nat_lt greatest_offset (p + 1 + argument_length info + payload_length major info b) then
-    Some too_long
-    else None
+    Some too_long else None
 
 -- why no usable head stands at the front of the bytes, whose first is at offset p, or None where
 -- one does
 abbrev pub head_refusal : List ℕ → ℕ → Option Refusal
 head_refusal [] p = if nat_lt p greatest_offset then Some io else Some too_long
 head_refusal (x ∷ b) p =
-    if nat_lt p greatest_offset
-    then (if nat_lt (p + 1) greatest_offset && is_low_simple x b then Some (syntax p) else
-    initial_refusal (x / 32) (x % 32) b p)
-    else Some too_long
+    if nat_lt p greatest_offset then (if nat_lt (p + 1) greatest_offset && is_low_simple x b then Some (syntax p) else
+    initial_refusal (x / 32) (x % 32) b p) else Some too_long
 
 -- the front is refused for its head
 abbrev pub HeadRefuses : List ℕ → ℕ → Refusal → Type 0

@@ -1,11 +1,7 @@
 -- When a string is refused whose head is usable (RFC 8949, sections 3.1 and 3.2.3).
-use Rattle.std.specs.Prelude.{◌≡◌, ℕ, ◌+◌, ◌<◌, ◌≤◌, ◌⊎◌, List, ◌∷◌, ◌++◌, length, Option, Some}
-use Rattle.std.specs.Prelude.{None, IsUtf8}
-use Rattle.ciborium_ll.specs.Bytes.{AreBytes, greatest_offset}
-use Rattle.ciborium_ll.specs.Head.{open_byte, break_byte}
-use Rattle.ciborium_ll.specs.Spells.{AreChunks}
-use Rattle.ciborium_ll.specs.Refusal.{Refusal, io, syntax, too_long, HeadRefuses, IsUsable, HasHead}
-use Rattle.ciborium_ll.specs.Refusal.{IsAtFront}
+use Rattle.std.specs.Prelude.{◌≡◌, ℕ, ◌+◌, ◌<◌, ◌≤◌, ◌⊎◌, List, ◌∷◌, ◌++◌, length, Option, Some, None, IsUtf8}
+use Rattle.ciborium_ll.specs.{Bytes.{AreBytes, greatest_offset}, Head.{open_byte, break_byte}, Spells.AreChunks}
+use Rattle.ciborium_ll.specs.Refusal.{Refusal, io, syntax, too_long, HeadRefuses, IsUsable, HasHead, IsAtFront}
 
 -- the two kinds of string
 pub data StringKind : Type 0 where
@@ -44,25 +40,21 @@ HasStringHead kind b = (n : ℕ) × (k : ℕ) × (r : List ℕ) × HasHead b (st
 -- nor the break
 pub data ChunkRefuses (kind : StringKind) : List ℕ → ℕ → Refusal → Type 0 where
   no_head : {b : List ℕ} {p : ℕ} {e : Refusal} → HeadRefuses b p e → ChunkRefuses kind b p e
-  chunk : {b : List ℕ} {p : ℕ} {e : Refusal} → IsUsable b p → StringRefuses kind b p e →
-      ChunkRefuses kind b p e
+  chunk : {b : List ℕ} {p : ℕ} {e : Refusal} → IsUsable b p → StringRefuses kind b p e → ChunkRefuses kind b p e
   other : {b : List ℕ} {p : ℕ} →
-      IsUsable b p → ¬ HasStringHead kind b → ¬ IsAtFront break_byte b →
-      ChunkRefuses kind b p (syntax p)
+      IsUsable b p → ¬ HasStringHead kind b → ¬ IsAtFront break_byte b → ChunkRefuses kind b p (syntax p)
 
 -- what is left, from offset p on, refuses as the chunks of an open string: behind good chunks,
 -- which end within the greatest offset,
 -- a chunk refuses
 abbrev pub ChunksRefuse : StringKind → List ℕ → ℕ → Refusal → Type 0
-ChunksRefuse kind b p e =
-    (good : List ℕ) × (payloads : List (List ℕ)) × (r : List ℕ) ×
-    AreChunks (string_major kind) (IsAllowed kind) good payloads ×
+ChunksRefuse kind b p e = (good : List ℕ) ×
+    (payloads : List (List ℕ)) × (r : List ℕ) × AreChunks (string_major kind) (IsAllowed kind) good payloads ×
     (p + length good ≤ greatest_offset) × (b ≡ good ++ r) × ChunkRefuses kind r (p + length good) e
 
 -- an open string at offset p: its chunks refuse
 abbrev pub OpenStringRefuses : StringKind → List ℕ → ℕ → Refusal → Type 0
-OpenStringRefuses kind b p e = (r : List ℕ) × (b ≡ open_byte (string_major kind) ∷ r) ×
-    ChunksRefuse kind r (p + 1) e
+OpenStringRefuses kind b p e = (r : List ℕ) × (b ≡ open_byte (string_major kind) ∷ r) × ChunksRefuse kind r (p + 1) e
 
 -- what follows the head at offset p of a string of this length (None: open) refuses, its first byte
 -- at offset q

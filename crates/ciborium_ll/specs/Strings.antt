@@ -1,20 +1,15 @@
 -- What calls that append the payload of a string take, and what they append (RFC 8949, sections 3.1
 -- and 3.2.3).
-use Rattle.std.specs.Prelude.{◌≡◌, ◌≢◌, ℕ, ◌+◌, ◌<◌, ◌≤◌, ◌⊎◌, List, [], ◌∷◌, ◌++◌, length, Option}
-use Rattle.std.specs.Prelude.{Some, None, Result, Ok, Err}
-use Rattle.ciborium_ll.specs.declared.header.Header.{Header}
-use Rattle.ciborium_ll.specs.declared.header.Header.TheVariants as header
-use Rattle.ciborium_ll.specs.declared.header.Error.{Error}
+use Rattle.std.specs.Prelude.{◌≡◌, ◌≢◌, ℕ, ◌+◌, ◌<◌, ◌≤◌, ◌⊎◌, List, [], ◌∷◌, ◌++◌, length, Option, Some, None, Result}
+use Rattle.std.specs.Prelude.{Ok, Err}
+use Rattle.ciborium_ll.specs.{declared.header.Header.Header, declared.header.Error.Error}
 use Rattle.ciborium_ll.specs.declared.header.Error.TheVariants.{Io, Syntax, TooLong, Memory}
-use Rattle.ciborium_ll.specs.declared.strings.StringType.{StringType}
-use Rattle.ciborium_ll.specs.declared.strings.StringType.TheVariants as kind
-use Rattle.ciborium_ll.specs.declared.strings.Chunk.{Chunk}
-use Rattle.ciborium_ll.specs.declared.strings.Chunk.TheVariants.{End, Definite, Other}
-use Rattle.ciborium_ll.specs.Bytes.{greatest_offset}
-use Rattle.ciborium_ll.specs.Head.{break_byte}
-use Rattle.ciborium_ll.specs.ReaderSteps.{IsHeadTaken}
-use Rattle.ciborium_ll.specs.Spells.{AreChunks, joined}
+use Rattle.ciborium_ll.specs.{declared.strings.StringType.StringType, declared.strings.Chunk.Chunk}
+use Rattle.ciborium_ll.specs.{declared.strings.Chunk.TheVariants.{End, Definite, Other}, Bytes.greatest_offset}
+use Rattle.ciborium_ll.specs.{Head.break_byte, ReaderSteps.IsHeadTaken, Spells.{AreChunks, joined}}
 use Rattle.ciborium_ll.specs.StringRefusal.{StringKind, of_bytes, of_text, string_major, IsAllowed}
+use Rattle.ciborium_ll.specs.declared.header.Header.TheVariants as header
+use Rattle.ciborium_ll.specs.declared.strings.StringType.TheVariants as kind
 
 -- the kind that the code names
 abbrev pub string_kind_of : StringType → StringKind
@@ -51,8 +46,7 @@ IsSomeTaken n b (Err Memory) old new = (length b ≤ n) × (new ≡ old)
 
 -- b is taken where n bytes are appended as they come: at Ok they were taken and appended, refused
 -- fewer were, or memory was refused
-abbrev pub IsPiecesTaken : {E : Type 0} → ℕ → List ℕ → Result (Unit {0}) (Error E) → List ℕ →
-    List ℕ → Type 0
+abbrev pub IsPiecesTaken : {E : Type 0} → ℕ → List ℕ → Result (Unit {0}) (Error E) → List ℕ → List ℕ → Type 0
 IsPiecesTaken n b (Ok u) old new = (length b ≡ n) × (new ≡ old ++ b)
 IsPiecesTaken n b (Err (Io e)) old new = (length b < n) × Extends old new
 IsPiecesTaken n b (Err (Syntax at)) old new = ⊥
@@ -62,45 +56,35 @@ IsPiecesTaken n b (Err Memory) old new = (length b ≤ n) × Extends old new
 -- b is taken where the payload, of n bytes, of a definite string is appended whose head is at
 -- offset p: all of it is added, or
 -- nothing
-abbrev pub IsPayloadTaken : {E : Type 0} → StringKind → ℕ → ℕ → List ℕ →
-    Result (Unit {0}) (Error E) → List ℕ → Type 0
+abbrev pub IsPayloadTaken : {E : Type 0} → StringKind → ℕ → ℕ → List ℕ → Result (Unit {0}) (Error E) → List ℕ → Type 0
 IsPayloadTaken kind n p b (Ok u) added = (length b ≡ n) × IsAllowed kind b × (added ≡ b)
 IsPayloadTaken kind n p b (Err (Io e)) added = (length b < n) × (added ≡ [])
-IsPayloadTaken kind n p b (Err (Syntax at)) added = (at ≡ p) × (length b ≡ n) × ¬ IsAllowed kind b ×
-    (added ≡ [])
+IsPayloadTaken kind n p b (Err (Syntax at)) added = (at ≡ p) × (length b ≡ n) × ¬ IsAllowed kind b × (added ≡ [])
 IsPayloadTaken kind n p b (Err TooLong) added = ⊥
 IsPayloadTaken kind n p b (Err Memory) added = (length b ≤ n) × (added ≡ [])
 
 -- b is taken at offset p, where a chunk of an open string is refused: its head is, or it is no
 -- chunk, or its payload is
 abbrev pub IsChunkTaken : {E : Type 0} → StringKind → List ℕ → ℕ → Error E → Type 0
-IsChunkTaken {E} kind b p e =
-    IsHeadTaken {E = E} b p (Err e)
-    ⊎ ((h : Header) × IsHeadTaken {E = E} b p (Ok h) × IsChunk kind h Other × (e ≡ Syntax p))
-    ⊎ ((n : ℕ) × (s : List ℕ) × (r : List ℕ) × (b ≡ s ++ r) ×
-    IsHeadTaken {E = E} s p (Ok (string_header kind n)) ×
-    IsPayloadTaken {E = E} kind n p r (Err e) [])
+IsChunkTaken {E} kind b p e = IsHeadTaken {E = E} b p (Err e) ⊎
+    ((h : Header) × IsHeadTaken {E = E} b p (Ok h) × IsChunk kind h Other × (e ≡ Syntax p)) ⊎
+    ((n : ℕ) × (s : List ℕ) × (r : List ℕ) × (b ≡ s ++ r) ×
+    IsHeadTaken {E = E} s p (Ok (string_header kind n)) × IsPayloadTaken {E = E} kind n p r (Err e) [])
 
 -- b is taken at offset p, where the chunks of an open string are appended: good chunks, and then
 -- the break, or a chunk that is refused
-abbrev pub AreChunksTaken : {E : Type 0} → StringKind → List ℕ → ℕ → Result (Unit {0}) (Error E) →
-    List ℕ → Type 0
+abbrev pub AreChunksTaken : {E : Type 0} → StringKind → List ℕ → ℕ → Result (Unit {0}) (Error E) → List ℕ → Type 0
 AreChunksTaken kind b p (Ok u) added =
-    (payloads : List (List ℕ)) × (s : List ℕ) ×
-    AreChunks (string_major kind) (IsAllowed kind) s payloads ×
-    (p + length b ≤ greatest_offset) ×
-    (b ≡ s ++ break_byte ∷ []) × (added ≡ joined payloads)
-AreChunksTaken kind b p (Err e) added =
-    (payloads : List (List ℕ)) × (s : List ℕ) ×
-    AreChunks (string_major kind) (IsAllowed kind) s payloads ×
-    (p + length s ≤ greatest_offset) ×
+    (payloads : List (List ℕ)) × (s : List ℕ) × AreChunks (string_major kind) (IsAllowed kind) s payloads ×
+    (p + length b ≤ greatest_offset) × (b ≡ s ++ break_byte ∷ []) × (added ≡ joined payloads)
+AreChunksTaken kind b p (Err e) added = (payloads : List (List ℕ)) ×
+    (s : List ℕ) × AreChunks (string_major kind) (IsAllowed kind) s payloads × (p + length s ≤ greatest_offset) ×
     ((r : List ℕ) × (b ≡ s ++ r) × IsChunkTaken kind r (p + length s) e) × (added ≡ joined payloads)
 
 -- b is taken at offset q, where the payload of a string of this length (None: open) is appended,
 -- whose head is at offset p
 abbrev pub IsStringTaken : {E : Type 0} → StringKind → Option ℕ → ℕ → List ℕ → ℕ →
     Result (Unit {0}) (Error E) → List ℕ → Type 0
-IsStringTaken kind (Some n) p b q r added =
-    ((greatest_offset < q + n) × (r ≡ Err TooLong) × (added ≡ []) × (b ≡ [])) ⊎
+IsStringTaken kind (Some n) p b q r added = ((greatest_offset < q + n) × (r ≡ Err TooLong) × (added ≡ []) × (b ≡ [])) ⊎
     ((q + n ≤ greatest_offset) × IsPayloadTaken kind n p b r added)
 IsStringTaken kind None p b q r added = AreChunksTaken kind b q r added

@@ -30,7 +30,8 @@ impl<'a, R: Read> Decoder<'a, R, Plain> {
     ghost use Rattle.std.specs.Prelude.{◌≡◌};
     ghost use Rattle.ciborium_ll.specs.Decoding.{HasBegun};
 
-    /// A decoder of any reader, whose offsets begin at 0. A head takes two reads.
+    /// A decoder of any reader, whose offsets begin at 0. A head takes one read, and a second one
+    /// where bytes of its argument follow the first.
     pub fn new(reader: &'a mut R) -> Decoder<'a, R, Plain>
         ensures same_reader { result.reader.ghost_name ≡ reader.entry.ghost_name }
         ensures begins { HasBegun result reader.old 0 }

@@ -175,8 +175,8 @@ impl<'c, R, A: Access<R>, K: Keep> Cursor<'c, R, A, K> {
         if size == 0 {
             return self.read_argument(start, initial, &mut []);
         }
-        let mut room = [0u8; 8];
-        self.read_argument(start, initial, &mut room[..size])
+        let mut buffer = [0u8; 8];
+        self.read_argument(start, initial, &mut buffer[..size])
     }
 
     // Reads the head at the front.

@@ -14,4 +14,3 @@ pub mod Outcome
 pub mod GoodBytes
 pub mod Bounded
 pub mod ProperMeanings
-pub mod Examples

@@ -8,4 +8,3 @@ pub mod Stacked
 pub mod MadeOfValues
 pub mod ProperValues
 pub mod Notations
-pub mod NotationExamples

@@ -1,6 +1,6 @@
--- What a tag ends as, after writes through what `as_tag_mut` and `lone_tag_mut` lend.
-use Rattle.std.specs.Prelude.{ℕ, List, map}
-use Rattle.std.specs.Borrow.{LendsBothIf, MutBor, Fml, Array, u64}
+-- What a tag ends as, after writes through what `as_tag_mut` lends.
+use Rattle.std.specs.Prelude.{ℕ}
+use Rattle.std.specs.Borrow.{LendsBothIf, MutBor, Fml, u64}
 use Rattle.std.specs.Box.{with_value}
 use Rattle.std.specs.declared.option.Option.{Option}
 use Rattle.ciborium_value.specs.declared.tree.Value as value
@@ -18,12 +18,6 @@ abbrev pub value_with_tag : Value → ℕ → Value → Value
 value_with_tag v t w = level_with_tag (out-Value v) v t w
 
 -- s ends as a tag of the last number behind the first reference of r, over the last value behind
--- the
--- second, in the box that it had
+-- the second, in the box that it had
 abbrev pub LendsTag : MutBor Value → Option (MutBor ℕ × MutBor Value) → Fml
 LendsTag s r = LendsBothIf the_row u64 the_row s r (value_with_tag s.now) s.now
-
--- the same of each value of a slice
-abbrev pub LendsTagIn : MutBor (List Value) → Option (MutBor ℕ × MutBor Value) → Fml
-LendsTagIn s r = LendsBothIf (Array the_row 0) u64 the_row s r
-    (λ t w. map (λ v. value_with_tag v t w) s.now) s.now

@@ -1,6 +1,6 @@
 -- How a struct is read from a map by the labels of its fields.
 use Rattle.std.specs.Option.{is_some, unwrap_or}
-use Rattle.std.specs.Prelude.{Bool, true, false, List, [], ◌∷◌, Option, Some, None, Result, Ok}
+use Rattle.std.specs.Prelude.{Bool, false, List, [], ◌∷◌, Option, Some, None, Result, Ok}
 use Rattle.std.specs.Prelude.{Err, ◌&&◌, if◌then◌else◌}
 use Rattle.ciborium_ll.specs.Item.{Item}
 use Rattle.ciborium_value.specs.Labels.{Label, is_label, given_label}
@@ -83,14 +83,6 @@ end_of_fields once others = record {
 -- no field more: of a repeated name the last one counts, and other names are passed over
 abbrev pub no_field : Fields (Unit {0}) (Unit {0})
 no_field = end_of_fields false no_field_given
-
--- the same, but where a field is repeated, it is refused as DuplicateKey
-abbrev pub no_field_twice : Fields (Unit {0}) (Unit {0})
-no_field_twice = end_of_fields true no_field_given
-
--- the same again, and another name is refused as UnknownField
-abbrev pub no_other_field : Fields (Unit {0}) (Unit {0})
-no_other_field = end_of_fields true no_other_given
 
 -- a field of this label, what was read of which is filled up so, and those behind it
 abbrev pub field_filled : {T A C D : Type 0} → Label → Reading T A → (Option A → Option A) →

@@ -5,5 +5,4 @@ pub mod OrderLaws
 pub mod FormLaws
 pub mod NumberItems
 pub mod Examples
-pub mod NotationExamples
 pub mod NotationLaws

@@ -49,7 +49,8 @@ pub trait DescribedKey: Ord {
 /// `FormReadsBack`, `WritesContent` and `NeverWrites`.
 pub trait AsDescribed: Described + Serialize + Deserialize {
     // By `described` of the description and `refl`, which shows that the laws hold of it: that no
-    // two of its labels or names are equal, and that no option is of what may be null.
+    // two of its labels or names are equal, that no option is of what may be null, and that no
+    // value is null or a byte string.
     ghost as_described: { IsDescribed Self.description Self.written Self.reading };
 }
 

@@ -19,15 +19,15 @@ use crate::sink::Sink;
 ///
 /// More fields than a `usize` counts, which is unreachable in practice, are refused as
 /// `Kind::Other`.
-#[derive(Clone, Copy, Debug, Drop)]
+#[derive(Drop)]
 pub struct Field<'a, L, V, R>(pub L, pub &'a V, pub R);
 
 /// A field that may be left out, and the fields after it: where it is `None` it is not written.
-#[derive(Clone, Copy, Debug, Drop)]
+#[derive(Drop)]
 pub struct MaybeField<'a, L, V, R>(pub L, pub &'a Option<V>, pub R);
 
 /// The end of the fields.
-#[derive(Clone, Copy, Debug, Drop)]
+#[derive(Drop)]
 pub struct NoField;
 
 impl Parts<OfMap> for NoField {

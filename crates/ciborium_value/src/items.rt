@@ -17,11 +17,11 @@ use crate::source::Source;
 use std::alloc::Global;
 
 /// An item and the items after it.
-#[derive(Clone, Copy, Debug, Drop)]
+#[derive(Drop)]
 pub struct Item<V, R>(pub V, pub R);
 
 /// The end of the items.
-#[derive(Clone, Copy, Debug, Drop)]
+#[derive(Drop)]
 pub struct NoItem;
 
 /// An array of the items. It is written as a definite one (RFC 8949, section 3.1):
@@ -32,7 +32,7 @@ pub struct NoItem;
 /// `Kind::Other`. The same type is read, from an array or from the bytes of a byte string:
 ///
 ///     let Array(Item(x, Item(y, NoItem))) = Array::deserialize(alloc, source)?;
-#[derive(Clone, Copy, Debug, Drop)]
+#[derive(Drop)]
 pub struct Array<R>(pub R);
 
 impl Parts<OfArray> for NoItem {

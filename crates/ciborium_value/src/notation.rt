@@ -219,8 +219,8 @@ fn write_digits<W: fmt::Write>(bytes: &[u8], f: &mut fmt::Formatter<W>) -> fmt::
     requires { length bytes.now ≤ 64 }
     ensures { WritesStyledOnOk W.write_str_gives f.old result (encode_lower bytes.now) f.new }
 {
-    let mut room = [0u8; 2 * RUN];
-    let digits = &mut room[..2 * bytes.len()];
+    let mut buffer = [0u8; 2 * RUN];
+    let digits = &mut buffer[..2 * bytes.len()];
     if hex::encode_to_slice(bytes, digits).is_err() {
         return Err(fmt::Error);
     }

@@ -1,9 +1,7 @@
 //! What holds of values and their encodings, whatever the code: each law is the contract of a
 //! function that does nothing.
 
-ghost use Rattle.ciborium_value.specs.laws.Examples.{CornerExamples, CountedExamples};
-ghost use Rattle.ciborium_value.specs.laws.Examples.{FoldingExamples, RefusedExamples};
-ghost use Rattle.ciborium_value.specs.laws.Examples.{SpelledExamples, WrittenExamples};
+ghost use Rattle.ciborium_value.specs.laws.Examples.{WorkedExamples};
 ghost use Rattle.ciborium_value.specs.laws.FoldingLaws.{EncodingIsGood, FoldsOnce};
 ghost use Rattle.ciborium_value.specs.laws.FoldingLaws.{WrittenMeansFolded};
 ghost use Rattle.ciborium_value.specs.laws.FormLaws.{AcceptedWhereOwnForm, AlikeHaveOneForm};
@@ -13,8 +11,6 @@ ghost use Rattle.ciborium_value.specs.laws.FormLaws.{OneFormWhereAlike};
 ghost use Rattle.ciborium_value.specs.laws.RefusalLaws.{DeterministicReading, GoodOrRefused};
 ghost use Rattle.ciborium_value.specs.laws.RefusalLaws.{NeverBoth, OneReading};
 ghost use Rattle.ciborium_value.specs.laws.RefusalLaws.{OneRefusal};
-ghost use Rattle.ciborium_value.specs.laws.NotationExamples.{EscapeExamples, IndentedExamples};
-ghost use Rattle.ciborium_value.specs.laws.NotationExamples.{NotationExamples};
 ghost use Rattle.ciborium_value.specs.laws.NotationLaws.{OneTreeIsDenoted, PrintedAlikeIsEqual};
 ghost use Rattle.ciborium_value.specs.laws.NotationLaws.{PrintedIsDenoted};
 ghost use Rattle.ciborium_value.specs.Number.{BytesHoldNumber, NoLeadingZeros};
@@ -47,18 +43,9 @@ pub fn meaning_of_written_is_folded()
     ensures read_back { EncodingIsGood }
 {}
 
-/// What the definitions say of given bytes and trees, after RFC 8949, its section 8 and its
-/// appendix A.
+/// What the definitions say of a few bytes and trees of RFC 8949.
 pub fn worked_examples()
-    ensures spelled { SpelledExamples }
-    ensures folding { FoldingExamples }
-    ensures refused { RefusedExamples }
-    ensures corners { CornerExamples }
-    ensures written { WrittenExamples }
-    ensures counted { CountedExamples }
-    ensures shown { NotationExamples }
-    ensures indented { IndentedExamples }
-    ensures escapes { EscapeExamples }
+    ensures { WorkedExamples }
 {}
 
 /// The `==` of `Value` is equality of content, and its `cmp` is the order by variant and then by

@@ -31,21 +31,21 @@ use std::alloc::Global;
 /// The end says what is accepted beside them. `NoField`: other keys are passed over, and of a
 /// repeated field the last one counts. `NoFieldTwice`: other keys are passed over. `NoOtherField`:
 /// neither another key nor a repeated field is.
-#[derive(Debug, Drop)]
+#[derive(Drop)]
 pub struct Wanted<L, V, R>(pub L, pub Option<V>, pub R);
 
 /// The end of fields of which none occurs twice: a key that does is refused as `DuplicateKey`, at
 /// its offset. Other keys are passed over, and not looked at for this.
-#[derive(Clone, Copy, Debug, Drop)]
+#[derive(Drop)]
 pub struct NoFieldTwice;
 
 /// The end of fields of which none occurs twice, and beside which there is no other: a key that
 /// occurs twice is refused as `DuplicateKey`, another key as `UnknownField`, each at its offset.
-#[derive(Clone, Copy, Debug, Drop)]
+#[derive(Drop)]
 pub struct NoOtherField;
 
 /// The place of a label among those of fields in a row: the first field's, or one behind it.
-#[derive(Clone, Copy, Debug, Drop)]
+#[derive(Drop)]
 pub enum FieldPlace<P> {
     First,
     Behind(P),

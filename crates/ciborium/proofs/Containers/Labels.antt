@@ -30,14 +30,7 @@ label-head h i e = subst (λ k. head_label_kind k ≡ label_kind i) e (by i)
   where
     by : (i : Item) → head_label_kind (header_of i) ≡ label_kind i
     by (unsigned n) = refl
-    by (negative n) = refl
-    by (bytes o b) = refl
-    by (text o b) = refl
-    by (array o is) = refl
-    by (items.map o ps) = refl
-    by (tag t j) = refl
-    by (simple n) = refl
-    by (float raw) = refl
+    by i = refl
 
 -- what is made of what is taken is refused as that is
 pub denies-mapped : {S A B : Type 0} (IsUnread : S → List ℕ → Type 0) (End : S → ℕ) (old : S) (l : Limit)

@@ -16,29 +16,17 @@ use Rattle.ciborium.proofs.Readers.WhateverFollows.{TreeSo}
 pub same-cause : {E : Type 0} (left : Option (List ℕ)) (e : Error E) →
     fault_of left (without_reader_error e) ≡ fault_of left e
 same-cause left (errors.Io x) = refl
-same-cause left (errors.Syntax p) = refl
-same-cause left (errors.Semantic p k) = refl
-same-cause left errors.RecursionLimitExceeded = refl
-same-cause left errors.Memory = refl
-same-cause left errors.TooLong = refl
+same-cause left e = refl
 
 pub back-refused : {E : Type 0} (left : Option (List ℕ)) (e : Error E) (P : Refusal → Type 0) →
     IsRefusedBy left (without_reader_error e) P → IsRefusedBy left e P
 back-refused left (errors.Io x) P h = h
-back-refused left (errors.Syntax p) P h = h
-back-refused left (errors.Semantic p k) P h = h
-back-refused left errors.RecursionLimitExceeded P h = h
-back-refused left errors.Memory P h = h
-back-refused left errors.TooLong P h = h
+back-refused left e P h = h
 
 pub back-ended : {E : Type 0} (can_fail : Bool) (left : Option (List ℕ)) (e : Error E) →
     HasEndedBy can_fail left (without_reader_error e) → HasEndedBy can_fail left e
 back-ended can_fail left (errors.Io x) h = h
-back-ended can_fail left (errors.Syntax p) h = h
-back-ended can_fail left (errors.Semantic p k) h = h
-back-ended can_fail left errors.RecursionLimitExceeded h = h
-back-ended can_fail left errors.Memory h = h
-back-ended can_fail left errors.TooLong h = h
+back-ended can_fail left e h = h
 
 pub back-reads : {S W E : Type 0} (can_fail : Bool) (remaining : S → Option (List ℕ)) (old new : ByteSource S W)
     (e : Error E) → ReadsValue {E = Unit} can_fail remaining old new (Err (without_reader_error e)) →

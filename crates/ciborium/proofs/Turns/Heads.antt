@@ -172,15 +172,7 @@ module _ {S W : Type 0} (remaining : S → Option (List ℕ)) (d : Decoder S W) 
         where
           faulty : (k : Header) → deterministic_fault k d.head_len ≡ Some kind → IsNoBreak k
           faulty header.Break e = absurd cc
-          faulty (header.Positive n) e = tt
-          faulty (header.Negative n) e = tt
-          faulty (header.Bytes n) e = tt
-          faulty (header.Text n) e = tt
-          faulty (header.Array n) e = tt
-          faulty (header.Map n) e = tt
-          faulty (header.Tag n) e = tt
-          faulty (header.Simple n) e = tt
-          faulty (header.Float n) e = tt
+          faulty k e = tt
 
 pub good-head : {S W : Type 0} (spelling : Spelling) (remaining : S → Option (List ℕ)) (d : Decoder S W) (h : Header)
     (xs : List ℕ) (p : ℕ) → IsHeadAccepted spelling remaining d h xs p → HasGoodHead spelling xs p

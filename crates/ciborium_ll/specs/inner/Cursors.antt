@@ -1,11 +1,8 @@
 -- What is taken where a reader is read.
 use Rattle.std.specs.Prelude.{◌≡◌, ℕ, ◌≤◌, Bool, List, [], length, take, Option, Result, Ok, Err}
 use Rattle.std.specs.Io.KnownBytes.{IsAtEnd}
-use Rattle.ciborium_ll.specs.declared.cursor.Cursor.{Cursor}
-use Rattle.ciborium_ll.specs.declared.header.Error.{Error}
-use Rattle.ciborium_ll.specs.Accesses.{HasEnded}
-use Rattle.ciborium_ll.specs.FirstHeads.{IsHeadIo}
-use Rattle.ciborium_ll.specs.ReaderSteps.{Advances}
+use Rattle.ciborium_ll.specs.{declared.cursor.Cursor.Cursor, declared.header.Error.Error, Accesses.HasEnded}
+use Rattle.ciborium_ll.specs.{FirstHeads.IsHeadIo, ReaderSteps.Advances}
 
 -- the same reader is read
 pub record IsSameCursor {S W K : Type 0} (old new : Cursor S W K) : Type 0 where
@@ -22,15 +19,12 @@ abbrev pub left_at : {S W K : Type 0} → (S → Option (List ℕ)) → Cursor S
 left_at remaining c = remaining c.reader.now
 
 -- where a call could not be given more, the reader is at its end, unless it can fail before
-abbrev pub HasEndedAt : {S W K E : Type 0} → Bool → (S → Option (List ℕ)) → Cursor S W K →
-    Error E → Type 0
+abbrev pub HasEndedAt : {S W K E : Type 0} → Bool → (S → Option (List ℕ)) → Cursor S W K → Error E → Type 0
 HasEndedAt can_fail remaining c e = HasEnded can_fail (left_at remaining c) e
 
 -- some bytes are taken and counted, and P holds of them
-abbrev pub Moves : {S W K : Type 0} → (S → Option (List ℕ)) → Cursor S W K → Cursor S W K →
-    (List ℕ → Type 0) → Type 0
-Moves remaining old new P = Advances (left_at remaining old) (left_at remaining new) (count_at old)
-    (count_at new) P
+abbrev pub Moves : {S W K : Type 0} → (S → Option (List ℕ)) → Cursor S W K → Cursor S W K → (List ℕ → Type 0) → Type 0
+Moves remaining old new P = Advances (left_at remaining old) (left_at remaining new) (count_at old) (count_at new) P
 
 -- so many bytes were taken, which stand at the front of the buffer; none came only at the end, or
 -- the reader failed

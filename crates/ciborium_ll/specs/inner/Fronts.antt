@@ -1,18 +1,11 @@
 -- What stands at the front of bytes that are held.
-use Rattle.std.specs.Prelude.{◌≡◌, ℕ, ◌/◌, ◌%◌, ◌<◌, ◌≤◌, ◌⊎◌, true, false, List, [], ◌∷◌, length}
-use Rattle.std.specs.Prelude.{take, Some}
-use Rattle.ciborium_ll.specs.declared.item_heads.Front.{Front}
-use Rattle.ciborium_ll.specs.declared.item_heads.Front.TheVariants.{Head, IllFormed, Cut}
-use Rattle.ciborium_ll.specs.declared.header.Header.{Header}
-use Rattle.ciborium_ll.specs.declared.header.Header.TheVariants.{Bytes, Text}
-use Rattle.ciborium_ll.specs.declared.item_heads.Payload.{Payload}
+use Rattle.std.specs.Prelude.{◌≡◌, ℕ, ◌/◌, ◌%◌, ◌<◌, ◌≤◌, ◌⊎◌, true, false, List, [], ◌∷◌, length, take, Some}
+use Rattle.ciborium_ll.specs.{declared.item_heads.Front.Front, declared.item_heads.Front.TheVariants.{Head, IllFormed}}
+use Rattle.ciborium_ll.specs.{declared.item_heads.Front.TheVariants.Cut, declared.header.Header.Header}
+use Rattle.ciborium_ll.specs.{declared.header.Header.TheVariants.{Bytes, Text}, declared.item_heads.Payload.Payload}
+use Rattle.ciborium_ll.specs.{declared.levels.Level.Level, Bytes.AreBytes, Header.SpellsHeader, ItemLengths.BeginText}
+use Rattle.ciborium_ll.specs.{ItemLengths.chunk_major, Levels.IsPayloadOf, Refusal.{argument_length, is_ill_formed}}
 use Rattle.ciborium_ll.specs.declared.item_heads.Payload.TheVariants as payload
-use Rattle.ciborium_ll.specs.declared.levels.Level.{Level}
-use Rattle.ciborium_ll.specs.Bytes.{AreBytes}
-use Rattle.ciborium_ll.specs.Header.{SpellsHeader}
-use Rattle.ciborium_ll.specs.ItemLengths.{BeginText, chunk_major}
-use Rattle.ciborium_ll.specs.Levels.{IsPayloadOf}
-use Rattle.ciborium_ll.specs.Refusal.{argument_length, is_ill_formed}
 
 -- the bytes end before a head does that may begin with them
 abbrev pub IsCut : List ℕ → Type 0
@@ -48,5 +41,4 @@ IsNoChunk levels b = (x : ℕ) × (major : ℕ) × (r : List ℕ) × (b ≡ x �
     (chunk_major levels ≡ Some major) × ¬ (x / 32 ≡ major)
 
 abbrev pub MayBeChunk : List Level → List ℕ → Type 0
-MayBeChunk levels b = (x major : ℕ) (r : List ℕ) → b ≡ x ∷ r → chunk_major levels ≡ Some major →
-    x / 32 ≡ major
+MayBeChunk levels b = (x major : ℕ) (r : List ℕ) → b ≡ x ∷ r → chunk_major levels ≡ Some major → x / 32 ≡ major

@@ -10,9 +10,8 @@ OneHeader = (b : List ℕ) (h k : Header) → SpellsHeader b h → SpellsHeader 
 -- no spelling is a proper beginning of another: bytes have at most one spelled header at their
 -- front, and one end of it
 abbrev pub OneHeaderAtFront : Type 0
-OneHeaderAtFront =
-    (a b x y : List ℕ) (h k : Header) → SpellsHeader a h → SpellsHeader b k → a ++ x ≡ b ++ y →
-    (a ≡ b) × (x ≡ y) × (h ≡ k)
+OneHeaderAtFront = (a b x y : List ℕ) (h k : Header) →
+    SpellsHeader a h → SpellsHeader b k → a ++ x ≡ b ++ y → (a ≡ b) × (x ≡ y) × (h ≡ k)
 
 -- what is written for a header spells it
 abbrev pub HeaderBytesSpell : Type 0
@@ -20,8 +19,7 @@ HeaderBytesSpell = (h : Header) → IsWritable h → IsProperHeader h → Spells
 
 -- no spelling of a header is shorter than what is written for it
 abbrev pub NoSpellingIsShorter : Type 0
-NoSpellingIsShorter = (b : List ℕ) (h : Header) → SpellsHeader b h →
-    length (header_bytes h) ≤ length b
+NoSpellingIsShorter = (b : List ℕ) (h : Header) → SpellsHeader b h → length (header_bytes h) ≤ length b
 
 -- no other spelling of a header is as short
 abbrev pub NoOtherSpellingIsAsShort : Type 0

@@ -1,9 +1,6 @@
 -- What holds of heads and of spellings (RFC 8949, sections 3 and 4.1).
 use Rattle.std.specs.Prelude.{◌≡◌, ℕ, ◌≤◌, List, [], ◌++◌, length}
-use Rattle.ciborium_ll.specs.Head.{IsHead, shortest_head}
-use Rattle.ciborium_ll.specs.Item.{Item}
-use Rattle.ciborium_ll.specs.ProperItems.{IsArgument}
-use Rattle.ciborium_ll.specs.Spells.{Spells}
+use Rattle.ciborium_ll.specs.{Head.{IsHead, shortest_head}, Item.Item, ProperItems.IsArgument, Spells.Spells}
 
 -- no spelling of an item is a proper beginning of a spelling of any item
 abbrev pub NoneBeginsAnother : Type 0
@@ -15,8 +12,7 @@ OneItem = (b : List ℕ) (i j : Item) → Spells b i → Spells b j → i ≡ j
 
 -- so bytes have at most one spelled item at their front, and one end of it
 abbrev pub OneAtFront : Type 0
-OneAtFront = (a b x y : List ℕ) (i j : Item) → Spells a i → Spells b j → a ++ x ≡ b ++ y → (a ≡ b) ×
-    (x ≡ y) × (i ≡ j)
+OneAtFront = (a b x y : List ℕ) (i j : Item) → Spells a i → Spells b j → a ++ x ≡ b ++ y → (a ≡ b) × (x ≡ y) × (i ≡ j)
 
 -- the shortest head is a head
 abbrev pub ShortestIsHead : Type 0
@@ -24,8 +20,7 @@ ShortestIsHead = (major n : ℕ) → IsArgument n → IsHead (shortest_head majo
 
 -- no head of the same major type and argument is shorter
 abbrev pub NoneIsShorter : Type 0
-NoneIsShorter = (b : List ℕ) (major n : ℕ) → IsHead b major n →
-    length (shortest_head major n) ≤ length b
+NoneIsShorter = (b : List ℕ) (major n : ℕ) → IsHead b major n → length (shortest_head major n) ≤ length b
 
 -- no other head of the same major type and argument is as short
 abbrev pub NoOtherIsAsShort : Type 0

@@ -139,26 +139,12 @@ map_ended levels pairs k e none = leads_as _ _ (ap token_read (sym e)) refl (sym
     (leads-no-pair levels)
 
 not_array_end : (k : Read) → k ≢ read.EndArray → token_read k ≢ tokens.end_array
-not_array_end (read.Leaf v) h e = cc e
-not_array_end (read.BeginTag n) h e = cc e
-not_array_end read.EndTag h e = cc e
-not_array_end read.BeginArray h e = cc e
 not_array_end read.EndArray h e = h refl
-not_array_end read.BeginMap h e = cc e
-not_array_end read.EndMap h e = cc e
-not_array_end read.Comma h e = cc e
-not_array_end read.Colon h e = cc e
+not_array_end k h e = cc e
 
 not_map_end : (k : Read) → k ≢ read.EndMap → token_read k ≢ tokens.end_map
-not_map_end (read.Leaf v) h e = cc e
-not_map_end (read.BeginTag n) h e = cc e
-not_map_end read.EndTag h e = cc e
-not_map_end read.BeginArray h e = cc e
-not_map_end read.EndArray h e = cc e
-not_map_end read.BeginMap h e = cc e
 not_map_end read.EndMap h e = h refl
-not_map_end read.Comma h e = cc e
-not_map_end read.Colon h e = cc e
+not_map_end k h e = cc e
 
 -- the levels behind a push of an empty array or map
 array_opened : (ls begun : List Level) (items : Vec Value Global) → items.items ≡ [] →

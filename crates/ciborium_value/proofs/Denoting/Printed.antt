@@ -60,20 +60,11 @@ Stops (b ∷ t) = (digit_of 10 b ≡ None) × (begins_float (b ∷ t) ≡ false)
 stops : (t : List ℕ) → Follows t → Stops t
 stops [] h = tt
 stops (b ∷ t) comma_ends = (refl, refl, refl, refl, refl)
-stops (b ∷ t) array_ends = (refl, refl, refl, refl, refl)
-stops (b ∷ t) map_ends = (refl, refl, refl, refl, refl)
-stops (b ∷ t) tag_ends = (refl, refl, refl, refl, refl)
-stops (b ∷ t) colon_ends = (refl, refl, refl, refl, refl)
-stops (b ∷ t) line_ends = (refl, refl, refl, refl, refl)
+stops (b ∷ t) h = (refl, refl, refl, refl, refl)
 
 no-parenthesis : (t : List ℕ) → Follows t → behind (codes "(") t ≡ None
-no-parenthesis [] h = refl
 no-parenthesis (b ∷ t) comma_ends = refl
-no-parenthesis (b ∷ t) array_ends = refl
-no-parenthesis (b ∷ t) map_ends = refl
-no-parenthesis (b ∷ t) tag_ends = refl
-no-parenthesis (b ∷ t) colon_ends = refl
-no-parenthesis (b ∷ t) line_ends = refl
+no-parenthesis t h = refl
 
 -- ---- digits
 

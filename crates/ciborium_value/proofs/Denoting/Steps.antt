@@ -259,14 +259,6 @@ leads-end levels ws w = record {
     whole : trees.array (trees_before ws (trees.tree w trees.no_trees)) ≡ trees.array (trees_from (ws ++ w ∷ []))
     whole = ap trees.array (sym (trees-behind ws w trees.no_trees) ∙ trees-whole (ws ++ w ∷ []))
 
-pub leads-colon : (levels : List Around) (qs : List (Tree × Tree)) (w : Tree) →
-    Leads (in_keys qs ∷ levels) (behind w) colon (in_values qs w ∷ levels) item
-leads-colon levels qs w = record {
-  on = λ l t r x at (m, i, (v, s, u, ps, z, is, d, b, c)).
-      (m, i, v, u, subst (λ y. Begins m y v u) (sym (one-token t colon colon r s at is).1) d, (ps, z, b, c));
-  back = λ l t r x _ at (m, i, v, u, d, (ps, z, b, c)). (m, i, (v, r, u, ps, z, at, d, b, c));
-}
-
 pub leads-next-key : (levels : List Around) (qs : List (Tree × Tree)) (k w : Tree) →
     Leads (in_values qs k ∷ levels) (behind w) comma (in_keys (qs ++ (k, w) ∷ []) ∷ levels) item
 leads-next-key levels qs k w = record {

@@ -13,9 +13,6 @@ use Rattle.std.specs.Str.{is_utf8}
 use Rattle.std.proofs.lemmas.Str.{IsUtf8-from_is_utf8, is_utf8-from_IsUtf8}
 use Rattle.std.proofs.lemmas.List.Elements.{All-head, All-tail}
 use Rattle.ciborium_value.specs.Notation.{IsPlain, needs_escape}
-use Rattle.std.proofs.Common.{codes, pos, nat_le}
-use Rattle.ciborium_value.specs.Number.{number_tree}
-use Rattle.ciborium_value.specs.Tokens.{Token, begin_tag, behind, minus_token, negated, plus_token}
 use Rattle.ciborium_value.specs.Tokens.{digit_of, digits_at, digits_behind, is_high, is_low, leaf, low_at}
 use Rattle.ciborium_value.specs.Tokens.{low_unit_at, paired, prepended, text_at, text_token, unit_at, unit_in, unit_of}
 use Rattle.ciborium_value.specs.Tree as trees
@@ -187,27 +184,6 @@ too_large base number d b (a ∷ text) t h e digit large = of (digit_of base a)
     of : (o : Option ℕ) → IsNoNumber (elim o [ None ↦ None | Some d ↦ Some (digits_behind base 0 (a ∷ text)) ])
     of None = tt
     of (Some c) = past
-
-pub no_minus_token : (found : Option (ℕ × List ℕ)) → IsNoNumber found → minus_token found ≡ None
-no_minus_token None h = refl
-no_minus_token (Some p) h = let not : nat_le p.0 (2 ^ 127) ≡ false = search (rules, h) in
-    ap (λ b. if b then Some (leaf (number_tree (negated p.0)), p.1) else None) not
-
-pub no_plus_token : (found : Option (ℕ × List ℕ)) → IsNoNumber found → plus_token found ≡ None
-no_plus_token None h = refl
-no_plus_token (Some p) h = of (behind (codes "(") p.1)
-  where
-    picked : Option (List ℕ) → Option (Token × List ℕ)
-    picked r = elim r [
-      | Some r ↦ if nat_lt p.0 (2 ^ 64) then Some (begin_tag p.0, r) else None
-      | None ↦ if nat_lt p.0 (2 ^ 128) then Some (leaf (number_tree (pos p.0)), p.1) else None
-    ]
-
-    of : (r : Option (List ℕ)) → picked r ≡ None
-    of (Some r) = let not : nat_lt p.0 (2 ^ 64) ≡ false = search (rules, h) in
-        ap (λ b. if b then Some (begin_tag p.0, r) else None) not
-    of None = let not : nat_lt p.0 (2 ^ 128) ≡ false = search (rules, h) in
-        ap (λ b. if b then Some (leaf (number_tree (pos p.0)), p.1) else None) not
 
 -- ---- escapes
 

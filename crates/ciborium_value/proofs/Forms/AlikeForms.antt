@@ -10,7 +10,7 @@ use Rattle.ciborium_value.specs.Meaning.{is_bignum_tag, bignum_meaning, trees_mo
 use Rattle.ciborium_value.specs.SameContents.{IsAlike, turned, through, folds, in_tag, in_array, in_map, AreAlike}
 use Rattle.ciborium_value.specs.SameContents.{PairsAreAlike, no_pairs, more_pairs, exchanged, one_after_another}
 use Rattle.ciborium_value.specs.SameContents as same
-use Rattle.ciborium_value.specs.Given.{Outcome, gives, refuses, nests, then_take, of_meaning}
+use Rattle.ciborium_value.specs.Given.{Outcome, gives, then_take, of_meaning}
 use Rattle.ciborium_value.specs.Tree.{Tree, integer, bytes, text, boolean, null, tag, array, map, Trees, no_trees, tree}
 use Rattle.ciborium_value.specs.Tree.{TreePairs, no_tree_pairs, tree_pair}
 use Rattle.ciborium_value.specs.declared.key_order.KeyOrder.{KeyOrder}
@@ -47,12 +47,7 @@ more-sorted_forms o k v ps = by (deterministic_form o k) (deterministic_form o v
         given (then_take (one_pair_more q r s) (sorted_pairs o)) ≡ put_among o (given q) (given r)
         (given (then_take s (sorted_pairs o)))
     by (gives l) (gives w) (gives qs) = given-then (sorted_pairs o qs) (inserted o l w)
-    by (gives l) (gives w) (refuses j) = refl
-    by (gives l) (gives w) nests = refl
-    by (gives l) (refuses j) s = refl
-    by (gives l) nests s = refl
-    by (refuses j) r s = refl
-    by nests r s = refl
+    by q r s = refl
 
 -- two pairs are put among others in either order
 among-exchanged : (o : KeyOrder) (k v l w : Tree) (ps : TreePairs) →

@@ -97,10 +97,6 @@ short-fits _ s h = tt
 
 -- ---- bignums and tags
 
-either-short : (t : Bool) (a b : List ℕ) (n : ℕ) → length a ≤ n → length b ≤ n → length (cond t a b) ≤ n
-either-short true a b n h k = h
-either-short false a b n h k = k
-
 unsigned-fits : (k : ℕ) (b : List ℕ) (n : ℕ) → 2 + length b ≤ n → Fits n (unsigned_bignum k b)
 unsigned-fits k b n h =
     either-fits (ltb k (2 ^ 64)) (Some (trees.integer (pos k))) (Some (trees.tag 2 (trees.bytes b))) n

@@ -191,10 +191,6 @@ none-folds t i s x r h e f = by (is_bignum_tag t) (short_string i) refl f
 
 -- ---- bytes
 
-by_recursion : (b : List ℕ) → AllByRecursion (λ x. x < 256) b → EachIsByte b
-by_recursion [] h = tt
-by_recursion (x ∷ b) h = (h.0, by_recursion b h.1)
-
 pub bytes_again : (b : List ℕ) → EachIsByte b → AllByRecursion (λ n. n < 256) b
 bytes_again [] h = tt
 bytes_again (x ∷ b) h = (h.0, bytes_again b h.1)

@@ -1,9 +1,8 @@
 -- The tree of a value, variant by variant and along its lists.
-use Rattle.std.proofs.Common.{◌≡◌, ℕ, suc, ◌≤◌, List, [], ◌∷◌, length, string_bytes, String, Vec, Box, Global}
-use Rattle.std.proofs.Common.{ℤ, Bool, rules, refl, ap, arith}
+use Rattle.std.proofs.Common.{◌≡◌, ℕ, suc, List, [], ◌∷◌, length, string_bytes, String, Vec, Box, Global}
+use Rattle.std.proofs.Common.{ℤ, Bool, rules, refl, ap}
 use Rattle.ciborium_value.specs.Tree as trees
 use Rattle.ciborium_value.specs.Tree.{Tree, TreePairs, Trees, trees_count, tree_pairs_count}
-use Rattle.ciborium_ll.specs.Bytes.{greatest_offset}
 use Rattle.ciborium_value.specs.View.{tree_of, trees_of, tree_pairs_of}
 use Rattle.ciborium_value.specs.declared.tree.Value as value
 use Rattle.ciborium_value.specs.declared.tree.Value.{Value, the_lemmas}
@@ -43,11 +42,5 @@ trees_count-trees_of (v ∷ vs) = ap suc (trees_count-trees_of vs)
 pub tree_pairs_count-tree_pairs_of : (ps : List (Value × Value)) → tree_pairs_count (tree_pairs_of ps) ≡ length ps
 tree_pairs_count-tree_pairs_of [] = refl
 tree_pairs_count-tree_pairs_of (p ∷ ps) = ap suc (tree_pairs_count-tree_pairs_of ps)
-
--- ---- proper trees: a walk over a value has this much to show at a list, since no `Vec` is longer than the greatest
--- offset
-
-fits : {A : Type 0} (v : Vec A Global) → length v.items ≤ greatest_offset
-fits v = let ok = v.ok in let small = v.small in omega arith
 
 -- ---- equal trees

@@ -94,8 +94,8 @@ fn end_text(bytes: Vec<u8>, behind: &[u8]) -> Result<(String, &[u8]), NotationEr
 fn push_character(character: char, bytes: &mut Vec<u8>) -> Result<(), AllocError>
     ensures { OnOk result (bytes.new.items ≡ bytes.old.items ++ encode_utf8 character) }
 {
-    let mut room = [0; 4];
-    bytes.extend_from_slice(character.encode_utf8(&mut room).as_bytes())?;
+    let mut buffer = [0; 4];
+    bytes.extend_from_slice(character.encode_utf8(&mut buffer).as_bytes())?;
     Ok(())
 }
 

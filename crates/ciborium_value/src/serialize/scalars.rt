@@ -41,8 +41,8 @@ impl Serialize for char {
 
     #[inline(always)]
     fn serialize<S: Sink>(&self, sink: &mut S) -> Result<(), S::Error> {
-        let mut room = [0; 4];
-        sink.text(self.encode_utf8(&mut room))
+        let mut buffer = [0; 4];
+        sink.text(self.encode_utf8(&mut buffer))
     }
 }
 

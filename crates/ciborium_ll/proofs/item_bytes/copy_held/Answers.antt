@@ -1,7 +1,6 @@
 use Rattle.std.proofs.Common.{rules, arith, subst, take}
 use Rattle.std.specs.Io.BufRead.{FillKeeps}
-use Rattle.ciborium_ll.proofs.CopiedItems.{none-held}
-use Rattle.ciborium_ll.proofs.HeldBytes.{dropped}
+use Rattle.ciborium_ll.proofs.{CopiedItems.none-held, HeldBytes.dropped}
 use Rattle.ciborium_ll.proofs.item_bytes.copy_held.Goals as goal
 
 pub returns : goal.returns

@@ -1,8 +1,6 @@
-use Rattle.std.proofs.Common.{◌≡◌, List, ℕ, ◌++◌, IsTrue, [], rules, subst, ◌∙◌}
-use Rattle.std.proofs.lemmas.List.{drop_at}
+use Rattle.std.proofs.{Common.{◌≡◌, List, ℕ, ◌++◌, IsTrue, [], rules, subst, ◌∙◌}, lemmas.List.drop_at}
 use Rattle.ciborium_ll.specs.ItemBytes.{IsCopyOf}
-use Rattle.ciborium_ll.proofs.CopiedItems.{taken-judged}
-use Rattle.ciborium_ll.proofs.HeadsRead.{behind-bytes}
+use Rattle.ciborium_ll.proofs.{CopiedItems.taken-judged, HeadsRead.behind-bytes}
 use Rattle.ciborium_ll.proofs.item_bytes.copy_item.Goals as goal
 
 pub returns : goal.returns

@@ -1,8 +1,6 @@
 use Rattle.std.proofs.Common.{arith, subst, sym, ap, take, ◌≡◌, ◌%◌, get_or, ◌∷◌, slice_range, ◌∙◌}
-use Rattle.ciborium_ll.specs.Header.{SpellsHeader}
-use Rattle.ciborium_ll.specs.Refusal.{argument_length}
-use Rattle.ciborium_ll.proofs.Cursors.{are-bytes}
-use Rattle.ciborium_ll.proofs.HeldBytes.{head-bytes}
+use Rattle.ciborium_ll.specs.{Header.SpellsHeader, Refusal.argument_length}
+use Rattle.ciborium_ll.proofs.{Cursors.are-bytes, HeldBytes.head-bytes}
 use Rattle.ciborium_ll.proofs.item_heads.front_of.Goals as goal
 
 pub returns-in-Some-clause-front : goal.returns-in-Some-clause-front

@@ -1,5 +1,4 @@
-use Rattle.std.proofs.Common.{subst}
-use Rattle.std.proofs.lemmas.Result.{err_from_is_err_and}
+use Rattle.std.proofs.{Common.subst, lemmas.Result.err_from_is_err_and}
 use Rattle.ciborium_ll.specs.ItemLengths.{IsNoItem}
 use Rattle.ciborium_ll.proofs.item_heads.item_len.Goals as goal
 

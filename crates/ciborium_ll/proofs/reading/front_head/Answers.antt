@@ -1,8 +1,6 @@
 use Rattle.std.proofs.Common.{arith, subst, sym, ap, take, ◌≡◌, ◌%◌, get_or, ◌∷◌, slice_range, ◌∙◌}
-use Rattle.ciborium_ll.specs.ReaderSteps.{IsHeadTaken}
-use Rattle.ciborium_ll.specs.Refusal.{argument_length}
-use Rattle.ciborium_ll.proofs.Cursors.{are-bytes}
-use Rattle.ciborium_ll.proofs.HeldBytes.{head-bytes}
+use Rattle.ciborium_ll.specs.{ReaderSteps.IsHeadTaken, Refusal.argument_length}
+use Rattle.ciborium_ll.proofs.{Cursors.are-bytes, HeldBytes.head-bytes}
 use Rattle.ciborium_ll.proofs.reading.front_head.Goals as goal
 
 pub returns-clause-head : goal.returns-clause-head

@@ -1,6 +1,5 @@
 use Rattle.std.proofs.Common.{arith, ◌+◌, ◌≤◌, ◌%◌}
-use Rattle.ciborium_ll.specs.Bytes.{greatest_offset}
-use Rattle.ciborium_ll.specs.Refusal.{argument_length}
+use Rattle.ciborium_ll.specs.{Bytes.greatest_offset, Refusal.argument_length}
 use Rattle.ciborium_ll.proofs.HeadAnswers.{ill-formed, usable-head, long-head}
 use Rattle.ciborium_ll.proofs.reading.judge_head.Goals as goal
 

@@ -1,13 +1,11 @@
-use Rattle.std.proofs.Common.{◌≡◌, ◌-◌, ◌<◌, Some, None, refl, sym, ◌∙◌, arith, ltb-true, lt-ltb}
-use Rattle.std.proofs.Common.{drop, ap, subst, length, length-drop, ◌+◌}
-use Rattle.std.specs.Str.{error_len, IsErrorLen, IsValidUpTo}
-use Rattle.std.specs.Str.Lossy.{utf8_error_len}
+use Rattle.std.proofs.Common.{◌≡◌, ◌-◌, ◌<◌, Some, None, refl, sym, ◌∙◌, arith, ltb-true, lt-ltb, drop, ap, subst}
+use Rattle.std.proofs.Common.{length, length-drop, ◌+◌}
+use Rattle.std.specs.{Str.{error_len, IsErrorLen, IsValidUpTo}, Str.Lossy.utf8_error_len}
 use Rattle.ciborium_ll.proofs.BegunTexts.{begin-text, none-begun, begun-room, room-begun}
 use Rattle.ciborium_ll.proofs.texts.begin_text.Goals as goal
 
 pub returns-in-Ok : goal.returns-in-Ok
-returns-in-Ok c =
-    (λ h. begin-text c.args.size c.args.bytes.now c.requires c.in-Ok.ensures.cases.1, λ h. refl)
+returns-in-Ok c = (λ h. begin-text c.args.size c.args.bytes.now c.requires c.in-Ok.ensures.cases.1, λ h. refl)
 
 pub returns-in-Some : goal.returns-in-Some
 returns-in-Some c =

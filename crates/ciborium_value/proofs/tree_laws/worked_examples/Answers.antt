@@ -1,17 +1,26 @@
-use Rattle.ciborium_value.proofs.GoodItems.Examples.{spelled_examples, folding_examples, refused_examples}
-use Rattle.ciborium_value.proofs.GoodItems.Examples.{corner_examples, written_examples, counted_examples}
-use Rattle.ciborium_value.proofs.Trees.NotationExamples.{escape_examples, indented_examples, notation_examples}
+use Rattle.std.proofs.Common.{refl, lit<, inl}
+use Rattle.std.specs.Fmt.{digits}
+use Rattle.hex.specs.Hex.{encode_with}
+use Rattle.ciborium_ll.specs.Head.{one_byte, shortest_head}
+use Rattle.ciborium_ll.specs.Item as item
+use Rattle.ciborium_value.specs.Meaning.{big_endian_behind, bignum_meaning, simple_meaning}
 use Rattle.ciborium_value.proofs.tree_laws.worked_examples.Goals as goal
 
 pub returns : goal.returns
+unfolding digits encode_with big_endian_behind bignum_meaning simple_meaning shortest_head
 returns c = record {
-  spelled = spelled_examples;
-  folding = folding_examples;
-  refused = refused_examples;
-  corners = corner_examples;
-  written = written_examples;
-  counted = counted_examples;
-  shown = notation_examples;
-  indented = indented_examples;
-  escapes = escape_examples;
+  zero_in_a_wide_head = (item.unsigned 0, (one_byte, lit< tt, refl), refl);
+  undefined = (item.simple 23, inl (lit< tt, refl), refl);
+  folds_in_a_tree = refl;
+  too_large = refl;
+  large_enough = refl;
+  number_24 = refl;
+  minus_257 = refl;
+  nested = refl;
+  open_array = refl;
+  in_order = (refl, (refl, (refl, (refl, (refl, (refl, (refl, tt)))))));
+  shorter_first = (refl, tt);
+  printed = refl;
+  indented = refl;
+  escaped = refl;
 }

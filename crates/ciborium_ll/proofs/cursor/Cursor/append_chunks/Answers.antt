@@ -1,5 +1,4 @@
-use Rattle.std.proofs.Common.{refl, arith, rules}
-use Rattle.std.proofs.lemmas.Result.{err_from_is_err_and}
+use Rattle.std.proofs.{Common.{refl, arith, rules}, lemmas.Result.err_from_is_err_and}
 use Rattle.ciborium_ll.proofs.OpenStrings.{parts-none, parts-more, parts-end, parts-refused, part-head-refused}
 use Rattle.ciborium_ll.proofs.OpenStrings.{other-refused, payload-fits, payload-refused}
 use Rattle.ciborium_ll.proofs.cursor.Cursor.append_chunks.Goals as goal
@@ -42,6 +41,5 @@ returns-in_err-append_payload-in-Definite-clause-bytes g c =
     rw (exit.1, exit.2) (parts-refused _ _ _ _ _ _ _ _ _ _ _ c.chunks.invariant.good part.0 part.1)
 
 pub returns-in-Other-clause-bytes : goal.returns-in-Other-clause-bytes
-returns-in-Other-clause-bytes g c =
-    parts-refused _ _ _ _ _ _ _ _ _ _ _ c.chunks.invariant.good refl
+returns-in-Other-clause-bytes g c = parts-refused _ _ _ _ _ _ _ _ _ _ _ c.chunks.invariant.good refl
     (other-refused _ _ _ _ _ _ _ c.chunks.invariant.head c.in-Other.ensures c.in_ok-header.ensures.head)

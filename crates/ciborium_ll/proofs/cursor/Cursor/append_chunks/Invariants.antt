@@ -1,6 +1,5 @@
 use Rattle.std.proofs.Common.{◌≡◌, ◌-◌}
-use Rattle.ciborium_ll.specs.Bytes.{greatest_offset}
-use Rattle.ciborium_ll.specs.inner.Cursors.{IsSameCursor, count_at, left_at}
+use Rattle.ciborium_ll.specs.{Bytes.greatest_offset, inner.Cursors.{IsSameCursor, count_at, left_at}}
 use Rattle.ciborium_ll.specs.Strings.{string_kind_of}
 use Rattle.ciborium_ll.proofs.OpenStrings.{GoodParts}
 use Rattle.ciborium_ll.proofs.cursor.Cursor.append_chunks.Given as goal

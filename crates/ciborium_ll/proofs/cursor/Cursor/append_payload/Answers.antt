@@ -1,5 +1,4 @@
-use Rattle.std.proofs.Common.{rules}
-use Rattle.std.proofs.lemmas.Bool.{false≢true}
+use Rattle.std.proofs.{Common.rules, lemmas.Bool.false≢true}
 use Rattle.ciborium_ll.proofs.Payloads.{payload-dropped, payload-refused, payload-whole}
 use Rattle.ciborium_ll.proofs.cursor.Cursor.append_payload.Goals as goal
 
@@ -14,6 +13,5 @@ returns-then-not-is_allowed-clause-bytes g c =
     (λ h. false≢true (not h)) c.in_default.ensures.bytes
 
 pub returns-clause-bytes : goal.returns-clause-bytes
-returns-clause-bytes g c =
-    payload-whole _ _ _ _ _ _ _ _ _ (search rules) (rw c.deref.ensures.value at
-    (c.is_allowed.ensures.0 c.if-not-is_allowed.false)) c.in_default.ensures.bytes
+returns-clause-bytes g c = payload-whole _ _ _ _ _ _ _ _ _ (search rules)
+    (rw c.deref.ensures.value at (c.is_allowed.ensures.0 c.if-not-is_allowed.false)) c.in_default.ensures.bytes

@@ -1,6 +1,4 @@
-use Rattle.std.proofs.Common.{rules, arith}
-use Rattle.std.proofs.lemmas.Grind.{common_steps}
-use Rattle.std.proofs.lemmas.Result.{err_from_is_err_and}
+use Rattle.std.proofs.{Common.{rules, arith}, lemmas.Grind.common_steps, lemmas.Result.err_from_is_err_and}
 use Rattle.ciborium_ll.proofs.Payloads.{some-appended, some-refused}
 use Rattle.ciborium_ll.proofs.cursor.Cursor.append_pieces.Goals as goal
 

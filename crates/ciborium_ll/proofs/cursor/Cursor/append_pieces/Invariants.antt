@@ -1,6 +1,5 @@
 use Rattle.std.proofs.Common.{◌≡◌, ◌+◌, ◌<◌, ◌≤◌, ◌++◌, length}
-use Rattle.ciborium_ll.specs.Bytes.{greatest_offset}
-use Rattle.ciborium_ll.specs.inner.Cursors.{IsSameCursor, Moves, count_at}
+use Rattle.ciborium_ll.specs.{Bytes.greatest_offset, inner.Cursors.{IsSameCursor, Moves, count_at}}
 use Rattle.ciborium_ll.proofs.cursor.Cursor.append_pieces.Given as goal
 
 -- what was taken was appended, and with what is left it makes n

@@ -1,5 +1,4 @@
-use Rattle.std.proofs.Common.{arith, ◌≡◌, ◌%◌, length}
-use Rattle.std.proofs.lemmas.Result.{err_from_is_err_and}
+use Rattle.std.proofs.{Common.{arith, ◌≡◌, ◌%◌, length}, lemmas.Result.err_from_is_err_and}
 use Rattle.ciborium_ll.specs.Refusal.{argument_length}
 use Rattle.ciborium_ll.proofs.Advancing.{argument-fails, argument-whole, argument-end}
 use Rattle.ciborium_ll.proofs.cursor.Cursor.read_argument.Goals as goal

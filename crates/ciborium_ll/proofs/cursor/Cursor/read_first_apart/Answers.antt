@@ -1,8 +1,6 @@
 -- The first byte, and then what is read behind it.
-use Rattle.std.proofs.Common.{arith}
-use Rattle.std.proofs.lemmas.Result.{err_from_is_err_and}
-use Rattle.ciborium_ll.proofs.Advancing.{head-behind}
-use Rattle.ciborium_ll.proofs.FirstHeads.{first-given}
+use Rattle.std.proofs.{Common.arith, lemmas.Result.err_from_is_err_and}
+use Rattle.ciborium_ll.proofs.{Advancing.head-behind, FirstHeads.first-given}
 use Rattle.ciborium_ll.proofs.cursor.Cursor.read_first_apart.Goals as goal
 
 pub returns-in_err-header-clause-head : goal.returns-in_err-header-clause-head

@@ -1,6 +1,5 @@
 use Rattle.std.proofs.Common.{◌≡◌, ◌-◌, length}
-use Rattle.ciborium_ll.specs.Levels.{incomplete}
-use Rattle.ciborium_ll.specs.inner.KeptLevels.{levels_in}
+use Rattle.ciborium_ll.specs.{Levels.incomplete, inner.KeptLevels.levels_in}
 use Rattle.ciborium_ll.proofs.levels.Levels.drop_complete.Given as goal
 
 -- what was dropped was complete
