@@ -1,27 +1,17 @@
 -- A type that holds itself: what its values are as trees, and which trees they are.
 use Rattle.std.proofs.Common.{ap, ◌∙◌}
-use Rattle.std.specs.Prelude.{◌≡◌, pos, negsuc, Bool, true, false, ◌&&◌, nat_lt, Some, option_map}
-use Rattle.std.specs.Prelude.{refl}
-use Rattle.ciborium.specs.DeterministicForms.{deterministic_form, deterministic_forms, one_more}
-use Rattle.ciborium.specs.Encoding.{item_of, items_of, written_tree, written_trees}
-use Rattle.ciborium.specs.Folded.{folded, trees_folded}
-use Rattle.ciborium.specs.Meaning.{trees_more}
-use Rattle.ciborium.specs.Number.{number_tree}
-use Rattle.ciborium.specs.Given.{chosen, give, given_value, gives, outcome_map, refuse}
-use Rattle.ciborium.specs.GivenParts.{given_then}
-use Rattle.ciborium.specs.Nesting.{nesting}
-use Rattle.ciborium.specs.ReadsBack.{IsNameRead, Way, met-itself, named}
-use Rattle.ciborium.specs.Tree as trees
-use Rattle.ciborium.specs.Tree.{Tree, Trees}
-use Rattle.ciborium.specs.View.{trees_from}
-use Rattle.ciborium_value.specs.declared.key_order.KeyOrder.{KeyOrder}
+use Rattle.std.specs.Prelude.{◌≡◌, pos, negsuc, Bool, true, false, ◌&&◌, nat_lt, Some, option_map, refl}
+use Rattle.ciborium.specs.{DeterministicForms.{deterministic_form, deterministic_forms, one_more}, Encoding.item_of}
+use Rattle.ciborium.specs.{Encoding.{items_of, written_tree, written_trees}, Folded.{folded, trees_folded}}
+use Rattle.ciborium.specs.{Meaning.trees_more, Number.number_tree, Given.{chosen, give, given_value, gives}}
+use Rattle.ciborium.specs.{Given.{outcome_map, refuse}, GivenParts.given_then, Nesting.nesting, ReadsBack.IsNameRead}
+use Rattle.ciborium.specs.{ReadsBack.{Way, met-itself, named}, Tree.{Tree, Trees}, View.trees_from}
+use Rattle.ciborium.specs.{lemmas.Descriptions.both, lemmas.ItemsOfTrees.tree_is_written_as_itself}
+use Rattle.ciborium.specs.{lemmas.ReadsBackParts.such_that_back, lemmas.ReadsBackValues.value-back}
+use Rattle.ciborium_value.specs.{declared.key_order.KeyOrder.KeyOrder, declared.kind.Kind.TheVariants.Other}
 use Rattle.ciborium_callers.specs.declared.tree_types.NumberTree.{NumberTree, fold-NumberTree}
 use Rattle.ciborium_callers.specs.declared.tree_types.NumberTree.TheOpen.{NumberTree-F}
-use Rattle.ciborium_value.specs.declared.kind.Kind.TheVariants.{Other}
-use Rattle.ciborium.specs.lemmas.Descriptions.{both}
-use Rattle.ciborium.specs.lemmas.ItemsOfTrees.{tree_is_written_as_itself}
-use Rattle.ciborium.specs.lemmas.ReadsBackParts.{such_that_back}
-use Rattle.ciborium.specs.lemmas.ReadsBackValues.{value-back}
+use Rattle.ciborium.specs.Tree as trees
 
 -- one level, where each value inside is its tree already
 abbrev pub number_level_tree : NumberTree-F Tree → Tree
@@ -80,10 +70,8 @@ mutual
       ap (one_more (gives (written_tree (item_of v)))) (own-number_trees o vs parts.1)
 
 -- such a tree is read back, and no other one
-pub number_tree-back : (way : Way) (t : Tree) → is_number_tree t ≡ true →
-    IsNameRead way (named (item_of t))
-    (given_then given_value (λ v. chosen (is_number_tree v) (give v) (refuse Other))) t
-    (nesting (item_of t))
+pub number_tree-back : (way : Way) (t : Tree) → is_number_tree t ≡ true → IsNameRead way (named (item_of t))
+    (given_then given_value (λ v. chosen (is_number_tree v) (give v) (refuse Other))) t (nesting (item_of t))
 number_tree-back way t h = such_that_back is_number_tree Other
     (value-back t (met-itself (item_of t) (ap item_of (tree_is_written_as_itself t))
     (λ o. own-number_tree o t h) way) (folded-number_tree t h)) h

@@ -1,21 +1,14 @@
 -- What is written is read back: the ways of reading it, and booleans, null, characters and strings.
-use Rattle.std.proofs.Common.{sym, ap, subst, ◌∙◌, append-nil}
-use Rattle.std.proofs.lemmas.Str.{IsUtf8-encode, chars-nil, chars_past_char}
-use Rattle.std.specs.Char.{IsScalar}
-use Rattle.std.specs.Prelude.{◌≡◌, ℕ, Bool, true, false, List, [], ◌∷◌, Result, Ok, Err, IfOk}
-use Rattle.std.specs.Prelude.{chars, encode_utf8, String, string_bytes, refl}
-use Rattle.std.specs.declared.alloc.Global.{Global}
-use Rattle.ciborium_ll.specs.Item as items
+use Rattle.std.proofs.{Common.{sym, ap, subst, ◌∙◌, append-nil}, lemmas.Str.{IsUtf8-encode, chars-nil, chars_past_char}}
+use Rattle.std.specs.{Char.IsScalar, Prelude.{◌≡◌, ℕ, Bool, true, false, List, [], ◌∷◌, Result, Ok, Err, IfOk, chars}}
+use Rattle.std.specs.{Prelude.{encode_utf8, String, string_bytes, refl}, declared.alloc.Global.Global}
 use Rattle.ciborium_ll.specs.Item.{Item}
-use Rattle.ciborium_value.specs.DeterministicForms.{deterministic_form}
-use Rattle.ciborium_value.specs.Encoding.{boolean_item, item_of, written_tree}
-use Rattle.ciborium_value.specs.Nesting.{Limit, IsWithin}
-use Rattle.ciborium_value.specs.Sinks.{Named}
-use Rattle.ciborium_value.specs.Given.{Given, Outcome, gives, lone_character, outcome, outcome_map}
-use Rattle.ciborium_value.specs.Given.{given_boolean, given_bytes, given_character, given_text}
-use Rattle.ciborium_value.specs.Given.{given_unit, settled}
-use Rattle.ciborium_value.specs.declared.key_order.KeyOrder.{KeyOrder}
+use Rattle.ciborium_value.specs.{DeterministicForms.deterministic_form, Encoding.{boolean_item, item_of, written_tree}}
+use Rattle.ciborium_value.specs.{Nesting.{Limit, IsWithin}, Sinks.Named, Given.{Given, Outcome, gives, lone_character}}
+use Rattle.ciborium_value.specs.Given.{outcome, outcome_map, given_boolean, given_bytes, given_character, given_text}
+use Rattle.ciborium_value.specs.{Given.{given_unit, settled}, declared.key_order.KeyOrder.KeyOrder}
 use Rattle.ciborium_value.specs.lemmas.GivenOutcomes.{one_given}
+use Rattle.ciborium_ll.specs.Item as items
 
 -- how what was written is read: from its bytes, from the tree that `Value::serialized` makes of it,
 -- or from its deterministic form by an order of keys
@@ -48,20 +41,17 @@ pub record IsNameRead {C : Type 0} (way : Way) (r : Named) (taken : Given C) (c 
   pub back : (i : Item) → r ≡ Ok i → IsItemRead way taken c n i
 
 -- what a value names is read as what counts of it, where so many levels are left
-abbrev pub IsReadBack : {T C : Type 0} → Way → (T → Type 0) → (T → Named) → Given C → (T → C) →
-    (T → ℕ) → Type 0
+abbrev pub IsReadBack : {T C : Type 0} → Way → (T → Type 0) → (T → Named) → Given C → (T → C) → (T → ℕ) → Type 0
 IsReadBack {T = T} way IsValid written taken content levels = (v : T) → IsValid v →
     IsNameRead way (written v) taken (content v) (levels v)
 
 -- the same from bytes and from a tree
-abbrev pub IsPlainlyReadBack : {T C : Type 0} → (T → Type 0) → (T → Named) → Given C → (T → C) →
-    (T → ℕ) → Type 0
+abbrev pub IsPlainlyReadBack : {T C : Type 0} → (T → Type 0) → (T → Named) → Given C → (T → C) → (T → ℕ) → Type 0
 IsPlainlyReadBack IsValid written taken content levels = (way : Way) → IsPlain way →
     IsReadBack way IsValid written taken content levels
 
 -- the same from the deterministic form, by either order of keys
-abbrev pub IsReadFromForm : {T C : Type 0} → (T → Type 0) → (T → Named) → Given C → (T → C) →
-    (T → ℕ) → Type 0
+abbrev pub IsReadFromForm : {T C : Type 0} → (T → Type 0) → (T → Named) → Given C → (T → C) → (T → ℕ) → Type 0
 IsReadFromForm IsValid written taken content levels = (o : KeyOrder) →
     IsReadBack (by_form o) IsValid written taken content levels
 
@@ -83,8 +73,7 @@ name-back {way = way} r {taken = taken} {c = c} {n = n} h = record {
 
 pub at : {C : Type 0} {way : Way} {r : Named} {taken : Given C} {c : C} {n : ℕ} →
     IsNameRead way r taken c n → IfOk r (IsItemRead way taken c n)
-at {way = way} {r = r} {taken = taken} {c = c} {n = n} h =
-    if_ok r (IsItemRead way taken c n) h.back
+at {way = way} {r = r} {taken = taken} {c = c} {n = n} h = if_ok r (IsItemRead way taken c n) h.back
 
 -- ---- items that are met as they were written
 
@@ -94,18 +83,15 @@ IsDefinite i = item_of (written_tree i) ≡ i
 abbrev pub IsItsOwnForm : KeyOrder → Item → Type 0
 IsItsOwnForm o i = deterministic_form o (written_tree i) ≡ gives (written_tree i)
 
-pub met-itself : (i : Item) → IsDefinite i → ((o : KeyOrder) → IsItsOwnForm o i) → (way : Way) →
-    met way i ≡ gives i
+pub met-itself : (i : Item) → IsDefinite i → ((o : KeyOrder) → IsItsOwnForm o i) → (way : Way) → met way i ≡ gives i
 met-itself i definite own by_bytes = refl
 met-itself i definite own by_tree = ap gives definite
 met-itself i definite own (by_form o) = ap (outcome_map item_of) (own o) ∙ ap gives definite
 
-pub met-text : (b : List ℕ) (way : Way) → met way (items.text false b) ≡ gives
-    (items.text false b)
+pub met-text : (b : List ℕ) (way : Way) → met way (items.text false b) ≡ gives (items.text false b)
 met-text b = met-itself (items.text false b) refl (λ o. refl)
 
-pub met-bytes : (b : List ℕ) (way : Way) → met way (items.bytes false b) ≡ gives
-    (items.bytes false b)
+pub met-bytes : (b : List ℕ) (way : Way) → met way (items.bytes false b) ≡ gives (items.bytes false b)
 met-bytes b = met-itself (items.bytes false b) refl (λ o. refl)
 
 pub met-null : (way : Way) → met way (items.simple 22) ≡ gives (items.simple 22)
@@ -121,9 +107,8 @@ abbrev pub named : Item → Named
 named i = Ok i
 
 -- one that is met as it was written
-pub item-back : {C : Type 0} {way : Way} (i : Item) (taken : Given C) {c : C} {n : ℕ} →
-    met way i ≡ gives i → ((l : Limit) → IsWithin l n → outcome l (taken i) ≡ gives c) →
-    IsNameRead way (named i) taken c n
+pub item-back : {C : Type 0} {way : Way} (i : Item) (taken : Given C) {c : C} {n : ℕ} → met way i ≡ gives i →
+    ((l : Limit) → IsWithin l n → outcome l (taken i) ≡ gives c) → IsNameRead way (named i) taken c n
 item-back i taken same read = name-back (named i) (λ j is l fits.
     ap (λ x. outcome l (taken x)) (one_given j i (sym is ∙ same)) ∙ read l fits)
 
@@ -133,11 +118,9 @@ boolean-given true l = refl
 
 pub boolean-back : (way : Way) → IsReadBack way (λ b. Unit {0}) (λ b. named (boolean_item b))
     given_boolean (λ b. b) (λ b. 0)
-boolean-back way b valid = item-back (boolean_item b) given_boolean (met-boolean b way)
-    (λ l fits. boolean-given b l)
+boolean-back way b valid = item-back (boolean_item b) given_boolean (met-boolean b way) (λ l fits. boolean-given b l)
 
-pub unit-back : (way : Way) → IsReadBack way (λ u. Unit {0}) (λ u. named (items.simple 22))
-    given_unit (λ u. u) (λ u. 0)
+pub unit-back : (way : Way) → IsReadBack way (λ u. Unit {0}) (λ u. named (items.simple 22)) given_unit (λ u. u) (λ u. 0)
 unit-back way u valid = item-back (items.simple 22) given_unit (met-null way) (λ l fits. refl)
 
 lone-encoded : (c : ℕ) → IsScalar c → lone_character (chars (encode_utf8 c)) ≡ Ok c

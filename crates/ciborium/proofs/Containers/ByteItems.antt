@@ -1,46 +1,33 @@
 -- Bytes that are read as the numbers of a sequence.
 use Rattle.std.proofs.Common.{◌≡◌, ◌≢◌, ℕ, ◌<◌, ◌≤◌, Bool, false, List, [], ◌∷◌, ◌++◌, Option, Some, None, Result}
 use Rattle.std.proofs.Common.{arith, Ok, Err, refl, sym, ap, ◌∙◌, subst, append_assoc, append-nil}
-use Rattle.ciborium_ll.specs.declared.header.Header.{Header}
-use Rattle.ciborium_ll.specs.declared.header.Header.TheVariants as header
-use Rattle.ciborium_ll.specs.Item.{Item}
-use Rattle.ciborium_ll.specs.Header.{SpellsHeader}
-use Rattle.ciborium_ll.specs.Spells.{Spells}
+use Rattle.ciborium_ll.specs.{declared.header.Header.Header, Item.Item, Header.SpellsHeader, Spells.Spells}
 use Rattle.ciborium_ll.specs.StringRefusal.{StringKind}
 use Rattle.ciborium_ll.proofs.UniqueSpelling.{one_at_front}
-use Rattle.ciborium.proofs.Items.Weights.{entered-fewer, taken-fewer}
-use Rattle.ciborium_value.specs.Ahead.{Rest, Span, after, parts, past, inside, end_of}
-use Rattle.ciborium_value.specs.Nesting.{Limit}
-use Rattle.ciborium_value.specs.Places.{sequence}
+use Rattle.ciborium.proofs.{Items.Weights.{entered-fewer, taken-fewer}, Items.BareHeads.{head-denied, nested-denied}}
+use Rattle.ciborium.proofs.Items.BareHeads.{other-denied, string-denied, string-read}
+use Rattle.ciborium.proofs.Containers.EnteredContainers.{HasItems, IsEntered, array-entered, entered-kept, items-stand}
+use Rattle.ciborium.proofs.{Containers.EnteredContainers.within-is, Items.ItemHeads.{header_of, by-shape, no-bare-tag}}
+use Rattle.ciborium.proofs.{Containers.NextParts.{fits-past, none-past}, Items.SkippedTags.reads-whole}
+use Rattle.ciborium.proofs.{Items.SkippedTags.untagged-under, Items.TakenOnly.{IsKept, kept-reader, rest-end}}
+use Rattle.ciborium_value.specs.{Ahead.{Rest, Span, after, parts, past, inside, end_of}, Nesting.Limit, Places.sequence}
 use Rattle.ciborium_value.specs.Sources.{Fault, of_kind, IsFaultOf, TakesAhead, RefusesAhead, TakesItem, TakesTo}
-use Rattle.ciborium_value.specs.Sources.{GoesOn, Leaves}
-use Rattle.ciborium_value.specs.Sources.{RefusesNext, OwesLess, OwesNothing, HasItem, TakesOneItem, TakesOnly}
-use Rattle.ciborium_value.specs.lemmas.GivenOutcomes.{and_take}
-use Rattle.ciborium_value.specs.Given.{Outcome, Steps, Given, deeper, gives, outcome, refuses, take_each}
-use Rattle.ciborium_value.specs.Given.{nests, then_take}
-use Rattle.ciborium_value.specs.Given.{number_below, given_integer, given_byte, given_bytes, bare_bytes, untagged}
+use Rattle.ciborium_value.specs.Sources.{GoesOn, Leaves, RefusesNext, OwesLess, OwesNothing, HasItem, TakesOneItem}
+use Rattle.ciborium_value.specs.{Sources.TakesOnly, lemmas.GivenOutcomes.and_take, Given.{Outcome, Steps, Given}}
+use Rattle.ciborium_value.specs.Given.{deeper, gives, outcome, refuses, take_each, nests, then_take, number_below}
+use Rattle.ciborium_value.specs.Given.{given_integer, given_byte, given_bytes, bare_bytes, untagged}
 use Rattle.ciborium_value.specs.declared.kind.Kind.{Kind}
-use Rattle.ciborium_value.specs.declared.kind.Kind.TheVariants as kinds
 use Rattle.ciborium_value.proofs.Sources.Sequences.{fault_map, fault_outside, fault_then}
-use Rattle.ciborium.specs.declared.de.byte_source.ByteSource.{ByteSource}
-use Rattle.ciborium.specs.declared.de.byte_source.ByteSeq.{ByteSeq}
-use Rattle.ciborium.specs.declared.de.error.Error.{Error}
-use Rattle.ciborium.specs.declared.de.error.Error.TheVariants.{RecursionLimitExceeded}
+use Rattle.ciborium.specs.{declared.de.byte_source.ByteSource.ByteSource, declared.de.byte_source.ByteSeq.ByteSeq}
+use Rattle.ciborium.specs.{declared.de.error.Error.Error, declared.de.error.Error.TheVariants.RecursionLimitExceeded}
 use Rattle.ciborium.specs.inner.ByteSources.{fault_at, AnswersItem, PassesItem, IsUnread, StandsBefore, SeqStands}
 use Rattle.ciborium.specs.inner.ByteSources.{SeqOwes, EntersItemsUnread, ReadsRest, RefusesRest, HasTaken}
-use Rattle.ciborium.specs.inner.ByteSources.{HasTakenSince, ReadsBareHead, bytes_weight, end_at, reader_of}
-use Rattle.ciborium.specs.inner.ByteSources.{weight_left}
-use Rattle.ciborium.specs.inner.FrontItems.{Reads, Denies, DeniesItem}
-use Rattle.ciborium.proofs.Items.BareHeads.{head-denied, nested-denied, other-denied, string-denied, string-read}
-use Rattle.ciborium.specs.inner.Skips.{under, AreSkipped, IsBare, TakesBare}
-use Rattle.ciborium.specs.inner.StringContents.{DeniesContent, TakesContent, head_of, string_item}
-use Rattle.ciborium.specs.inner.Unread.{IsRest, FitsAhead}
-use Rattle.ciborium.proofs.Containers.EnteredContainers.{HasItems, IsEntered, array-entered, entered-kept}
-use Rattle.ciborium.proofs.Containers.EnteredContainers.{items-stand, within-is}
-use Rattle.ciborium.proofs.Items.ItemHeads.{header_of, by-shape, no-bare-tag}
-use Rattle.ciborium.proofs.Containers.NextParts.{fits-past, none-past}
-use Rattle.ciborium.proofs.Items.SkippedTags.{reads-whole, untagged-under}
-use Rattle.ciborium.proofs.Items.TakenOnly.{IsKept, kept-reader, rest-end}
+use Rattle.ciborium.specs.inner.ByteSources.{HasTakenSince, ReadsBareHead, bytes_weight, end_at, reader_of, weight_left}
+use Rattle.ciborium.specs.{inner.FrontItems.{Reads, Denies, DeniesItem}, inner.Skips.{under, AreSkipped, IsBare}}
+use Rattle.ciborium.specs.{inner.Skips.TakesBare, inner.StringContents.{DeniesContent, TakesContent, head_of}}
+use Rattle.ciborium.specs.{inner.StringContents.string_item, inner.Unread.{IsRest, FitsAhead}}
+use Rattle.ciborium_ll.specs.declared.header.Header.TheVariants as header
+use Rattle.ciborium_value.specs.declared.kind.Kind.TheVariants as kinds
 
 -- ---- from the front of unread bytes to where a source stands
 
@@ -117,9 +104,8 @@ pub record IsPartlyRead {S W A : Type 0} (remaining : S → Option (List ℕ)) (
   pub holds : SeqStands q l (parts span rest r)
   pub read : outcome (inside span l) (take_each taken done) ≡ gives vs
 
-abbrev pub ReadsPartly : {S W A : Type 0} → (S → Option (List ℕ)) → Given A → ByteSource S W → ByteSeq →
-    ByteSource S W →
-    ByteSeq → List A → Type 0
+abbrev pub ReadsPartly : {S W A : Type 0} →
+    (S → Option (List ℕ)) → Given A → ByteSource S W → ByteSeq → ByteSource S W → ByteSeq → List A → Type 0
 ReadsPartly remaining taken old q new q' vs = (l : Limit) (span : Span) (is : List Item) (r : Rest) →
     StandsBefore remaining old (inside span l) (after (parts span is r)) → SeqStands q l (parts span is r) →
     IsPartlyRead remaining taken new q' vs l span is r
@@ -179,8 +165,7 @@ module _ {S W A : Type 0} (remaining : S → Option (List ℕ)) (taken : Given A
 
   pub partly-fault : (mid ahead : ByteSource S W) (q q' : ByteSeq) (vs : List A) (fault : Fault) →
       ReadsPartly remaining taken old start mid q vs → GoesOn (StandsBefore remaining) SeqStands mid ahead q q' →
-      RefusesAhead (StandsBefore remaining) ahead taken fault →
-      RefusesRest remaining old start (take_each taken) fault
+      RefusesAhead (StandsBefore remaining) ahead taken fault → RefusesRest remaining old start (take_each taken) fault
   partly-fault mid ahead q q' vs fault w g h l span is r st hold =
       let n = w l span is r st hold in
       let e = g.0 l span n.rest r n.stands n.holds in
@@ -250,11 +235,9 @@ pub record HasBegunArray {S W : Type 0} (remaining : S → Option (List ℕ)) (o
     pub opens : EntersItemsUnread remaining old mid given_bytes (λ span is. take_each given_byte is) q
 
 pub array-begun : {S W : Type 0} (can_fail : Bool) (remaining : S → Option (List ℕ)) (old mid new : ByteSource S W)
-    (count : Option ℕ)
-    (q : ByteSeq) (h : Header) (offset : ℕ) → h ≡ header.Array count →
-    TakesBare (IsUnread remaining) old mid false h →
-    ReadsBareHead can_fail remaining old mid false (Ok (h, offset)) → IsEntered mid new count q →
-    q.levels ≡ mid.levels → HasBegunArray remaining old new q
+    (count : Option ℕ) (q : ByteSeq) (h : Header) (offset : ℕ) → h ≡ header.Array count →
+    TakesBare (IsUnread remaining) old mid false h → ReadsBareHead can_fail remaining old mid false (Ok (h, offset)) →
+    IsEntered mid new count q → q.levels ≡ mid.levels → HasBegunArray remaining old new q
 array-begun can_fail remaining old mid new count q h offset is head reads entered back =
     let (same, behind, less) = entered-kept new count q entered reads in record {
       kept = same;
@@ -269,8 +252,7 @@ array-begun can_fail remaining old mid new count q h offset is head reads entere
 module _ {S W : Type 0} (remaining : S → Option (List ℕ)) (old mid : ByteSource S W) (q : ByteSeq)
     (begun : HasBegunArray remaining old mid q) where
   pub array-takes : (new : ByteSource S W) (v : List ℕ) →
-      ReadsRest remaining mid new q (take_each given_byte) v →
-      TakesAhead (StandsBefore remaining) old new given_bytes v
+      ReadsRest remaining mid new q (take_each given_byte) v → TakesAhead (StandsBefore remaining) old new given_bytes v
   array-takes new v reads l i f st =
       let (span, is, give, stands, holds) = items-stand remaining old mid q begun.kept begun.levels begun.none
       begun.fewer given_bytes (λ span its. take_each given_byte its) begun.opens l i f st in
@@ -344,9 +326,8 @@ TakesOne can_fail remaining = TakesOneItem (StandsBefore remaining) (IsUnread re
 module _ {S W T A : Type 0} (can_fail : Bool) (remaining : S → Option (List ℕ)) {old new : ByteSource S W}
     {taken : Given A} {content : T → A} where
   pub takes-given : {v : T} → IsKept remaining old new → new.levels ≡ old.levels → new.pending ≡ None →
-      weight_left new < weight_left old →
-      Reads (IsUnread remaining) old new (Some old.levels) taken (content v) → TakesOne can_fail remaining old new
-      taken content (Ok v)
+      weight_left new < weight_left old → Reads (IsUnread remaining) old new (Some old.levels) taken (content v) →
+      TakesOne can_fail remaining old new taken content (Ok v)
   takes-given {v} kept levels none fewer h = record {
     ok = takes-read remaining old new taken (content v) kept levels none h;
     refused = tt;
@@ -402,20 +383,17 @@ module _ {S W T A : Type 0} {can_fail : Bool} {remaining : S → Option (List �
         (let fewer = entered-fewer old mid mid h refl reads.pending reads.fewer in omega (arith, no_more, fewer))
 
     pub behind-given : {v : T} → IsKept remaining mid new → new.levels ≡ mid.levels → new.pending ≡ None →
-        bytes_weight new ≤ bytes_weight mid →
-        Reads (IsUnread remaining) old new (Some old.levels) taken (content v) → TakesOne can_fail remaining old new
-        taken content (Ok v)
+        bytes_weight new ≤ bytes_weight mid → Reads (IsUnread remaining) old new (Some old.levels) taken (content v) →
+        TakesOne can_fail remaining old new taken content (Ok v)
     behind-given kept levels none fewer =
         takes-given can_fail remaining (kept.0 ∙ reads.same_reader, λ first t. kept.1 first (reads.only first t))
-        (levels ∙ reads.levels)
-        none (taken-fewer old mid new h fewer none reads.fewer)
+        (levels ∙ reads.levels) none (taken-fewer old mid new h fewer none reads.fewer)
 
     -- the payload of the string that it begins was read
-    pub string-given : {v : T} → TakesBare (IsUnread remaining) old mid false h → (kind : StringKind)
-        (len : Option ℕ) → h ≡ head_of kind len → IsKept remaining mid new → new.levels ≡ mid.levels →
-        new.pending ≡ None → bytes_weight new ≤ bytes_weight mid → (payload : List ℕ) →
-        TakesContent (IsUnread remaining mid) (IsUnread remaining new) kind len payload →
-        ((ts : List ℕ) → AreSkipped false ts →
+    pub string-given : {v : T} → TakesBare (IsUnread remaining) old mid false h → (kind : StringKind) (len : Option ℕ) →
+        h ≡ head_of kind len → IsKept remaining mid new → new.levels ≡ mid.levels → new.pending ≡ None →
+        bytes_weight new ≤ bytes_weight mid → (payload : List ℕ) → TakesContent (IsUnread remaining mid)
+        (IsUnread remaining new) kind len payload → ((ts : List ℕ) → AreSkipped false ts →
         outcome (Some old.levels) (taken (under ts (string_item kind len payload))) ≡ gives (content v)) →
         TakesOne can_fail remaining old new taken content (Ok v)
     string-given {v} head kind len is kept levels none fewer payload took give = behind-given kept levels none fewer

@@ -1,24 +1,17 @@
 -- Tags that are entered, and the levels of tags and variants.
-use Rattle.std.proofs.Common.{Bool, ◌≡◌, ◌≢◌, ℕ, List, ◌++◌, Option, Some, None, refl, sym}
-use Rattle.std.proofs.Common.{ap, ◌∙◌, subst, append_assoc, arith}
-use Rattle.ciborium_ll.specs.declared.header.Header.{Header}
-use Rattle.ciborium_ll.specs.declared.header.Header.TheVariants as header
-use Rattle.ciborium_ll.specs.Header.{SpellsHeader}
-use Rattle.ciborium_ll.specs.Item.{Item, tag}
-use Rattle.ciborium_value.specs.Sources.{Completes, Holds, IsFaultOf, RefusesAhead, TakesTo}
-use Rattle.ciborium_value.specs.Given.{Given, gives, deeper, outcome, within_level, outer_tag, given_outer_tag}
-use Rattle.ciborium.specs.declared.de.byte_source.ByteSource.{ByteSource}
-use Rattle.ciborium.specs.declared.de.byte_source.ByteLevel.{ByteLevel}
-use Rattle.ciborium.specs.declared.de.error.Error.{Error}
-use Rattle.ciborium.specs.declared.de.error.Error.TheVariants.{RecursionLimitExceeded}
+use Rattle.std.proofs.Common.{Bool, ◌≡◌, ◌≢◌, ℕ, List, ◌++◌, Option, Some, None, refl, sym, ap, ◌∙◌, subst}
+use Rattle.std.proofs.Common.{append_assoc, arith}
+use Rattle.ciborium_ll.specs.{declared.header.Header.Header, Header.SpellsHeader, Item.{Item, tag}}
+use Rattle.ciborium_value.specs.{Sources.{Completes, Holds, IsFaultOf, RefusesAhead, TakesTo}, Given.{Given, gives}}
+use Rattle.ciborium_value.specs.Given.{deeper, outcome, within_level, outer_tag, given_outer_tag}
+use Rattle.ciborium.specs.{declared.de.byte_source.ByteSource.ByteSource, declared.de.byte_source.ByteLevel.ByteLevel}
+use Rattle.ciborium.specs.{declared.de.error.Error.Error, declared.de.error.Error.TheVariants.RecursionLimitExceeded}
 use Rattle.ciborium.specs.inner.ByteSources.{IsUnread, StandsBefore, LevelStands, TakesLevel, fault_at}
-use Rattle.ciborium.specs.inner.FrontItems.{TakesHead}
-use Rattle.ciborium.specs.inner.Skips.{EntersLevelUnread}
-use Rattle.ciborium.specs.inner.Unread.{IsRest}
-use Rattle.ciborium.proofs.Containers.EnteredContainers.{within-is, deeper-is}
-use Rattle.ciborium.proofs.Containers.ByteItems.{refuses-denied}
-use Rattle.ciborium.proofs.Items.ItemHeads.{header_of, tag-front, same-head, by-shape}
-use Rattle.ciborium.proofs.Items.TakenOnly.{IsKept, kept-reader}
+use Rattle.ciborium.specs.{inner.FrontItems.TakesHead, inner.Skips.EntersLevelUnread, inner.Unread.IsRest}
+use Rattle.ciborium.proofs.{Containers.EnteredContainers.{within-is, deeper-is}, Containers.ByteItems.refuses-denied}
+use Rattle.ciborium.proofs.{Items.ItemHeads.{header_of, tag-front, same-head, by-shape}, Items.TakenOnly.IsKept}
+use Rattle.ciborium.proofs.Items.TakenOnly.{kept-reader}
+use Rattle.ciborium_ll.specs.declared.header.Header.TheVariants as header
 
 -- ---- where the source then stands
 
@@ -30,8 +23,7 @@ module _ {S W : Type 0} (remaining : S → Option (List ℕ)) (old new : ByteSou
       (w, un, λ z (i, s, sp, e). let (j, t, sq, f) = leads.outward i s z sp e in (j, t, sq, f))
 
   pub holds-begun : {A : Type 0} (taken : Given (A × Item)) (v : A) (level : ByteLevel) → IsKept remaining old new →
-      TakesLevel old new level →
-      EntersLevelUnread (IsUnread remaining) old new (Some old.levels) taken v →
+      TakesLevel old new level → EntersLevelUnread (IsUnread remaining) old new (Some old.levels) taken v →
       Holds (StandsBefore remaining) LevelStands old new taken v level
   holds-begun taken v level kept (back, less) h l i f (b, u, (s, r, sp, rest, e), is, ahead) =
       let (w, un, leads) = h b u in
@@ -75,9 +67,8 @@ module _ {S : Type 0} (IsUnread : S → List ℕ → Type 0) (old mid new : S) (
 
   untagged-alone : (h : Header) → ((t : ℕ) → h ≡ header.Tag t → ⊥) → (i : Item) → header_of i ≡ h →
       outer_tag i ≡ (None, i)
-  untagged-alone h p i e =
-      by-shape (λ j. outer_tag j ≡ (None, j)) h (λ n k. refl) (λ n k. refl) (λ o b k. refl) (λ o b k. refl)
-      (λ o is k. refl) (λ o ps k. refl) (λ n k. refl) (λ raw k. refl) (λ t j k. absurd (p t k)) i e
+  untagged-alone h p i e = by-shape (λ j. outer_tag j ≡ (None, j)) h (λ n k. refl) (λ n k. refl) (λ o b k. refl)
+      (λ o b k. refl) (λ o is k. refl) (λ o ps k. refl) (λ n k. refl) (λ raw k. refl) (λ t j k. absurd (p t k)) i e
 
   -- another head was looked at
   pub none-begun : (h : Header) → ((t : ℕ) → h ≡ header.Tag t → ⊥) → TakesHead IsUnread old mid h →

@@ -2,16 +2,11 @@
 use Rattle.std.proofs.Common.{◌≡◌, ℕ, List, [], ◌++◌, Some, Ok, refl, sym, ap, ◌∙◌}
 use Rattle.std.specs.declared.io.Error.{Error as IoError}
 use Rattle.ciborium_ll.proofs.UniqueSpelling.{one_at_front}
-use Rattle.ciborium_value.specs.Encoding.{written_bytes}
-use Rattle.ciborium_value.specs.Readings.{Reading}
-use Rattle.ciborium_value.specs.ReadsBack.{IsPlainlyReadBack, by_bytes}
-use Rattle.ciborium_value.specs.Sinks.{Named}
-use Rattle.ciborium_value.specs.Given.{gives, outcome}
-use Rattle.ciborium_value.specs.WrittenContents.{IsWrittenByContent}
+use Rattle.ciborium_value.specs.{Encoding.written_bytes, Readings.Reading, ReadsBack.{IsPlainlyReadBack, by_bytes}}
+use Rattle.ciborium_value.specs.{Sinks.Named, Given.{gives, outcome}, WrittenContents.IsWrittenByContent}
 use Rattle.ciborium_value.proofs.Writing.ReadBack.{written_spells_item}
 use Rattle.ciborium.specs.laws.RoundTrips.{AreRefusedAlike, BytesWrittenAgain, LeaveSameBytes, TreeWrittenAgain}
-use Rattle.ciborium.specs.laws.RoundTrips.{WriteSameBytes}
-use Rattle.ciborium.specs.Writes.{WritesNamed}
+use Rattle.ciborium.specs.{laws.RoundTrips.WriteSameBytes, Writes.WritesNamed}
 use Rattle.ciborium.specs.declared.ser.error.Error.{Error as WriteError}
 use Rattle.ciborium.proofs.ReadBack.RoundTrips.{one-content, tree_gives_content}
 

@@ -2,38 +2,24 @@
 use Rattle.std.proofs.Common.{◌≡◌, ℕ, List, [], ◌++◌, Option, Some, None, Ok, Err, refl, sym, ap, ◌∙◌, subst}
 use Rattle.std.proofs.Common.{append-nil, arith}
 use Rattle.ciborium_ll.proofs.UniqueSpelling.{one_at_front}
-use Rattle.ciborium_value.specs.DeterministicForms.{deterministic_form}
-use Rattle.ciborium_value.specs.Encoding.{encoding, item_of, written_tree}
-use Rattle.ciborium_value.specs.lemmas.ItemsOfTrees.{tree_is_written_as_itself}
-use Rattle.ciborium_value.specs.Nesting.{Limit, IsWithin}
-use Rattle.ciborium_value.specs.Readings.{Reading}
-use Rattle.ciborium_value.specs.ReadsBack.{IsPlainlyReadBack, IsReadFromForm, by_tree}
-use Rattle.ciborium_value.specs.Sinks.{Named}
-use Rattle.ciborium_value.specs.Given.{Outcome, Given, gives, outcome, outcome_map}
-use Rattle.ciborium_value.specs.Tree.{Tree}
-use Rattle.ciborium_value.specs.View.{tree_of}
-use Rattle.ciborium_value.specs.WrittenItems.{IsWritten}
-use Rattle.ciborium_value.specs.declared.key_order.KeyOrder.{KeyOrder}
-use Rattle.ciborium_value.specs.declared.tree.Value.{Value}
+use Rattle.ciborium_value.specs.{DeterministicForms.deterministic_form, Encoding.{encoding, item_of, written_tree}}
+use Rattle.ciborium_value.specs.{lemmas.ItemsOfTrees.tree_is_written_as_itself, Nesting.{Limit, IsWithin}}
+use Rattle.ciborium_value.specs.{Readings.Reading, ReadsBack.{IsPlainlyReadBack, IsReadFromForm, by_tree}, Sinks.Named}
+use Rattle.ciborium_value.specs.{Given.{Outcome, Given, gives, outcome, outcome_map}, Tree.Tree, View.tree_of}
+use Rattle.ciborium_value.specs.{WrittenItems.IsWritten, declared.key_order.KeyOrder.KeyOrder}
+use Rattle.ciborium_value.specs.{declared.tree.Value.Value, Spelling.deterministic}
 use Rattle.ciborium_value.proofs.Forms.OwnForms.{accepted_where_own_form, form_is_its_own}
-use Rattle.ciborium_value.proofs.Forms.ProperForms.{form_is_proper}
-use Rattle.ciborium_value.proofs.Writing.ReadBack.{written_spells_item}
-use Rattle.ciborium.specs.ValueClauses.{TakesValue}
-use Rattle.ciborium.specs.DeterministicWrites.{named_form}
-use Rattle.ciborium.specs.laws.FormRoundTrips.{FormIsReadBack, IsFormContentGiven, IsFormContentReadBack}
-use Rattle.ciborium.specs.laws.FormRoundTrips.{IsFormReadAlike, IsFormReadBack, IsOwnForm}
-use Rattle.ciborium_value.specs.Spelling.{deterministic}
-use Rattle.ciborium.specs.TypedAnswers.{TakesGiving}
-use Rattle.ciborium.proofs.ReadBack.RoundTrips.{one-content}
-use Rattle.ciborium_value.proofs.GoodItems.Accepted.{written-item}
-use Rattle.ciborium.proofs.ReadBack.SourcesAgree.{without-gives}
-use Rattle.ciborium_value.proofs.Sources.Limits.{same-within}
+use Rattle.ciborium_value.proofs.{Forms.ProperForms.form_is_proper, Writing.ReadBack.written_spells_item}
+use Rattle.ciborium_value.proofs.{GoodItems.Accepted.written-item, Sources.Limits.same-within}
+use Rattle.ciborium.specs.{ValueClauses.TakesValue, DeterministicWrites.named_form, laws.FormRoundTrips.FormIsReadBack}
+use Rattle.ciborium.specs.laws.FormRoundTrips.{IsFormContentGiven, IsFormContentReadBack, IsFormReadAlike}
+use Rattle.ciborium.specs.{laws.FormRoundTrips.{IsFormReadBack, IsOwnForm}, TypedAnswers.TakesGiving}
+use Rattle.ciborium.proofs.{ReadBack.RoundTrips.one-content, ReadBack.SourcesAgree.without-gives}
 
 -- the encoding of the form stands at the front, and is the one that is accepted
 pub form_is_read_back : FormIsReadBack
-form_is_read_back o v t l rest after r proper form within fits answers =
-    answers (encoding t ++ rest) (encoding t) rest t refl
-    ((accepted_where_own_form o t 0 l (form_is_proper o v t proper form)).1
+form_is_read_back o v t l rest after r proper form within fits answers = answers (encoding t ++ rest)
+    (encoding t) rest t refl ((accepted_where_own_form o t 0 l (form_is_proper o v t proper form)).1
     (form_is_its_own o v t form, within, omega (arith, fits))) refl
 
 -- the bytes that were written into nothing are just the encoding of the form

@@ -1,32 +1,18 @@
 -- What is loaded from all of the bytes: one encoding of each content, and what was saved.
 use Rattle.std.proofs.Common.{◌≡◌, ℕ, suc, ◌<◌, ◌≤◌, Bool, true, false, List, [], ◌++◌, length, take, Some, None}
-use Rattle.std.proofs.Common.{Result, Ok, Err, refl, sym, ap}
-use Rattle.std.proofs.Common.{◌∙◌, subst, append-nil, arith, ◌⊎◌, inl, inr, ◌≢◌}
+use Rattle.std.proofs.Common.{Result, Ok, Err, refl, sym, ap, ◌∙◌, subst, append-nil, arith, ◌⊎◌, inl, inr, ◌≢◌}
 use Rattle.std.proofs.lemmas.Bool.{leb-false, leb-true}
-use Rattle.std.specs.Prelude.{nat_le}
-use Rattle.std.specs.declared.io.Error.{Error as IoError}
-use Rattle.ciborium_ll.specs.Bytes.{greatest_offset}
-use Rattle.ciborium_ll.specs.Spells.{Spells}
-use Rattle.ciborium_value.specs.Encoding.{encoding, item_of}
-use Rattle.ciborium_value.specs.ReadsBack.{IsReadFromForm}
-use Rattle.ciborium_value.specs.Nesting.{Limit, IsWithin}
-use Rattle.ciborium_value.specs.Readings.{Reading}
-use Rattle.ciborium_value.specs.Sinks.{Named}
-use Rattle.ciborium_value.specs.Sources.{IsFaultOf}
-use Rattle.ciborium_value.specs.Given.{Outcome, gives, nests, outcome}
-use Rattle.ciborium_value.specs.Tree.{Tree}
-use Rattle.ciborium_value.specs.WrittenItems.{IsWritten}
-use Rattle.ciborium_value.specs.declared.key_order.KeyOrder.{KeyOrder}
-use Rattle.ciborium_value.proofs.Sources.Limits.{same-within}
-use Rattle.ciborium_value.proofs.Writing.ReadBack.{written_spells_item}
-use Rattle.ciborium.specs.DeterministicWrites.{named_form}
-use Rattle.ciborium.specs.Errors.{fault_of}
-use Rattle.ciborium.specs.LoadedAnswers.{AreFormOf, RefusesOther}
-use Rattle.ciborium.specs.SliceAnswers.{ReadsAll}
-use Rattle.ciborium.specs.declared.de.error.Error.{Error}
-use Rattle.ciborium.specs.declared.de.error.Error.TheVariants as errors
-use Rattle.ciborium.specs.laws.Loaded.{IsSavedLoaded, NestsDeeper, OneEncoding, SavedIsLoaded}
+use Rattle.std.specs.{Prelude.nat_le, declared.io.Error.Error as IoError}
+use Rattle.ciborium_ll.specs.{Bytes.greatest_offset, Spells.Spells}
+use Rattle.ciborium_value.specs.{Encoding.{encoding, item_of}, ReadsBack.IsReadFromForm, Nesting.{Limit, IsWithin}}
+use Rattle.ciborium_value.specs.{Readings.Reading, Sinks.Named, Sources.IsFaultOf, Given.{Outcome, gives, nests}}
+use Rattle.ciborium_value.specs.{Given.outcome, Tree.Tree, WrittenItems.IsWritten, declared.key_order.KeyOrder.KeyOrder}
+use Rattle.ciborium_value.proofs.{Sources.Limits.same-within, Writing.ReadBack.written_spells_item}
+use Rattle.ciborium.specs.{DeterministicWrites.named_form, Errors.fault_of, LoadedAnswers.{AreFormOf, RefusesOther}}
+use Rattle.ciborium.specs.{SliceAnswers.ReadsAll, declared.de.error.Error.Error, laws.Loaded.IsSavedLoaded}
+use Rattle.ciborium.specs.laws.Loaded.{NestsDeeper, OneEncoding, SavedIsLoaded}
 use Rattle.ciborium.proofs.ReadBack.FormRoundTrips.{from-form, one-form, read-content}
+use Rattle.ciborium.specs.declared.de.error.Error.TheVariants as errors
 
 one-encoded : (o : KeyOrder) (b c : List ℕ) (n m : Named) → n ≡ m → AreFormOf o b n → AreFormOf o c m → b ≡ c
 one-encoded o b c n m e (t, f, is) (u, g, same) =
@@ -57,8 +43,7 @@ module _ {T C : Type 0} (IsValid : T → Type 0) (written : T → Named) (readin
     (law : IsReadFromForm IsValid written reading.taken reading.content levels) where
   module _ (o : KeyOrder) (l : ℕ) (v : T) (t : Tree) (bytes : List ℕ) (valid : IsValid v)
       (form : named_form o (written v) ≡ gives t) (fits : IsWritten (item_of t)) (same : bytes ≡ encoding t) where
-    given : (m : Limit) → IsWithin m (levels v) →
-        outcome m (reading.taken (item_of t)) ≡ gives (reading.content v)
+    given : (m : Limit) → IsWithin m (levels v) → outcome m (reading.taken (item_of t)) ≡ gives (reading.content v)
     given = from-form IsValid written reading levels law o v valid (written v) refl t form
 
     spelled : Spells bytes (item_of t)

@@ -4,26 +4,17 @@ use Rattle.std.proofs.Common.{◌+◌, subst, append-nil, arith}
 use Rattle.std.specs.declared.io.Error.{Error as IoError}
 use Rattle.ciborium_ll.specs.Item.{Item}
 use Rattle.ciborium_ll.proofs.UniqueSpelling.{one_at_front}
-use Rattle.ciborium_value.specs.Encoding.{item_of, written_bytes, written_tree}
-use Rattle.ciborium_value.specs.Nesting.{IsWithin}
-use Rattle.ciborium_value.specs.Readings.{Reading}
-use Rattle.ciborium_value.specs.ReadsBack.{IsPlainlyReadBack, by_bytes, by_tree}
-use Rattle.ciborium_value.specs.Sinks.{Named}
-use Rattle.ciborium_value.specs.Sources.{Fault, of_syntax, of_memory, of_device, of_end}
-use Rattle.ciborium_value.specs.Sources.{of_length, IsFaultOf, IsOutsideFault}
-use Rattle.ciborium_value.specs.Given.{Outcome, gives, outcome}
-use Rattle.ciborium_value.specs.WrittenItems.{IsWritten}
+use Rattle.ciborium_value.specs.{Encoding.{item_of, written_bytes, written_tree}, Nesting.IsWithin, Readings.Reading}
+use Rattle.ciborium_value.specs.{ReadsBack.{IsPlainlyReadBack, by_bytes, by_tree}, Sinks.Named, Sources.Fault}
+use Rattle.ciborium_value.specs.Sources.{of_syntax, of_memory, of_device, of_end, of_length, IsFaultOf, IsOutsideFault}
+use Rattle.ciborium_value.specs.{Given.{Outcome, gives, outcome}, WrittenItems.IsWritten, TreeAnswers.IsTreeOf}
+use Rattle.ciborium_value.specs.{TreeAnswers.value_item, declared.tree.Value.Value}
 use Rattle.ciborium_value.proofs.Writing.ReadBack.{written_spells_item}
-use Rattle.ciborium.specs.declared.de.error.Error.{Error}
-use Rattle.ciborium.specs.Errors.{fault_of}
-use Rattle.ciborium_value.specs.declared.error.Error.TheVariants as of_tree
-use Rattle.ciborium_value.specs.TreeAnswers.{IsTreeOf, value_item}
-use Rattle.ciborium_value.specs.declared.tree.Value.{Value}
-use Rattle.ciborium.specs.declared.ser.error.Error.{Error as WriteError}
+use Rattle.ciborium.specs.{declared.de.error.Error.Error, Errors.fault_of, declared.ser.error.Error.Error as WriteError}
 use Rattle.ciborium.specs.laws.RoundTrips.{BytesReadBack, IsContentReadBack, IsGivenBack, TreeGivesContent}
-use Rattle.ciborium.specs.laws.RoundTrips.{TreeReadBack}
-use Rattle.ciborium.specs.TypedAnswers.{AnswersBytes, TakesGiving}
+use Rattle.ciborium.specs.{laws.RoundTrips.TreeReadBack, TypedAnswers.{AnswersBytes, TakesGiving}}
 use Rattle.ciborium.specs.Writes.{IsNamedWritten, WritesNamed}
+use Rattle.ciborium_value.specs.declared.error.Error.TheVariants as of_tree
 
 -- where a value is given no item is to blame
 pub not-blamed : {C : Type 0} (end : ℕ) (f : Fault) (o : Outcome C) (c : C) → o ≡ gives c → IsFaultOf end f o →
@@ -39,8 +30,7 @@ pub one-content : {C : Type 0} (o : Outcome C) (c d : C) → o ≡ gives c → o
 one-content o c d h k = cc
 
 pub bytes_read_back : {T C : Type 0} (IsValid : T → Type 0) (written : T → Named) (reading : Reading T C)
-    (levels : T → ℕ) →
-    IsPlainlyReadBack IsValid written reading.taken reading.content levels →
+    (levels : T → ℕ) → IsPlainlyReadBack IsValid written reading.taken reading.content levels →
     BytesReadBack IsValid written reading levels
 bytes_read_back {T} {C} IsValid written reading levels law v i l rest after r valid names fits within answers =
     by r answers

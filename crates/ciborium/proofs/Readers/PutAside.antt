@@ -1,17 +1,12 @@
 -- What is said of an answer does not look at what an error holds of the reader.
 use Rattle.std.proofs.Common.{◌≡◌, ℕ, Bool, List, Option, Some, Err, refl}
-use Rattle.ciborium_ll.specs.declared.decoder.Decoder.{Decoder}
-use Rattle.ciborium_ll.specs.Decoding.{TakesBeforeAny, left_of}
-use Rattle.ciborium_ll.specs.Refusal.{Refusal}
-use Rattle.ciborium.specs.declared.de.byte_source.ByteSource.{ByteSource}
-use Rattle.ciborium.specs.declared.de.error.Error.{Error}
-use Rattle.ciborium.specs.declared.de.error.Error.TheVariants as errors
-use Rattle.ciborium.specs.inner.ByteSources.{ReadsValue}
-use Rattle.ciborium.specs.Errors.{fault_of, HasEndedBy, without_reader_error}
+use Rattle.ciborium_ll.specs.{declared.decoder.Decoder.Decoder, Decoding.{TakesBeforeAny, left_of}, Refusal.Refusal}
+use Rattle.ciborium.specs.{declared.de.byte_source.ByteSource.ByteSource, declared.de.error.Error.Error}
+use Rattle.ciborium.specs.{inner.ByteSources.ReadsValue, Errors.{fault_of, HasEndedBy, without_reader_error}}
 use Rattle.ciborium.specs.ValueAnswers.{IsRefusedBy}
-use Rattle.ciborium_value.specs.Spelling.{Spelling}
-use Rattle.ciborium_value.specs.Refuses.{Refuses}
+use Rattle.ciborium_value.specs.{Spelling.Spelling, Refuses.Refuses}
 use Rattle.ciborium.proofs.Readers.WhateverFollows.{TreeSo}
+use Rattle.ciborium.specs.declared.de.error.Error.TheVariants as errors
 
 pub same-cause : {E : Type 0} (left : Option (List ℕ)) (e : Error E) →
     fault_of left (without_reader_error e) ≡ fault_of left e
@@ -46,8 +41,7 @@ back-reads can_fail remaining old new e (same, ended, (s, taken, count, h, bytes
 -- the same, of what a decoder was read as
 pub back-tree : {S W E : Type 0} (spelling : Spelling) (remaining : S → Option (List ℕ)) (a b : Decoder S W) (l : ℕ)
     (e : Error E) → TakesBeforeAny remaining a b (λ d f. TreeSo {E = Unit} spelling l d f
-    (Err (without_reader_error e))) →
-    TakesBeforeAny remaining a b (λ d f. TreeSo {E = E} spelling l d f (Err e))
+    (Err (without_reader_error e))) → TakesBeforeAny remaining a b (λ d f. TreeSo {E = E} spelling l d f (Err e))
 back-tree spelling remaining a b l e (s, taken, count, h, bytes) = (
   s,
   taken,

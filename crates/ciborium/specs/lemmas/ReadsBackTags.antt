@@ -1,31 +1,23 @@
 -- What is written under a tag is read back (RFC 8949, section 3.4), from its deterministic form
 -- where the tag folds nothing (section 3.4.3).
-use Rattle.std.proofs.Common.{ap, sym, subst, ◌∙◌, arith}
-use Rattle.std.proofs.lemmas.Bool.Decides.{nat_tests}
-use Rattle.std.specs.Prelude.{◌≡◌, ℕ, suc, Bool, true, false, nat_lt, List, Option, Some, None, Ok}
-use Rattle.std.specs.Prelude.{Err, IfOk, if◌then◌else◌, refl}
-use Rattle.ciborium_ll.specs.Item as items
+use Rattle.std.proofs.{Common.{ap, sym, subst, ◌∙◌, arith}, lemmas.Bool.Decides.nat_tests}
+use Rattle.std.specs.Prelude.{◌≡◌, ℕ, suc, Bool, true, false, nat_lt, List, Option, Some, None, Ok, Err, IfOk}
+use Rattle.std.specs.Prelude.{if◌then◌else◌, refl}
 use Rattle.ciborium_ll.specs.Item.{Item}
-use Rattle.ciborium_value.specs.DeterministicForms.{deterministic_form, tag_form}
-use Rattle.ciborium_value.specs.Encoding.{item_of, written_tree}
-use Rattle.ciborium_value.specs.Folded.{short_bytes, tree_folding_bytes}
-use Rattle.ciborium_value.specs.lemmas.GivenOutcomes.{mapped_gives, one_given}
-use Rattle.ciborium_value.specs.lemmas.MetItems.{form-kept, inside}
-use Rattle.ciborium_value.specs.Meaning.{is_bignum_tag}
-use Rattle.ciborium_value.specs.Nesting.{Limit, IsWithin}
-use Rattle.ciborium_value.specs.NeverWritten.{Avoided, IsNever, IsOther, byte_strings, nulls}
-use Rattle.ciborium_value.specs.ReadsBack.{IsItemRead, IsNameRead, IsPlain, Way, at, by_bytes}
-use Rattle.ciborium_value.specs.ReadsBack.{by_form, by_tree, met, name-back, of_ok}
-use Rattle.ciborium_value.specs.Sinks.{Named, tag_of}
-use Rattle.ciborium_value.specs.TagReadings.{if_tag, is_no_other_tag, is_tag, given_with_tag}
-use Rattle.ciborium_value.specs.Given.{Given, deeper, gives, mapped, outcome, outcome_map}
-use Rattle.ciborium_value.specs.Given.{outer_tag, refuses, then_take, within_level}
-use Rattle.ciborium_value.specs.GivenParts.{given_then}
-use Rattle.ciborium_value.specs.Tree as trees
-use Rattle.ciborium_value.specs.Tree.{Tree}
+use Rattle.ciborium_value.specs.{DeterministicForms.{deterministic_form, tag_form}, Encoding.{item_of, written_tree}}
+use Rattle.ciborium_value.specs.{Folded.{short_bytes, tree_folding_bytes}, lemmas.GivenOutcomes.mapped_gives}
+use Rattle.ciborium_value.specs.{lemmas.GivenOutcomes.one_given, lemmas.MetItems.{form-kept, inside}}
+use Rattle.ciborium_value.specs.{Meaning.is_bignum_tag, Nesting.{Limit, IsWithin}, NeverWritten.{Avoided, IsNever}}
+use Rattle.ciborium_value.specs.{NeverWritten.{IsOther, byte_strings, nulls}, ReadsBack.{IsItemRead, IsNameRead}}
+use Rattle.ciborium_value.specs.ReadsBack.{IsPlain, Way, at, by_bytes, by_form, by_tree, met, name-back, of_ok}
+use Rattle.ciborium_value.specs.{Sinks.{Named, tag_of}, TagReadings.{if_tag, is_no_other_tag, is_tag, given_with_tag}}
+use Rattle.ciborium_value.specs.Given.{Given, deeper, gives, mapped, outcome, outcome_map, outer_tag, refuses}
+use Rattle.ciborium_value.specs.{Given.{then_take, within_level}, GivenParts.given_then, Tree.Tree}
 use Rattle.ciborium_value.specs.declared.key_order.KeyOrder.{KeyOrder}
-use Rattle.ciborium_value.specs.declared.kind.Kind.TheVariants as kinds
 use Rattle.ciborium.specs.Tags.{captured_of}
+use Rattle.ciborium_ll.specs.Item as items
+use Rattle.ciborium_value.specs.Tree as trees
+use Rattle.ciborium_value.specs.declared.kind.Kind.TheVariants as kinds
 
 -- what is written without a tag around it has none of its own, as a bignum has
 abbrev pub IsToldApart : Option ℕ → Named → Type 0
@@ -45,8 +37,7 @@ untagged-either false v w h k = k
 tree-untagged : (i : Item) → IsUntagged i → IsUntagged (item_of (written_tree i))
 tree-untagged (items.tag t i) e = let some : Some t ≡ None = ap (λ p. p.0) e in cc
 tree-untagged (items.simple n) e =
-    untagged-either (nat_lt n 21) (trees.boolean false)
-    (if nat_lt n 22 then trees.boolean true else trees.null) refl
+    untagged-either (nat_lt n 21) (trees.boolean false) (if nat_lt n 22 then trees.boolean true else trees.null) refl
     (untagged-either (nat_lt n 22) (trees.boolean true) trees.null refl refl)
 tree-untagged _ e = refl
 
@@ -58,8 +49,7 @@ form-untagged o = form-kept o (λ t. IsUntagged (item_of t))
 
 met-untagged : (way : Way) (i j : Item) → IsUntagged i → met way i ≡ gives j → IsUntagged j
 met-untagged by_bytes i j h e = subst IsUntagged (one_given i j e) h
-met-untagged by_tree i j h e =
-    subst IsUntagged (one_given (item_of (written_tree i)) j e) (tree-untagged i h)
+met-untagged by_tree i j h e = subst IsUntagged (one_given (item_of (written_tree i)) j e) (tree-untagged i h)
 met-untagged (by_form o) i j h e =
     let (t, form, same) = mapped_gives item_of (deterministic_form o (written_tree i)) j e in
     subst IsUntagged same (form-untagged o (written_tree i) t (tree-untagged i h) form)
@@ -75,8 +65,7 @@ abbrev pub IsUnfolded : Way → Option ℕ → Named → Type 0
 IsUnfolded by_bytes m r = Unit {0}
 IsUnfolded by_tree m r = Unit {0}
 IsUnfolded (by_form o) None r = Unit {0}
-IsUnfolded (by_form o) (Some t) r = (i : Item) → r ≡ Ok i →
-    tree_folding_bytes t (written_tree i) ≡ None
+IsUnfolded (by_form o) (Some t) r = (i : Item) → r ≡ Ok i → tree_folding_bytes t (written_tree i) ≡ None
 
 pub plain-unfolded : (way : Way) → IsPlain way → (m : Option ℕ) (r : Named) → IsUnfolded way m r
 plain-unfolded by_bytes plain m r = tt
@@ -84,25 +73,21 @@ plain-unfolded by_tree plain m r = tt
 plain-unfolded (by_form o) plain m r = absurd plain
 
 -- no tag does over what is no byte string
-pub not_bytes : (way : Way) (m : Option ℕ) {r : Named} → IsNever byte_strings r →
-    IsUnfolded way m r
+pub not_bytes : (way : Way) (m : Option ℕ) {r : Named} → IsNever byte_strings r → IsUnfolded way m r
 not_bytes by_bytes m never = tt
 not_bytes by_tree m never = tt
 not_bytes (by_form o) None never = tt
-not_bytes (by_form o) (Some t) never = λ i e.
-    either_none (is_bignum_tag t) (short_bytes (written_tree i)) (never i e)
+not_bytes (by_form o) (Some t) never = λ i e. either_none (is_bignum_tag t) (short_bytes (written_tree i)) (never i e)
 
 -- and a tag but 2 and 3 over nothing
-pub no_bignum : (way : Way) (t : ℕ) (r : Named) → is_bignum_tag t ≡ false →
-    IsUnfolded way (Some t) r
+pub no_bignum : (way : Way) (t : ℕ) (r : Named) → is_bignum_tag t ≡ false → IsUnfolded way (Some t) r
 no_bignum by_bytes t r h = tt
 no_bignum by_tree t r h = tt
 no_bignum (by_form o) t r h = λ i e. ap (λ c. if c then short_bytes (written_tree i) else None) h
 
 -- so a tag is met over what is met
 met-tag : (way : Way) (t : ℕ) (i j : Item) → IsUnfolded way (Some t) (Ok i) →
-    met way (items.tag t i) ≡ gives j →
-    (u : Item) × (met way i ≡ gives u) × (items.tag t u ≡ j)
+    met way (items.tag t i) ≡ gives j → (u : Item) × (met way i ≡ gives u) × (items.tag t u ≡ j)
 met-tag by_bytes t i j never e = (i, refl, one_given (items.tag t i) j e)
 met-tag by_tree t i j never e =
     let u = item_of (written_tree i) in
@@ -142,10 +127,8 @@ itself t = grind (arith, nat_tests)
 
 module _ {C : Type 0} {way : Way} {taken : Given C} {c : C} {n : ℕ} where
   pub captured-back : (m : Option ℕ) {r : Named} → IsToldApart m r → IsUnfolded way m r →
-      IsNameRead way r taken c n →
-      IsNameRead way (captured_of m r) (given_with_tag taken) (m, c) (suc n)
-  captured-back m {r = r} told never h =
-      name-back (captured_of m r) (captured-read way taken c n m r told never (at h))
+      IsNameRead way r taken c n → IsNameRead way (captured_of m r) (given_with_tag taken) (m, c) (suc n)
+  captured-back m {r = r} told never h = name-back (captured_of m r) (captured-read way taken c n m r told never (at h))
 
   -- under a tag that passes this test
   tested-back : (test : Option ℕ → Bool) (t : ℕ) {r : Named} → test (Some t) ≡ true →
@@ -162,8 +145,7 @@ module _ {C : Type 0} {way : Way} {taken : Given C} {c : C} {n : ℕ} where
   required-back t never h = tested-back (is_tag t) t (itself t) never h
 
   pub accepted-back : (t : ℕ) {r : Named} → IsUnfolded way (Some t) r → IsNameRead way r taken c n →
-      IsNameRead way (tag_of t r) (given_then (given_with_tag taken) (if_tag (is_no_other_tag t))) c
-      (suc n)
+      IsNameRead way (tag_of t r) (given_then (given_with_tag taken) (if_tag (is_no_other_tag t))) c (suc n)
   accepted-back t never h = tested-back (is_no_other_tag t) t (itself t) never h
 
 -- ---- a tag is neither null nor a byte string, whatever stands under it
@@ -176,7 +158,6 @@ tag-other a t (Err k) = tt
 pub tag-never : (a : Avoided) (t : ℕ) (r : Named) → IsNever a (tag_of t r)
 tag-never a t r = of_ok (tag_of t r) (IsOther a) (tag-other a t r)
 
-pub captured-never : (a : Avoided) (o : Option ℕ) {r : Named} → IsNever a r →
-    IsNever a (captured_of o r)
+pub captured-never : (a : Avoided) (o : Option ℕ) {r : Named} → IsNever a r → IsNever a (captured_of o r)
 captured-never a (Some t) {r = r} h = tag-never a t r
 captured-never a None h = h

@@ -1,26 +1,18 @@
 -- The descriptions of types under tags (RFC 8949, section 3.4).
-use Rattle.std.specs.Prelude.{◌≡◌, ℕ, suc, Bool, true, false, Option, Some, ◌&&◌}
-use Rattle.std.specs.Prelude.{if◌then◌else◌, refl}
-use Rattle.ciborium_value.specs.Described.{Description}
-use Rattle.ciborium_value.specs.Meaning.{is_bignum_tag}
-use Rattle.ciborium_value.specs.NeverWritten.{byte_strings}
-use Rattle.ciborium_value.specs.ReadsBack.{Way}
-use Rattle.ciborium_value.specs.Sinks.{tag_of}
-use Rattle.ciborium_value.specs.TagReadings.{tag_accepted, tag_required, with_tag}
+use Rattle.std.specs.Prelude.{◌≡◌, ℕ, suc, Bool, true, false, Option, Some, ◌&&◌, if◌then◌else◌, refl}
+use Rattle.ciborium_value.specs.{Described.Description, Meaning.is_bignum_tag, NeverWritten.byte_strings, ReadsBack.Way}
+use Rattle.ciborium_value.specs.{Sinks.tag_of, TagReadings.{tag_accepted, tag_required, with_tag}}
 use Rattle.ciborium_value.specs.lemmas.Descriptions.{both}
-use Rattle.ciborium.specs.Tags.{captured_of}
-use Rattle.ciborium.specs.lemmas.ReadsBackTags.{IsToldApart, IsUnfolded, accepted-back}
-use Rattle.ciborium.specs.lemmas.ReadsBackTags.{captured-back, captured-never, no_bignum, not_bytes}
-use Rattle.ciborium.specs.lemmas.ReadsBackTags.{required-back, tag-never}
-use Rattle.ciborium.specs.lemmas.WrittenTags.{captured-alike, tagged-alike}
+use Rattle.ciborium.specs.{Tags.captured_of, lemmas.ReadsBackTags.{IsToldApart, IsUnfolded, accepted-back}}
+use Rattle.ciborium.specs.lemmas.ReadsBackTags.{captured-back, captured-never, no_bignum, not_bytes, required-back}
+use Rattle.ciborium.specs.{lemmas.ReadsBackTags.tag-never, lemmas.WrittenTags.{captured-alike, tagged-alike}}
 
 -- the tag folds nothing: it is no bignum's, or the part is never a byte string (section 3.4.3)
 abbrev pub folds_nothing : {V : Type 0} → ℕ → Description V → Bool
 folds_nothing t d = if is_bignum_tag t then d.avoids byte_strings else true
 
 unfolded : {V : Type 0} (t : ℕ) (d : Description V) (way : Way) (v : V) (c : Bool) →
-    is_bignum_tag t ≡ c → (if c then d.avoids byte_strings else true) ≡ true →
-    IsUnfolded way (Some t) (d.written v)
+    is_bignum_tag t ≡ c → (if c then d.avoids byte_strings else true) ≡ true → IsUnfolded way (Some t) (d.written v)
 unfolded t d way v true e h = not_bytes way (Some t) (d.never byte_strings h v)
 unfolded t d way v false e h = no_bignum way t (d.written v) e
 
@@ -63,8 +55,7 @@ under_tag_or_none t part d = record {
 }
 
 -- what is written as this part under this tag, if there is one
-abbrev pub under_any_tag : {T V : Type 0} → (T → Option ℕ) → (T → V) → Description V →
-    Description T
+abbrev pub under_any_tag : {T V : Type 0} → (T → Option ℕ) → (T → V) → Description V → Description T
 under_any_tag tag part d = record {
   Content = Option ℕ × d.Content;
   reading = with_tag tag part d.reading;

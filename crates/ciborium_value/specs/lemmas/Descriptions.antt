@@ -1,44 +1,29 @@
 -- The descriptions of the library's types, and of structs as maps, from those of their parts.
 use Rattle.std.proofs.Common.{ap, arith, subst, sym, ◌∙◌}
-use Rattle.std.specs.List.{All}
-use Rattle.std.specs.Option.{option_map, unwrap_or}
-use Rattle.std.specs.Prelude.{◌≡◌, ◌<◌, ◌^◌, ◌+◌, ℕ, ℤ, suc, pos, max, Bool, true, false, List, []}
-use Rattle.std.specs.Prelude.{◌∷◌, Option, Some, None, Ok, Err, IfSome, length, map, nat_le, ◌&&◌}
-use Rattle.std.specs.Prelude.{if◌then◌else◌, refl}
+use Rattle.std.specs.{List.All, Option.{option_map, unwrap_or}, Prelude.{◌≡◌, ◌<◌, ◌^◌, ◌+◌, ℕ, ℤ, suc, pos, max, Bool}}
+use Rattle.std.specs.Prelude.{true, false, List, [], ◌∷◌, Option, Some, None, Ok, Err, IfSome, length, map, nat_le}
+use Rattle.std.specs.{Prelude.{◌&&◌, if◌then◌else◌, refl}, declared.cmp.Ordering.Ordering}
 use Rattle.ciborium_ll.specs.Bytes.{greatest_offset}
-use Rattle.ciborium_value.specs.Described.{Description, FieldsDescription, IsDescribed, is_lawful}
-use Rattle.ciborium_value.specs.Described.{labeled_map, labeled_parts, maybe_before, maybe_levels}
-use Rattle.ciborium_value.specs.Labels.{Label, is_label, is_proper, label_item, number_or, parts_or}
-use Rattle.ciborium_value.specs.NeverWritten.{Avoided, IsNever, byte_strings, never-container}
-use Rattle.ciborium_value.specs.NeverWritten.{never-number, never-option, nulls}
-use Rattle.ciborium_value.specs.Places.{Shape, dictionary, sequence}
-use Rattle.ciborium_value.specs.Progress.{counted_of}
-use Rattle.ciborium_value.specs.Readings.{IsBounded, Reading, below, bounded, list_of, option_of}
-use Rattle.ciborium_value.specs.Readings.{ordered_by, read_as, such_that, tuple1_of, tuple2_of}
-use Rattle.ciborium_value.specs.Readings.{tuple3_of}
-use Rattle.ciborium_value.specs.Readings.{tuple4_of}
-use Rattle.ciborium_value.specs.ReadsBack.{IsNameRead, IsReadBack, Way, name-back}
-use Rattle.ciborium_value.specs.Sinks.{Named, container_of, number_item, or_null}
-use Rattle.ciborium_value.specs.StructReadings.{Fields, FieldsGiven, end_of_fields, field_filled}
-use Rattle.ciborium_value.specs.StructReadings.{no_field_given, no_other_given, optional_field}
-use Rattle.ciborium_value.specs.StructReadings.{struct_of, given_struct}
-use Rattle.ciborium_value.specs.Given.{Given}
-use Rattle.ciborium_value.specs.WrittenContents.{AreFieldsAlike, IsWrittenByContent, field_alike}
-use Rattle.ciborium_value.specs.WrittenContents.{list-alike, no_field_alike, option-alike}
-use Rattle.ciborium_value.specs.WrittenContents.{signed-alike, tuple1-alike, tuple2-alike}
-use Rattle.ciborium_value.specs.WrittenContents.{tuple3-alike, tuple4-alike, unsigned-alike}
-use Rattle.std.specs.declared.cmp.Ordering.{Ordering}
-use Rattle.ciborium_value.specs.declared.kind.Kind.{Kind}
-use Rattle.ciborium_value.specs.declared.kind.Kind.TheVariants.{Other}
+use Rattle.ciborium_value.specs.Described.{Description, FieldsDescription, IsDescribed, is_lawful, labeled_map}
+use Rattle.ciborium_value.specs.{Described.{labeled_parts, maybe_before, maybe_levels}, Labels.{Label, is_label}}
+use Rattle.ciborium_value.specs.{Labels.{is_proper, label_item, number_or, parts_or}, NeverWritten.{Avoided, IsNever}}
+use Rattle.ciborium_value.specs.NeverWritten.{byte_strings, never-container, never-number, never-option, nulls}
+use Rattle.ciborium_value.specs.{Places.{Shape, dictionary, sequence}, Progress.counted_of, Readings.IsBounded}
+use Rattle.ciborium_value.specs.Readings.{Reading, below, bounded, list_of, option_of, ordered_by, read_as, such_that}
+use Rattle.ciborium_value.specs.{Readings.{tuple1_of, tuple2_of, tuple3_of, tuple4_of}, ReadsBack.IsNameRead}
+use Rattle.ciborium_value.specs.{ReadsBack.{IsReadBack, Way, name-back}, Sinks.{Named, container_of, number_item}}
+use Rattle.ciborium_value.specs.{Sinks.or_null, StructReadings.{Fields, FieldsGiven, end_of_fields, field_filled}}
+use Rattle.ciborium_value.specs.StructReadings.{no_field_given, no_other_given, optional_field, struct_of, given_struct}
+use Rattle.ciborium_value.specs.{Given.Given, WrittenContents.{AreFieldsAlike, IsWrittenByContent, field_alike}}
+use Rattle.ciborium_value.specs.WrittenContents.{list-alike, no_field_alike, option-alike, signed-alike, tuple1-alike}
+use Rattle.ciborium_value.specs.WrittenContents.{tuple2-alike, tuple3-alike, tuple4-alike, unsigned-alike}
+use Rattle.ciborium_value.specs.{declared.kind.Kind.Kind, declared.kind.Kind.TheVariants.Other}
 use Rattle.ciborium_value.specs.lemmas.ReadsBackNumbers.{IsSignedBack, IsUnsignedBack}
-use Rattle.ciborium_value.specs.lemmas.ReadsBackOptions.{option-back, option_levels}
-use Rattle.ciborium_value.specs.lemmas.ReadsBackParts.{greatest, list-back, such_that_back}
-use Rattle.ciborium_value.specs.lemmas.ReadsBackParts.{tuple1-back, tuple2-back, tuple3-back}
-use Rattle.ciborium_value.specs.lemmas.ReadsBackParts.{tuple4-back}
-use Rattle.ciborium_value.specs.lemmas.ReadsBackStructs.{FieldsReadBack, are_apart, end_back}
-use Rattle.ciborium_value.specs.lemmas.ReadsBackStructs.{field_filled_back, field_or_back}
-use Rattle.ciborium_value.specs.lemmas.ReadsBackStructs.{fields_read_back, is_named, left_out_back}
-use Rattle.ciborium_value.specs.lemmas.ReadsBackStructs.{neither}
+use Rattle.ciborium_value.specs.{lemmas.ReadsBackOptions.{option-back, option_levels}, lemmas.ReadsBackParts.greatest}
+use Rattle.ciborium_value.specs.lemmas.ReadsBackParts.{list-back, such_that_back, tuple1-back, tuple2-back, tuple3-back}
+use Rattle.ciborium_value.specs.{lemmas.ReadsBackParts.tuple4-back, lemmas.ReadsBackStructs.{FieldsReadBack, are_apart}}
+use Rattle.ciborium_value.specs.lemmas.ReadsBackStructs.{end_back, field_filled_back, field_or_back, fields_read_back}
+use Rattle.ciborium_value.specs.lemmas.ReadsBackStructs.{is_named, left_out_back, neither}
 
 -- ---- tests that hold together
 
@@ -52,8 +37,7 @@ each-avoided avoids h k nulls = h
 each-avoided avoids h k byte_strings = k
 
 -- the laws of a description, where `refl` shows that they hold of it
-pub described : {T : Type 0} (d : Description T) → is_lawful d ≡ true →
-    IsDescribed d d.written d.reading
+pub described : {T : Type 0} (d : Description T) → is_lawful d ≡ true → IsDescribed d d.written d.reading
 described d lawful = record {
   reads_back = d.reads_back (both d.is_sound (d.avoids nulls && d.avoids byte_strings) lawful).0;
   writes_content = d.writes_content;
@@ -79,17 +63,15 @@ pub as-never_null : {T : Type 0} {written : T → Named} → ((v : T) → IsNeve
 as-never_null never nulls h v = never v
 as-never_null never byte_strings h v = cc
 
-pub as-never_byte_string : {T : Type 0} {written : T → Named} →
-    ((v : T) → IsNever byte_strings (written v)) → (a : Avoided) → never_byte_string a ≡ true →
-    (v : T) → IsNever a (written v)
+pub as-never_byte_string : {T : Type 0} {written : T → Named} → ((v : T) → IsNever byte_strings (written v)) →
+    (a : Avoided) → never_byte_string a ≡ true → (v : T) → IsNever a (written v)
 as-never_byte_string never nulls h v = cc
 as-never_byte_string never byte_strings h v = never v
 
 -- a type by its laws
 abbrev pub scalar : {T C : Type 0} (r : Reading T C) (written : T → Named) (IsValid : T → Type 0)
     (avoids : Avoided → Bool) →
-    ((way : Way) → IsReadBack way IsValid written r.taken r.content (λ v. 0)) →
-    IsWrittenByContent written r.content →
+    ((way : Way) → IsReadBack way IsValid written r.taken r.content (λ v. 0)) → IsWrittenByContent written r.content →
     ((a : Avoided) → avoids a ≡ true → (v : T) → IsNever a (written v)) → Description T
 scalar {C = C} r written IsValid avoids back alike never = record {
   Content = C;
@@ -132,8 +114,7 @@ written_as part d = record {
 }
 
 -- as this part, of whose content the test holds; another content is refused with the kind
-abbrev pub tested : {T U : Type 0} (part : T → U) (d : Description U) → (d.Content → Bool) → Kind →
-    Description T
+abbrev pub tested : {T U : Type 0} (part : T → U) (d : Description U) → (d.Content → Bool) → Kind → Description T
 tested part d test kind = record {
   Content = d.Content;
   reading = such_that (λ v. d.reading.content (part v)) d.reading test kind;
@@ -149,8 +130,7 @@ tested part d test kind = record {
 }
 
 -- the same type, of which contents compare so: a key of maps
-abbrev pub ordered_as : {T : Type 0} (d : Description T) →
-    (d.Content → d.Content → Ordering) → Description T
+abbrev pub ordered_as : {T : Type 0} (d : Description T) → (d.Content → d.Content → Ordering) → Description T
 ordered_as d order = record {
   Content = d.Content;
   reading = ordered_by order d.reading;
@@ -171,8 +151,7 @@ option_avoids avoids nulls = false
 option_avoids avoids byte_strings = avoids byte_strings
 
 pub option-avoids : {T : Type 0} (d : Description T) (a : Avoided) →
-    option_avoids d.avoids a ≡ true →
-    (v : Option T) → IsNever a (or_null d.written v)
+    option_avoids d.avoids a ≡ true → (v : Option T) → IsNever a (or_null d.written v)
 option-avoids d nulls h v = cc
 option-avoids d byte_strings h v = never-option (d.never byte_strings h) v
 
@@ -220,8 +199,7 @@ tuple1_description alone a = record {
   never = λ x h t. never-container x sequence (a.written (alone t) ∷ []);
 }
 
-abbrev pub tuple2_description : {A B : Type 0} → Description A → Description B →
-    Description (A × B)
+abbrev pub tuple2_description : {A B : Type 0} → Description A → Description B → Description (A × B)
 tuple2_description a b = record {
   Content = a.Content × b.Content;
   reading = tuple2_of a.reading b.reading;
@@ -319,8 +297,7 @@ module _ {T : Type 0} (label : Label) (behind : FieldsDescription T) where
       label_item label ∷ w ∷ behind.parts v
   first-parts v w = ap (λ ps. label_item label ∷ w ∷ ps) (behind.same_parts v)
 
-  pub first-number : (v : T) (w : Named) →
-      length ((label, w) ∷ behind.named v) ≡ behind.number v + 1
+  pub first-number : (v : T) (w : Named) → length ((label, w) ∷ behind.named v) ≡ behind.number v + 1
   first-number v w = one-more (length (behind.named v)) ∙ ap (λ n. n + 1) (behind.same_number v)
 
 -- a field of this label, whose value is this, and what was read of which is filled up so
@@ -350,8 +327,7 @@ filled_field label value d fill full behind = record {
   alike = λ v w. field_alike label (d.writes_content (value v) (value w)) (behind.alike v w);
 }
 
-abbrev pub then_field : {T V : Type 0} → Label → (T → V) → Description V → FieldsDescription T →
-    FieldsDescription T
+abbrev pub then_field : {T V : Type 0} → Label → (T → V) → Description V → FieldsDescription T → FieldsDescription T
 then_field label value d behind = filled_field label value d (λ o. o) (λ c. refl) behind
 
 -- the same, but where it is missing its content is this
@@ -362,54 +338,43 @@ then_field_or label value d default behind =
 
 -- ---- a field that may be left out
 
-pub maybe-parts : {V : Type 0} (label : Label) (written : V → Named) (fs : List (Label × Named))
-    (ps : List Named) → labeled_parts fs ≡ ps → (m : Option V) →
-    labeled_parts (maybe_before label written m fs) ≡
-    parts_or m (λ v. label_item label ∷ written v ∷ ps) ps
+pub maybe-parts : {V : Type 0} (label : Label) (written : V → Named) (fs : List (Label × Named)) (ps : List Named) →
+    labeled_parts fs ≡ ps → (m : Option V) →
+    labeled_parts (maybe_before label written m fs) ≡ parts_or m (λ v. label_item label ∷ written v ∷ ps) ps
 maybe-parts label written fs ps h None = h
 maybe-parts label written fs ps h (Some v) = ap (λ qs. label_item label ∷ written v ∷ qs) h
 
-pub maybe-number : {V : Type 0} (label : Label) (written : V → Named) (fs : List (Label × Named))
-    (n : ℕ) → length fs ≡ n → (m : Option V) →
-    length (maybe_before label written m fs) ≡ number_or m (n + 1) n
+pub maybe-number : {V : Type 0} (label : Label) (written : V → Named) (fs : List (Label × Named)) (n : ℕ) →
+    length fs ≡ n → (m : Option V) → length (maybe_before label written m fs) ≡ number_or m (n + 1) n
 maybe-number label written fs n h None = h
 maybe-number label written fs n h (Some v) = one-more (length fs) ∙ ap (λ k. k + 1) h
 
-pub maybe-unnamed : {T V : Type 0} (label : Label) (behind : FieldsDescription T)
-    (written : V → Named)
-    (x : Label) → with_label label behind x ≡ false → (v : T) (m : Option V) →
-    is_named x (maybe_before label written m (behind.named v)) ≡ false
-maybe-unnamed label behind written x h v None =
-    behind.unnamed x (neither (is_label label x) (behind.has x) h).1 v
-maybe-unnamed label behind written x h v (Some w) =
-    first-unnamed label behind x h v (written w)
+pub maybe-unnamed : {T V : Type 0} (label : Label) (behind : FieldsDescription T) (written : V → Named) (x : Label) →
+    with_label label behind x ≡ false →
+    (v : T) (m : Option V) → is_named x (maybe_before label written m (behind.named v)) ≡ false
+maybe-unnamed label behind written x h v None = behind.unnamed x (neither (is_label label x) (behind.has x) h).1 v
+maybe-unnamed label behind written x h v (Some w) = first-unnamed label behind x h v (written w)
 
-pub maybe-apart : {T V : Type 0} (label : Label) (behind : FieldsDescription T)
-    (written : V → Named)
-    (sound : Bool) → is_new label behind sound ≡ true → (v : T) (m : Option V) →
-    are_apart (maybe_before label written m (behind.named v)) ≡ true
+pub maybe-apart : {T V : Type 0} (label : Label) (behind : FieldsDescription T) (written : V → Named) (sound : Bool) →
+    is_new label behind sound ≡ true →
+    (v : T) (m : Option V) → are_apart (maybe_before label written m (behind.named v)) ≡ true
 maybe-apart label behind written sound h v None = behind.apart (field-sound (behind.has label)
     (is_proper label) sound behind.is_sound h).3 v
-maybe-apart label behind written sound h v (Some w) =
-    first-apart_of label behind sound h v (written w)
+maybe-apart label behind written sound h v (Some w) = first-apart_of label behind sound h v (written w)
 
 pub maybe-back : {V A C D : Type 0} (label : Label) (r : Reading V A) {way : Way}
     {IsValid : V → Type 0} {written : V → Named} {levels : V → ℕ} {behind : Fields C D}
-    {fs : List (Label × Named)} {d : D} {m : ℕ} →
-    IsReadBack way IsValid written r.taken r.content levels →
-    ((v : V) → IsNever nulls (written v)) → is_named label fs ≡ false →
-    FieldsReadBack way behind fs d m → (o : Option V) → IfSome o IsValid →
-    FieldsReadBack way (optional_field label r behind) (maybe_before label written o fs)
-    (option_map r.content o, d) (maybe_levels levels o m)
-maybe-back label r law never new rest None valid =
-    left_out_back label (option_of r) None new rest
+    {fs : List (Label × Named)} {d : D} {m : ℕ} → IsReadBack way IsValid written r.taken r.content levels →
+    ((v : V) → IsNever nulls (written v)) → is_named label fs ≡ false → FieldsReadBack way behind fs d m →
+    (o : Option V) → IfSome o IsValid → FieldsReadBack way (optional_field label r behind)
+    (maybe_before label written o fs) (option_map r.content o, d) (maybe_levels levels o m)
+maybe-back label r law never new rest None valid = left_out_back label (option_of r) None new rest
 maybe-back label r law never new rest (Some v) valid =
     field_or_back label (option_of r) None (option-back law never (Some v) valid) rest
 
 pub maybe-alike : {V A C : Type 0} (label : Label) {written : V → Named} {content : V → A} {c d : C}
     {fs gs : List (Label × Named)} → IsWrittenByContent written content → (v w : Option V) →
-    AreFieldsAlike c d fs gs →
-    AreFieldsAlike {C = Option A × C} (option_map content v, c) (option_map content w, d)
+    AreFieldsAlike c d fs gs → AreFieldsAlike {C = Option A × C} (option_map content v, c) (option_map content w, d)
     (maybe_before label written v fs) (maybe_before label written w gs)
 maybe-alike label law None None rest = record { alike = λ same. rest.alike (ap (λ p. p.1) same) }
 maybe-alike label law None (Some w) rest = record {
@@ -502,22 +467,17 @@ pub chosen-back : {C : Type 0} (t : Bool) {way : Way} {w : Named} {taken : Given
 chosen-back true h = h
 chosen-back false h = name-back (Err Other) tt
 
-chosen-never : (a : Avoided) (t : Bool) (w : Named) → IsNever a w →
-    IsNever a (if t then w else Err Other)
+chosen-never : (a : Avoided) (t : Bool) (w : Named) → IsNever a w → IsNever a (if t then w else Err Other)
 chosen-never a true w h = h
 chosen-never a false w h = λ i e. absurd (let no = e in cc)
 
 -- so many parts are never null, nor bytes
-pub counted-never : (a : Avoided) (s : Shape) (n : ℕ) (parts : List Named) →
-    IsNever a (counted_of s n parts)
-counted-never a s n parts = chosen-never a (nat_le n greatest_offset) (container_of s parts)
-    (never-container a s parts)
+pub counted-never : (a : Avoided) (s : Shape) (n : ℕ) (parts : List Named) → IsNever a (counted_of s n parts)
+counted-never a s n parts = chosen-never a (nat_le n greatest_offset) (container_of s parts) (never-container a s parts)
 
 module _ {T : Type 0} (fs : FieldsDescription T) where
-  written-map : (v : T) → labeled_map (fs.named v) ≡ counted_of dictionary (fs.number v)
-      (fs.parts v)
-  written-map v = ap (λ n. counted_of dictionary n (labeled_parts (fs.named v))) (fs.same_number v)
-      ∙
+  written-map : (v : T) → labeled_map (fs.named v) ≡ counted_of dictionary (fs.number v) (fs.parts v)
+  written-map v = ap (λ n. counted_of dictionary n (labeled_parts (fs.named v))) (fs.same_number v) ∙
       ap (counted_of dictionary (fs.number v)) (fs.same_parts v)
 
   pub struct-back : fs.is_sound ≡ true → (way : Way) (v : T) → fs.is_valid v →
@@ -528,10 +488,8 @@ module _ {T : Type 0} (fs : FieldsDescription T) where
       (written-map v) (chosen-back (nat_le (length (fs.named v)) greatest_offset)
       (fields_read_back (fs.back sound way v valid) (fs.apart sound v)))
 
-  pub struct-alike : IsWrittenByContent (λ v. counted_of dictionary (fs.number v) (fs.parts v))
-      fs.content
-  struct-alike v w same = sym (written-map v) ∙ ap labeled_map ((fs.alike v w).alike same) ∙
-      written-map w
+  pub struct-alike : IsWrittenByContent (λ v. counted_of dictionary (fs.number v) (fs.parts v)) fs.content
+  struct-alike v w same = sym (written-map v) ∙ ap labeled_map ((fs.alike v w).alike same) ∙ written-map w
 
 -- a struct as a map of its fields
 abbrev pub struct_description : {T : Type 0} → FieldsDescription T → Description T

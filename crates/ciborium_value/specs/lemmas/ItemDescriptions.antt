@@ -2,18 +2,13 @@
 use Rattle.std.proofs.Common.{ap, ◌∙◌}
 use Rattle.std.specs.Prelude.{◌≡◌, suc, max, ◌+◌, true, [], ◌∷◌, ◌&&◌, nat_le, refl}
 use Rattle.ciborium_ll.specs.Bytes.{greatest_offset}
-use Rattle.ciborium_value.specs.Described.{Description, ItemsDescription}
-use Rattle.ciborium_value.specs.Places.{sequence}
-use Rattle.ciborium_value.specs.Progress.{counted_of}
-use Rattle.ciborium_value.specs.Readings.{array_of, no_part, part}
-use Rattle.ciborium_value.specs.ReadsBack.{IsNameRead, Way}
-use Rattle.ciborium_value.specs.GivenParts.{after_seq}
+use Rattle.ciborium_value.specs.{Described.{Description, ItemsDescription}, Places.sequence, Progress.counted_of}
+use Rattle.ciborium_value.specs.{Readings.{array_of, no_part, part}, ReadsBack.{IsNameRead, Way}, GivenParts.after_seq}
 use Rattle.ciborium_value.specs.lemmas.Descriptions.{both, chosen-back, counted-never}
 use Rattle.ciborium_value.specs.lemmas.ReadsBackParts.{array_back, no_part_back, part_back}
 
 -- an item, which is this, before others
-abbrev pub then_item : {T V : Type 0} → (T → V) → Description V → ItemsDescription T →
-    ItemsDescription T
+abbrev pub then_item : {T V : Type 0} → (T → V) → Description V → ItemsDescription T → ItemsDescription T
 then_item value d behind = record {
   Content = d.Content × behind.Content;
   items = part d.reading behind.items;
@@ -50,8 +45,7 @@ module _ {T : Type 0} (is : ItemsDescription T) where
   pub items-back : is.is_sound ≡ true → (way : Way) (v : T) → is.is_valid v →
       IsNameRead way (counted_of sequence is.number (is.parts v)) (after_seq is.items)
       (is.content v) (suc (is.levels v))
-  items-back sound way v valid = chosen-back (nat_le is.number greatest_offset)
-      (array_back (is.back sound way v valid))
+  items-back sound way v valid = chosen-back (nat_le is.number greatest_offset) (array_back (is.back sound way v valid))
 
 -- a struct as an array of its items
 abbrev pub array_description : {T : Type 0} → ItemsDescription T → Description T

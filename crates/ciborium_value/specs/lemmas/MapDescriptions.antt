@@ -1,18 +1,12 @@
 -- The descriptions of maps, from those of their keys and values.
 use Rattle.std.proofs.lemmas.Cmp.{int_cmp_total, nat_cmp_total}
-use Rattle.std.specs.BTreeMap.{BTreeMap}
-use Rattle.std.specs.Ordering.{int_cmp, nat_cmp}
-use Rattle.std.specs.Prelude.{ℕ, ℤ, suc, Bool, true, List, ◌&&◌, refl}
-use Rattle.ciborium_value.specs.Described.{Description, KeyDescription}
-use Rattle.ciborium_value.specs.NeverWritten.{never-container}
-use Rattle.ciborium_value.specs.Places.{dictionary}
-use Rattle.ciborium_value.specs.Readings.{map_by}
-use Rattle.ciborium_value.specs.Sinks.{container_of, in_turn}
-use Rattle.ciborium_value.specs.WrittenContents.{map-alike}
-use Rattle.ciborium_value.specs.lemmas.Descriptions.{both, signed_description, unsigned_description}
-use Rattle.ciborium_value.specs.lemmas.ReadsBackMaps.{IsMapValid, entry_levels, map-back}
-use Rattle.ciborium_value.specs.lemmas.ReadsBackNumbers.{IsSignedBack, IsUnsignedBack}
-use Rattle.ciborium_value.specs.lemmas.ReadsBackParts.{greatest}
+use Rattle.std.specs.{BTreeMap.BTreeMap, Ordering.{int_cmp, nat_cmp}, Prelude.{ℕ, ℤ, suc, Bool, true, List, ◌&&◌, refl}}
+use Rattle.ciborium_value.specs.{Described.{Description, KeyDescription}, NeverWritten.never-container}
+use Rattle.ciborium_value.specs.{Places.dictionary, Readings.map_by, Sinks.{container_of, in_turn}}
+use Rattle.ciborium_value.specs.{WrittenContents.map-alike, lemmas.Descriptions.{both, signed_description}}
+use Rattle.ciborium_value.specs.{lemmas.Descriptions.unsigned_description, lemmas.ReadsBackMaps.IsMapValid}
+use Rattle.ciborium_value.specs.{lemmas.ReadsBackMaps.{entry_levels, map-back}, lemmas.ReadsBackNumbers.IsSignedBack}
+use Rattle.ciborium_value.specs.{lemmas.ReadsBackNumbers.IsUnsignedBack, lemmas.ReadsBackParts.greatest}
 
 -- numbers as keys
 abbrev pub unsigned_key : (k : ℕ) → IsUnsignedBack k → KeyDescription ℕ

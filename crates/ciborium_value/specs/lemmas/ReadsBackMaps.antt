@@ -1,34 +1,23 @@
 -- What is written of a map is read back: a form has the same pairs in another order, and reading
 -- puts them in the order of the keys again.
-use Rattle.std.proofs.Common.{ap, subst, ◌∙◌}
-use Rattle.std.proofs.lemmas.List.Elements.{All-head, All-tail}
-use Rattle.std.specs.BTreeMap.{BTreeMap, IsOrdered}
-use Rattle.std.specs.Cmp.{IsTotalOrder}
-use Rattle.std.specs.List.{All}
-use Rattle.std.specs.Prelude.{◌≡◌, ℕ, suc, max, Bool, true, false, List, [], ◌∷◌, Result, Ok, Err}
-use Rattle.std.specs.Prelude.{IfOk, refl}
-use Rattle.std.specs.declared.cmp.Ordering.{Ordering}
+use Rattle.std.proofs.{Common.{ap, subst, ◌∙◌}, lemmas.List.Elements.{All-head, All-tail}}
+use Rattle.std.specs.{BTreeMap.{BTreeMap, IsOrdered}, Cmp.IsTotalOrder, List.All, Prelude.{◌≡◌, ℕ, suc, max, Bool}}
+use Rattle.std.specs.{Prelude.{true, false, List, [], ◌∷◌, Result, Ok, Err, IfOk, refl}, declared.cmp.Ordering.Ordering}
 use Rattle.ciborium_ll.specs.Item.{Item}
-use Rattle.ciborium_value.specs.Nesting.{Limit, IsWithin}
-use Rattle.ciborium_value.specs.Places.{dictionary, pairs_from}
-use Rattle.ciborium_value.specs.ReadsBack.{IsItemRead, IsNameRead, IsReadBack, Way, at, name-back}
-use Rattle.ciborium_value.specs.lemmas.GivenOutcomes.{and_take}
-use Rattle.ciborium_value.specs.lemmas.MetItems.{ArePairsMet, inside, map-met}
-use Rattle.ciborium_value.specs.lemmas.PutEntries.{AreNew, apart-reordered, contents-apart, put-new}
-use Rattle.ciborium_value.specs.lemmas.PutEntries.{reordered-contents, sorted-apart}
-use Rattle.ciborium_value.specs.lemmas.ReadsBackParts.{greatest, within-left, within-right}
-use Rattle.ciborium_value.specs.lemmas.Reordered.{AreEach, AreReordered, each-reordered}
-use Rattle.ciborium_value.specs.Sinks.{Named, and_then, all_named, contained, container_of, in_turn}
-use Rattle.ciborium_value.specs.Given.{Given, gives, outcome, take_each, then_take, unpack_pairs}
-use Rattle.ciborium_value.specs.GivenParts.{given_map, put_all, put_each, take_entry}
-use Rattle.ciborium_value.specs.declared.kind.Kind.{Kind}
-use Rattle.ciborium_value.specs.WrittenContents.{contents}
+use Rattle.ciborium_value.specs.{Nesting.{Limit, IsWithin}, Places.{dictionary, pairs_from}, ReadsBack.IsItemRead}
+use Rattle.ciborium_value.specs.{ReadsBack.{IsNameRead, IsReadBack, Way, at, name-back}, lemmas.GivenOutcomes.and_take}
+use Rattle.ciborium_value.specs.{lemmas.MetItems.{ArePairsMet, inside, map-met}, lemmas.PutEntries.AreNew}
+use Rattle.ciborium_value.specs.lemmas.PutEntries.{apart-reordered, contents-apart, put-new, reordered-contents}
+use Rattle.ciborium_value.specs.{lemmas.PutEntries.sorted-apart, lemmas.ReadsBackParts.{greatest, within-left}}
+use Rattle.ciborium_value.specs.{lemmas.ReadsBackParts.within-right, lemmas.Reordered.{AreEach, AreReordered}}
+use Rattle.ciborium_value.specs.{lemmas.Reordered.each-reordered, Sinks.{Named, and_then, all_named, contained}}
+use Rattle.ciborium_value.specs.{Sinks.{container_of, in_turn}, Given.{Given, gives, outcome, take_each, then_take}}
+use Rattle.ciborium_value.specs.{Given.unpack_pairs, GivenParts.{given_map, put_all, put_each, take_entry}}
+use Rattle.ciborium_value.specs.{declared.kind.Kind.Kind, WrittenContents.contents}
 
 -- what the entries are: their keys rise, and each key and value is valid
-abbrev pub IsMapValid : {K V : Type 0} → (K → K → Ordering) → (K → Type 0) → (V → Type 0) →
-    BTreeMap K V → Type 0
-IsMapValid cmp IsKeyValid IsValueValid m = IsOrdered cmp m ×
-    All (λ e. IsKeyValid e.0 × IsValueValid e.1) m.entries
+abbrev pub IsMapValid : {K V : Type 0} → (K → K → Ordering) → (K → Type 0) → (V → Type 0) → BTreeMap K V → Type 0
+IsMapValid cmp IsKeyValid IsValueValid m = IsOrdered cmp m × All (λ e. IsKeyValid e.0 × IsValueValid e.1) m.entries
 
 -- the levels of a key and its value
 abbrev pub entry_levels : {K V : Type 0} → (K → ℕ) → (V → ℕ) → K × V → ℕ
@@ -40,11 +29,9 @@ module _ {K V A B : Type 0} (key : K → A) (value : V → B) (f : Given A) (g :
   IsEntryRead l p e = outcome l (take_entry f g p) ≡ gives (key e.0, value e.1)
 
   each-read : (l : Limit) (ps : List (Item × Item)) (es : List (K × V)) →
-      AreEach (IsEntryRead l) ps es →
-      outcome l (take_each (take_entry f g) ps) ≡ gives (contents key value es)
+      AreEach (IsEntryRead l) ps es → outcome l (take_each (take_entry f g) ps) ≡ gives (contents key value es)
   each-read l [] [] h = refl
-  each-read l (p ∷ ps) (e ∷ es) h =
-      ap (λ o. and_take o (outcome l (take_each (take_entry f g) ps))) h.0 ∙
+  each-read l (p ∷ ps) (e ∷ es) h = ap (λ o. and_take o (outcome l (take_each (take_entry f g) ps))) h.0 ∙
       ap (and_take (gives (key e.0, value e.1))) (each-read l ps es h.1)
   each-read l u v h = absurd h
 
@@ -54,10 +41,9 @@ module _ {K V A B : Type 0} (key : K → A) (value : V → B) (f : Given A) (g :
     AreEntriesRead es n is = (ps : List (Item × Item)) → ArePairsMet way (pairs_from is) ps →
         (l : Limit) → IsWithin l n → AreEach (IsEntryRead l) ps es
 
-    pair-back : (r s : Named) (t : Result (List Item) Kind) (e : K × V) (es : List (K × V))
-        (n m k : ℕ) → IfOk r (IsItemRead way f (key e.0) n) →
-        IfOk s (IsItemRead way g (value e.1) m) → IfOk t (AreEntriesRead es k) →
-        IfOk (and_then r (and_then s t)) (AreEntriesRead (e ∷ es) (max (max n m) k))
+    pair-back : (r s : Named) (t : Result (List Item) Kind) (e : K × V) (es : List (K × V)) (n m k : ℕ) →
+        IfOk r (IsItemRead way f (key e.0) n) → IfOk s (IsItemRead way g (value e.1) m) →
+        IfOk t (AreEntriesRead es k) → IfOk (and_then r (and_then s t)) (AreEntriesRead (e ∷ es) (max (max n m) k))
     pair-back (Ok i) (Ok j) (Ok is) e es n m k h w rest = elim [
       | [] ↦ λ each. absurd each
       | p ∷ ps ↦ λ each l fits.
@@ -72,12 +58,10 @@ module _ {K V A B : Type 0} (key : K → A) (value : V → B) (f : Given A) (g :
     pair-back u v w e es n m k h x rest = tt
 
     -- entries that are put in alike in any order
-    entered : (once : Bool) (order : A → A → Ordering) (s : Result (List Item) Kind)
-        (es : List (K × V)) (n : ℕ) → ((fs : List (K × V)) → AreReordered es fs →
-        (put_all order [] (contents key value fs) ≡ contents key value es) ×
+    entered : (once : Bool) (order : A → A → Ordering) (s : Result (List Item) Kind) (es : List (K × V)) (n : ℕ) →
+        ((fs : List (K × V)) → AreReordered es fs → (put_all order [] (contents key value fs) ≡ contents key value es) ×
         AreNew order [] (contents key value fs)) → IfOk s (AreEntriesRead es n) →
-        IfOk (contained dictionary false s)
-        (IsItemRead way (given_map once order f g) (contents key value es) (suc n))
+        IfOk (contained dictionary false s) (IsItemRead way (given_map once order f g) (contents key value es) (suc n))
     entered once order (Ok is) es n h each = λ j e l fits.
         let (qs, ps, these, turn, same) = map-met way (pairs_from is) j e in
         subst (λ x. outcome l (given_map once order f g x) ≡ gives (contents key value es)) same
@@ -96,10 +80,9 @@ module _ {way : Way} {K A : Type 0} {IsKeyValid : K → Type 0} {key_written : K
   module _ {V B : Type 0} {IsValueValid : V → Type 0} {value_written : V → Named}
       {value_given : Given B} {value : V → B} {value_levels : V → ℕ}
       (value_back : IsReadBack way IsValueValid value_written value_given value value_levels) where
-    entries-back : (es : List (K × V)) → All (λ e. IsKeyValid e.0 × IsValueValid e.1) es →
-        IfOk (all_named (in_turn key_written value_written es))
-        (AreEntriesRead key value key_given value_given way es
-        (greatest (entry_levels key_levels value_levels) es))
+    entries-back : (es : List (K × V)) →
+        All (λ e. IsKeyValid e.0 × IsValueValid e.1) es → IfOk (all_named (in_turn key_written value_written es))
+        (AreEntriesRead key value key_given value_given way es (greatest (entry_levels key_levels value_levels) es))
     entries-back [] valid = elim [ [] ↦ λ each l fits. tt | p ∷ ps ↦ λ each. absurd each ]
     entries-back (e ∷ es) valid =
         let first = All-head (λ e. IsKeyValid e.0 × IsValueValid e.1) e es valid in
@@ -109,9 +92,8 @@ module _ {way : Way} {K A : Type 0} {IsKeyValid : K → Type 0} {key_written : K
         (at (value_back e.1 first.1))
         (entries-back es (All-tail (λ e. IsKeyValid e.0 × IsValueValid e.1) e es valid))
 
-    pub map-back : (once : Bool) (cmp : K → K → Ordering) (order : A → A → Ordering) →
-        IsTotalOrder cmp → ((a b : K) → cmp a b ≡ order (key a) (key b)) → (m : BTreeMap K V) →
-        IsMapValid cmp IsKeyValid IsValueValid m →
+    pub map-back : (once : Bool) (cmp : K → K → Ordering) (order : A → A → Ordering) → IsTotalOrder cmp →
+        ((a b : K) → cmp a b ≡ order (key a) (key b)) → (m : BTreeMap K V) → IsMapValid cmp IsKeyValid IsValueValid m →
         IsNameRead way (container_of dictionary (in_turn key_written value_written m.entries))
         (given_map once order key_given value_given) (contents key value m.entries)
         (suc (greatest (entry_levels key_levels value_levels) m.entries))

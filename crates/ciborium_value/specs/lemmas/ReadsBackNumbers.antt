@@ -1,30 +1,20 @@
 -- What is written of a number is its own deterministic form, and is read back, bignums too (RFC
 -- 8949, section 3.4.3).
-use Rattle.std.proofs.Common.{ap, ◌∙◌, arith, lit<}
-use Rattle.std.proofs.Math.Nat.{pow-le-pow_right}
-use Rattle.std.proofs.lemmas.Bool.Decides.{nat_tests}
-use Rattle.std.specs.Int.{complement_if}
-use Rattle.std.specs.Prelude.{◌≡◌, ℕ, ◌^◌, ◌<◌, ◌≤◌, ℤ, pos, negsuc, Bool, true, false, List}
-use Rattle.std.specs.Prelude.{Ok, Result, Some, None, if◌then◌else◌, length, nat_le, nat_lt, refl}
-use Rattle.ciborium_ll.specs.Item as items
+use Rattle.std.proofs.{Common.{ap, ◌∙◌, arith, lit<}, Math.Nat.pow-le-pow_right, lemmas.Bool.Decides.nat_tests}
+use Rattle.std.specs.{Int.complement_if, Prelude.{◌≡◌, ℕ, ◌^◌, ◌<◌, ◌≤◌, ℤ, pos, negsuc, Bool, true, false, List, Ok}}
+use Rattle.std.specs.Prelude.{Result, Some, None, if◌then◌else◌, length, nat_le, nat_lt, refl}
 use Rattle.ciborium_ll.specs.Item.{Item}
-use Rattle.ciborium_value.specs.DeterministicForms.{tag_form}
-use Rattle.ciborium_value.specs.Meaning.{bignum_meaning, negative_bignum, unsigned_bignum}
-use Rattle.ciborium_value.specs.Meaning.{without_zeros}
-use Rattle.ciborium_value.specs.Nesting.{Limit}
-use Rattle.ciborium_value.specs.Number.{shortest_bytes}
+use Rattle.ciborium_value.specs.{DeterministicForms.tag_form, Meaning.{bignum_meaning, negative_bignum}}
+use Rattle.ciborium_value.specs.{Meaning.{unsigned_bignum, without_zeros}, Nesting.Limit, Number.shortest_bytes}
+use Rattle.ciborium_value.specs.{Readings.{below, bounded}, ReadsBack.{IsDefinite, IsItsOwnForm, IsReadBack, Way}}
+use Rattle.ciborium_value.specs.{ReadsBack.{item-back, met-itself, named}, lemmas.ReadsBackBignums.big_endian-shortest}
+use Rattle.ciborium_value.specs.lemmas.ReadsBackBignums.{length-shortest, magnitude-shortest, without_zeros-shortest}
+use Rattle.ciborium_value.specs.{Sinks.{bignum_item, number_item}, Given.{gives, number_below, number_of}}
+use Rattle.ciborium_value.specs.Given.{number_within, of_meaning, outcome, settled, then_take, with_sign}
+use Rattle.ciborium_value.specs.{declared.key_order.KeyOrder.KeyOrder, declared.kind.Kind.Kind}
+use Rattle.ciborium_ll.specs.Item as items
 use Rattle.ciborium_value.specs.Readings as readings
-use Rattle.ciborium_value.specs.Readings.{below, bounded}
-use Rattle.ciborium_value.specs.ReadsBack.{IsDefinite, IsItsOwnForm, IsReadBack, Way, item-back}
-use Rattle.ciborium_value.specs.ReadsBack.{met-itself, named}
-use Rattle.ciborium_value.specs.lemmas.ReadsBackBignums.{big_endian-shortest, length-shortest}
-use Rattle.ciborium_value.specs.lemmas.ReadsBackBignums.{magnitude-shortest, without_zeros-shortest}
-use Rattle.ciborium_value.specs.Sinks.{bignum_item, number_item}
-use Rattle.ciborium_value.specs.Given.{gives, number_below, number_of, number_within, of_meaning}
-use Rattle.ciborium_value.specs.Given.{outcome, settled, then_take, with_sign}
 use Rattle.ciborium_value.specs.Tree as trees
-use Rattle.ciborium_value.specs.declared.key_order.KeyOrder.{KeyOrder}
-use Rattle.ciborium_value.specs.declared.kind.Kind.{Kind}
 use Rattle.ciborium_value.specs.declared.kind.Kind.TheVariants as kinds
 
 -- ---- numbers of either sign
@@ -43,31 +33,26 @@ either : (t : Bool) (i j : Item) (o : Result (Bool × ℕ) Kind) → number_of i
 either true i j o h k = h
 either false i j o h k = k
 
-number_of-item : (z : ℤ) → size z < 2 ^ 128 →
-    number_of (number_item z) ≡ Ok (is_negative z, size z)
+number_of-item : (z : ℤ) → size z < 2 ^ 128 → number_of (number_item z) ≡ Ok (is_negative z, size z)
 number_of-item (pos n) h = either (nat_lt n (2 ^ 64)) (items.unsigned n) (bignum_item 2 n) _ refl
     (ap (with_sign false) (magnitude-shortest n h))
 number_of-item (negsuc n) h = either (nat_lt n (2 ^ 64)) (items.negative n) (bignum_item 3 n) _ refl
     (ap (with_sign true) (magnitude-shortest n h))
 
-either-definite : (t : Bool) (i j : Item) → IsDefinite i → IsDefinite j →
-    IsDefinite (if t then i else j)
+either-definite : (t : Bool) (i j : Item) → IsDefinite i → IsDefinite j → IsDefinite (if t then i else j)
 either-definite true i j h k = h
 either-definite false i j h k = k
 
 pub definite-number : (z : ℤ) → IsDefinite (number_item z)
-definite-number (pos n) = either-definite (nat_lt n (2 ^ 64)) (items.unsigned n) (bignum_item 2 n)
-    refl refl
-definite-number (negsuc n) = either-definite (nat_lt n (2 ^ 64)) (items.negative n)
-    (bignum_item 3 n) refl refl
+definite-number (pos n) = either-definite (nat_lt n (2 ^ 64)) (items.unsigned n) (bignum_item 2 n) refl refl
+definite-number (negsuc n) = either-definite (nat_lt n (2 ^ 64)) (items.negative n) (bignum_item 3 n) refl refl
 
 below-power : (n k m : ℕ) → n < 2 ^ k → k ≤ m → n < 2 ^ m
 below-power n k m h fits = let le : 2 ^ k ≤ 2 ^ m =
     pow-le-pow_right {n = 2} (lit< tt) {i = k} {j = m} fits in
     omega (arith, le, h)
 
-is_below : (l : Limit) (n bound : ℕ) → n < bound →
-    outcome l (number_below bound (false, n)) ≡ gives n
+is_below : (l : Limit) (n bound : ℕ) → n < bound → outcome l (number_below bound (false, n)) ≡ gives n
 is_below l n bound h = grind (arith, nat_tests)
 
 is_within : (l : Limit) (s : Bool) (n bound : ℕ) → n < bound →
@@ -148,19 +133,13 @@ IsSignedBack k = (way : Way) → IsReadBack way (readings.IsBounded (2 ^ k))
 
 signed-given : (k : ℕ) → k < 128 → (z : ℤ) → readings.IsBounded (2 ^ k) z → (l : Limit) →
     outcome l ((bounded (2 ^ k)).taken (number_item z)) ≡ gives z
-signed-given k fits (pos n) h l = ap (λ r. then_take (settled r)
-    (λ v. outcome l (number_within (2 ^ k) v)))
-    (number_of-item (pos n) (below-power n k 128 h (omega (arith, fits)))) ∙
-    is_within l false n (2 ^ k) h
-signed-given k fits (negsuc n) h l = ap (λ r. then_take (settled r)
-    (λ v. outcome l (number_within (2 ^ k) v)))
-    (number_of-item (negsuc n) (below-power n k 128 h (omega (arith, fits)))) ∙
-    is_within l true n (2 ^ k) h
+signed-given k fits (pos n) h l = ap (λ r. then_take (settled r) (λ v. outcome l (number_within (2 ^ k) v)))
+    (number_of-item (pos n) (below-power n k 128 h (omega (arith, fits)))) ∙ is_within l false n (2 ^ k) h
+signed-given k fits (negsuc n) h l = ap (λ r. then_take (settled r) (λ v. outcome l (number_within (2 ^ k) v)))
+    (number_of-item (negsuc n) (below-power n k 128 h (omega (arith, fits)))) ∙ is_within l true n (2 ^ k) h
 
-own-signed : (o : KeyOrder) (k : ℕ) → k < 128 → (z : ℤ) → readings.IsBounded (2 ^ k) z →
-    IsItsOwnForm o (number_item z)
-own-signed o k fits (pos n) h =
-    own-unsigned o n (below-power n k 128 h (omega (arith, fits))) (nat_lt n (2 ^ 64)) refl
+own-signed : (o : KeyOrder) (k : ℕ) → k < 128 → (z : ℤ) → readings.IsBounded (2 ^ k) z → IsItsOwnForm o (number_item z)
+own-signed o k fits (pos n) h = own-unsigned o n (below-power n k 128 h (omega (arith, fits))) (nat_lt n (2 ^ 64)) refl
 own-signed o k fits (negsuc n) h =
     own-negative o n (below-power n k 127 h (omega (arith, fits))) (nat_lt n (2 ^ 64)) refl
 

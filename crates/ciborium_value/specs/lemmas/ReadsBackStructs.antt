@@ -1,34 +1,25 @@
 -- What is written of a struct by the labels of its fields is read back: a form has the same pairs
 -- in another order, and of fields whose labels are apart no order makes a difference.
-use Rattle.std.proofs.Common.{ap, sym, subst, ◌∙◌}
-use Rattle.std.proofs.lemmas.Bool.Decides.{Decides-int_eq}
+use Rattle.std.proofs.{Common.{ap, sym, subst, ◌∙◌}, lemmas.Bool.Decides.Decides-int_eq}
 use Rattle.std.proofs.lemmas.Slice.Eq.{bytes_eq-Decides}
-use Rattle.std.specs.List.{AllByRecursion}
-use Rattle.std.specs.Option.{is_some, unwrap_or}
-use Rattle.std.specs.Prelude.{◌≡◌, ℕ, suc, max, Bool, true, false, List, [], ◌∷◌, Option, Some}
-use Rattle.std.specs.Prelude.{None, Result, Ok, Err, IfOk, if◌then◌else◌, ◌&&◌, pos, negsuc, refl}
-use Rattle.ciborium_ll.specs.Item as items
+use Rattle.std.specs.{List.AllByRecursion, Option.{is_some, unwrap_or}, Prelude.{◌≡◌, ℕ, suc, max, Bool, true, false}}
+use Rattle.std.specs.Prelude.{List, [], ◌∷◌, Option, Some, None, Result, Ok, Err, IfOk, if◌then◌else◌, ◌&&◌, pos}
+use Rattle.std.specs.Prelude.{negsuc, refl}
 use Rattle.ciborium_ll.specs.Item.{Item}
-use Rattle.ciborium_value.specs.Nesting.{Limit, IsWithin}
-use Rattle.ciborium_value.specs.Places.{dictionary, pairs_from}
-use Rattle.ciborium_value.specs.Readings.{Reading}
-use Rattle.ciborium_value.specs.Labels.{Label, fields_of, is_label, is_proper, label_item, named}
-use Rattle.ciborium_value.specs.Labels.{numbered, other, given_label}
-use Rattle.ciborium_value.specs.ReadsBack.{IsItemRead, IsNameRead, Way, at, met, met-itself}
-use Rattle.ciborium_value.specs.ReadsBack.{met-text, name-back}
-use Rattle.ciborium_value.specs.lemmas.GivenOutcomes.{one_given}
-use Rattle.ciborium_value.specs.lemmas.MetItems.{ArePairsMet, inside, map-met}
-use Rattle.ciborium_value.specs.lemmas.ReadsBackParts.{within-left, within-right}
-use Rattle.ciborium_value.specs.lemmas.Reordered.{AreEach, AreReordered, all-reordered, as_they_are}
-use Rattle.ciborium_value.specs.lemmas.Reordered.{each-reordered, first_stays, neighbours}
-use Rattle.ciborium_value.specs.lemmas.Reordered.{then_again}
-use Rattle.ciborium_value.specs.Sinks.{Named, all_named, and_then, bignum_item, contained, in_turn}
-use Rattle.ciborium_value.specs.StructReadings.{Fields, FieldsGiven, end_of_fields, field}
-use Rattle.ciborium_value.specs.StructReadings.{field_filled, field_or, field_given, given_struct}
-use Rattle.ciborium_value.specs.StructReadings.{no_field, no_field_given, required, take_fields}
-use Rattle.ciborium_value.specs.Given.{Outcome, gives, outcome, outcome_map, refuses}
-use Rattle.ciborium_value.specs.Given.{settled, then_take, unpack_pairs}
+use Rattle.ciborium_value.specs.{Nesting.{Limit, IsWithin}, Places.{dictionary, pairs_from}, Readings.Reading}
+use Rattle.ciborium_value.specs.Labels.{Label, fields_of, is_label, is_proper, label_item, named, numbered, other}
+use Rattle.ciborium_value.specs.{Labels.given_label, ReadsBack.{IsItemRead, IsNameRead, Way, at, met, met-itself}}
+use Rattle.ciborium_value.specs.{ReadsBack.{met-text, name-back}, lemmas.GivenOutcomes.one_given}
+use Rattle.ciborium_value.specs.{lemmas.MetItems.{ArePairsMet, inside, map-met}, lemmas.ReadsBackParts.within-left}
+use Rattle.ciborium_value.specs.{lemmas.ReadsBackParts.within-right, lemmas.Reordered.{AreEach, AreReordered}}
+use Rattle.ciborium_value.specs.lemmas.Reordered.{all-reordered, as_they_are, each-reordered, first_stays, neighbours}
+use Rattle.ciborium_value.specs.{lemmas.Reordered.then_again, Sinks.{Named, all_named, and_then, bignum_item}}
+use Rattle.ciborium_value.specs.{Sinks.{contained, in_turn}, StructReadings.{Fields, FieldsGiven, end_of_fields, field}}
+use Rattle.ciborium_value.specs.StructReadings.{field_filled, field_or, field_given, given_struct, no_field}
+use Rattle.ciborium_value.specs.{StructReadings.{no_field_given, required, take_fields}, Given.{Outcome, gives}}
+use Rattle.ciborium_value.specs.Given.{outcome, outcome_map, refuses, settled, then_take, unpack_pairs}
 use Rattle.ciborium_value.specs.declared.kind.Kind.{Kind}
+use Rattle.ciborium_ll.specs.Item as items
 use Rattle.ciborium_value.specs.declared.kind.Kind.TheVariants as kinds
 
 -- ---- labels
@@ -46,8 +37,7 @@ pub neither : (s t : Bool) → (if s then true else t) ≡ false → (s ≡ fals
 neither true t h = cc
 neither false t h = (refl, h)
 
-pub first-apart : (s p t : Bool) → (if s then false else p && t) ≡ true →
-    (s ≡ false) × (p ≡ true) × (t ≡ true)
+pub first-apart : (s p t : Bool) → (if s then false else p && t) ≡ true → (s ≡ false) × (p ≡ true) × (t ≡ true)
 first-apart false true t h = (refl, refl, h)
 first-apart u v t h = cc
 
@@ -59,22 +49,17 @@ parts_of fs = all_named (in_turn label_item (λ r. r) fs)
 
 -- a key is met as one that is read as this label, whatever the limit
 abbrev IsKeyMet : Way → Label → Item → Type 0
-IsKeyMet way name i = (j : Item) → met way i ≡ gives j → (l : Limit) →
-    outcome l (given_label j) ≡ gives name
+IsKeyMet way name i = (j : Item) → met way i ≡ gives j → (l : Limit) → outcome l (given_label j) ≡ gives name
 
 key-met : (way : Way) (name : Label) (i : Item) → met way i ≡ gives i →
     ((l : Limit) → outcome l (given_label i) ≡ gives name) → IsKeyMet way name i
-key-met way name i same read j e l = ap (λ x. outcome l (given_label x))
-    (one_given j i (sym e ∙ same)) ∙ read l
+key-met way name i same read j e l = ap (λ x. outcome l (given_label x)) (one_given j i (sym e ∙ same)) ∙ read l
 
-label-met : (way : Way) (name : Label) → is_proper name ≡ true →
-    IfOk (label_item name) (IsKeyMet way name)
-label-met way (named a) h =
-    key-met way (named a) (items.text false a) (met-text a way) (λ l. refl)
+label-met : (way : Way) (name : Label) → is_proper name ≡ true → IfOk (label_item name) (IsKeyMet way name)
+label-met way (named a) h = key-met way (named a) (items.text false a) (met-text a way) (λ l. refl)
 label-met way (numbered (pos n)) h = subst (λ t. IfOk {E = Kind} (Ok (if t then items.unsigned n
     else bignum_item 2 n)) (IsKeyMet way (numbered (pos n)))) (sym h)
-    (key-met way (numbered (pos n)) (items.unsigned n)
-    (met-itself (items.unsigned n) refl (λ o. refl) way) (λ l. refl))
+    (key-met way (numbered (pos n)) (items.unsigned n) (met-itself (items.unsigned n) refl (λ o. refl) way) (λ l. refl))
 label-met way (numbered (negsuc n)) h = subst (λ t. IfOk {E = Kind} (Ok (if t then items.negative n
     else bignum_item 3 n)) (IsKeyMet way (numbered (negsuc n)))) (sym h)
     (key-met way (numbered (negsuc n)) (items.negative n)
@@ -136,8 +121,7 @@ module _ {C : Type 0} where
   after-reordered as_they_are h c = refl
   after-reordered (first_stays {x} r) h c = after-reordered r h.1 (act x c)
   after-reordered (neighbours {xs = zs}) h c = ap (after_all zs) (sym (h.0.0 c).0)
-  after-reordered (then_again r s) h c = after-reordered r h c ∙
-      after-reordered s (free-reordered r h) c
+  after-reordered (then_again r s) h c = after-reordered r h c ∙ after-reordered s (free-reordered r h) c
 
   -- after one of them
   still-none : (a : Act C) (xs : List (Act C)) (c : C) → AllByRecursion (AreFree a) xs →
@@ -191,13 +175,11 @@ module _ {T A C D : Type 0} (name : Label) (r : Reading T A) (behind : Fields C 
   all-lifted [] h = tt
   all-lifted (a ∷ xs) h = (each-lifted a xs h.0, all-lifted xs h.1)
 
-  lifted-after : (xs : List (Act C)) (x : Option A) (c : C) →
-      after_all (lifted xs) (x, c) ≡ (x, after_all xs c)
+  lifted-after : (xs : List (Act C)) (x : Option A) (c : C) → after_all (lifted xs) (x, c) ≡ (x, after_all xs c)
   lifted-after [] x c = refl
   lifted-after (a ∷ xs) x c = lifted-after xs x (act a c)
 
-  lifted-none : (xs : List (Act C)) (x : Option A) (c : C) → NoneIsBarred c xs →
-      NoneIsBarred (x, c) (lifted xs)
+  lifted-none : (xs : List (Act C)) (x : Option A) (c : C) → NoneIsBarred c xs → NoneIsBarred (x, c) (lifted xs)
   lifted-none [] x c h = tt
   lifted-none (a ∷ xs) x c h = (h.0, lifted-none xs x c h.1)
 
@@ -207,8 +189,7 @@ module _ {T A C D : Type 0} (name : Label) (r : Reading T A) (behind : Fields C 
       else outcome_map (λ w. (Some w, c.1)) (outcome l (r.taken i))
 
   lifted-read : (l : Limit) (ps : List (Item × Item)) (xs : List (Act C)) →
-      is_named name xs ≡ false → AreEach (IsActRead l behind.read) ps xs →
-      AreEach (IsActRead l all) ps (lifted xs)
+      is_named name xs ≡ false → AreEach (IsActRead l behind.read) ps xs → AreEach (IsActRead l all) ps (lifted xs)
   lifted-read l [] [] e h = tt
   lifted-read l (p ∷ ps) (a ∷ xs) e h =
       let both = neither (is_label a.0 name) (is_named name xs) e in (
@@ -288,8 +269,7 @@ module _ (way : Way) {T A C D : Type 0} (name : Label) (r : Reading T A) (behind
   left-read : (rest : Result (List Item) Kind) (xs : List (Act C)) (m : ℕ) →
       is_named name xs ≡ false → IfOk rest (AreActsRead way behind.read xs m) →
       IfOk rest (AreActsRead way (all name r behind) (lifted name r behind xs) m)
-  left-read (Ok is) xs m new more =
-      λ ps each l fits. lifted-read name r behind l ps xs new (more ps each l fits)
+  left-read (Ok is) xs m new more = λ ps each l fits. lifted-read name r behind l ps xs new (more ps each l fits)
   left-read (Err k) xs m new more = tt
 
 module _ {way : Way} where
@@ -325,9 +305,8 @@ module _ {way : Way} where
       }
 
   pub field_back : {T A C D : Type 0} (name : Label) (r : Reading T A) {behind : Fields C D}
-      {fs : List (Label × Named)} {d : D} {m : ℕ} {w : Named} {a : A} {n : ℕ} →
-      IsNameRead way w r.taken a n → FieldsReadBack way behind fs d m →
-      FieldsReadBack way (field name r behind) ((name, w) ∷ fs) (a, d) (max n m)
+      {fs : List (Label × Named)} {d : D} {m : ℕ} {w : Named} {a : A} {n : ℕ} → IsNameRead way w r.taken a n →
+      FieldsReadBack way behind fs d m → FieldsReadBack way (field name r behind) ((name, w) ∷ fs) (a, d) (max n m)
   field_back name r law rest = field_filled_back name r (λ o. o) refl law rest
 
   -- one that could be left out
@@ -335,14 +314,12 @@ module _ {way : Way} where
       {behind : Fields C D} {fs : List (Label × Named)} {d : D} {m : ℕ} {w : Named} {a : A} {n : ℕ}
       → IsNameRead way w r.taken a n → FieldsReadBack way behind fs d m →
       FieldsReadBack way (field_or name r default behind) ((name, w) ∷ fs) (a, d) (max n m)
-  field_or_back name r default law rest =
-      field_filled_back name r (λ o. Some (unwrap_or o default)) refl law rest
+  field_or_back name r default law rest = field_filled_back name r (λ o. Some (unwrap_or o default)) refl law rest
 
   -- one that is left out, and those behind it
   pub left_out_back : {T A C D : Type 0} (name : Label) (r : Reading T A) (default : A)
-      {behind : Fields C D} {fs : List (Label × Named)} {d : D} {m : ℕ} →
-      is_named name fs ≡ false → FieldsReadBack way behind fs d m →
-      FieldsReadBack way (field_or name r default behind) fs (default, d) m
+      {behind : Fields C D} {fs : List (Label × Named)} {d : D} {m : ℕ} → is_named name fs ≡ false →
+      FieldsReadBack way behind fs d m → FieldsReadBack way (field_or name r default behind) fs (default, d) m
   left_out_back name r default {behind = behind} {fs = fs} {d = d} {m = m} new rest = record {
     acts = lifted name r behind rest.acts;
     names = λ x. lifted-names name r behind x rest.acts ∙ rest.names x;

@@ -1,37 +1,28 @@
 -- What is written of an enum by the names of its variants is read back.
 use Rattle.std.proofs.Common.{ap, sym, subst, ◌∙◌}
 use Rattle.std.specs.Prelude.{◌≡◌, ℕ, suc, false, true, List, [], ◌∷◌, Ok, Err, IfOk, refl}
-use Rattle.ciborium_ll.specs.Item as items
 use Rattle.ciborium_ll.specs.Item.{Item, Pairs, no_pairs, pair}
-use Rattle.ciborium_value.specs.Nesting.{Limit, IsWithin}
-use Rattle.ciborium_value.specs.Labels.{fields_of, named}
-use Rattle.ciborium_value.specs.Readings.{Reading}
-use Rattle.ciborium_value.specs.ReadsBack.{IsItemRead, IsNameRead, Way, at, item-back, met}
-use Rattle.ciborium_value.specs.ReadsBack.{met-text, name-back}
-use Rattle.ciborium_value.specs.Sinks.{Named, named_text}
-use Rattle.ciborium_value.specs.Given.{give, gives, outcome, then_take, unpack_pairs}
-use Rattle.ciborium_value.specs.GivenParts.{given_then}
-use Rattle.ciborium_value.specs.VariantReadings.{Variant, given_data, given_enum}
-use Rattle.ciborium_value.specs.lemmas.GivenOutcomes.{one_given}
-use Rattle.ciborium_value.specs.lemmas.MetItems.{ArePairsMet, inside, map-met}
+use Rattle.ciborium_value.specs.{Nesting.{Limit, IsWithin}, Labels.{fields_of, named}, Readings.Reading}
+use Rattle.ciborium_value.specs.ReadsBack.{IsItemRead, IsNameRead, Way, at, item-back, met, met-text, name-back}
+use Rattle.ciborium_value.specs.{Sinks.{Named, named_text}, Given.{give, gives, outcome, then_take, unpack_pairs}}
+use Rattle.ciborium_value.specs.{GivenParts.given_then, VariantReadings.{Variant, given_data, given_enum}}
+use Rattle.ciborium_value.specs.{lemmas.GivenOutcomes.one_given, lemmas.MetItems.{ArePairsMet, inside, map-met}}
 use Rattle.ciborium_value.specs.lemmas.Reordered.{IsAlone, alone-reordered}
+use Rattle.ciborium_ll.specs.Item as items
 
 module _ {C : Type 0} (vs : List (Variant C)) (name : List ℕ) where
   -- the data is read on under its name
-  under : (v : Item) (c : C) (n : ℕ) → ((l : Limit) → IsWithin l n →
-      outcome l (given_data vs name v) ≡ gives c) → (l : Limit) → IsWithin l (suc n) →
-      outcome l (given_enum vs (items.map false (pair (items.text false name) v no_pairs))) ≡
-      gives c
+  under : (v : Item) (c : C) (n : ℕ) →
+      ((l : Limit) → IsWithin l n → outcome l (given_data vs name v) ≡ gives c) → (l : Limit) → IsWithin l (suc n) →
+      outcome l (given_enum vs (items.map false (pair (items.text false name) v no_pairs))) ≡ gives c
   under v c n h = inside (λ p. true) (λ p. given_data vs p.0 p.1) (name, v) c n refl h
 
   -- a variant without data: `λ l. refl` shows that the name is its own
   pub unit_variant_back : {way : Way} {c : C} →
       ((l : Limit) → outcome l (given_data vs name (items.simple 22)) ≡ gives c) →
       IsNameRead way (named_text name) (given_enum vs) c 1
-  unit_variant_back {way = way} {c = c} h = item-back (items.text false name) (given_enum vs)
-      (met-text name way)
-      (inside (λ p. true) (λ p. given_data vs p.0 p.1) (name, items.simple 22) c 0 refl
-      (λ l fits. h l))
+  unit_variant_back {way = way} {c = c} h = item-back (items.text false name) (given_enum vs) (met-text name way)
+      (inside (λ p. true) (λ p. given_data vs p.0 p.1) (name, items.simple 22) c 0 refl (λ l fits. h l))
 
   module _ (way : Way) (i : Item) (c : C) (n : ℕ) (h : IsItemRead way (given_data vs name) c n i)
     where
@@ -56,8 +47,7 @@ module _ {C : Type 0} (vs : List (Variant C)) (name : List ℕ) where
           under v c n (h v alone.0.1) l fits
       of_pairs (pair k v (pair x y ps)) alone l fits = absurd alone.1
 
-      of_map : IsItemRead way (given_enum vs) c (suc n)
-          (items.map false (pair (items.text false name) i no_pairs))
+      of_map : IsItemRead way (given_enum vs) c (suc n) (items.map false (pair (items.text false name) i no_pairs))
       of_map j e l fits =
           let (qs, ps, each, order, same) =
           map-met way (pair (items.text false name) i no_pairs) j e in
@@ -73,8 +63,7 @@ module _ {C : Type 0} (vs : List (Variant C)) (name : List ℕ) where
       name-back (fields_of ((named name, w) ∷ [])) (by w (at law))
     where
       by : (w : Named) → IfOk w (IsItemRead way r.taken a n) →
-          IfOk (fields_of ((named name, w) ∷ []))
-          (IsItemRead way (given_enum vs) (make a) (suc n))
+          IfOk (fields_of ((named name, w) ∷ [])) (IsItemRead way (given_enum vs) (make a) (suc n))
       by (Ok i) h = of_map way i (make a) n (λ j e l fits. same l j ∙
           ap (λ o. then_take o (λ v. gives (make v))) (h j e l fits))
       by (Err k) h = tt

@@ -1,17 +1,12 @@
 -- The same elements in another order, as the pairs of a deterministic form are those of the tree.
 use Rattle.std.proofs.Common.{subst}
-use Rattle.std.specs.List.{AllByRecursion}
-use Rattle.std.specs.Prelude.{◌≡◌, List, [], ◌∷◌}
-use Rattle.std.specs.declared.cmp.Ordering.{Ordering}
+use Rattle.std.specs.{List.AllByRecursion, Prelude.{◌≡◌, List, [], ◌∷◌}, declared.cmp.Ordering.Ordering}
 use Rattle.std.specs.declared.cmp.Ordering.TheVariants.{Less, Equal, Greater}
 use Rattle.ciborium_ll.specs.Item.{Item}
-use Rattle.ciborium_value.specs.Canonical.{key_order}
-use Rattle.ciborium_value.specs.DeterministicForms.{inserted, placed_pair, sorted_pairs}
-use Rattle.ciborium_value.specs.Encoding.{item_of, pairs_of}
-use Rattle.ciborium_value.specs.lemmas.GivenOutcomes.{mapped_gives, one_given, then_gives}
-use Rattle.ciborium_value.specs.Given.{gives, unpack_pairs}
-use Rattle.ciborium_value.specs.Tree.{Tree, TreePairs, no_tree_pairs, tree_pair}
-use Rattle.ciborium_value.specs.declared.key_order.KeyOrder.{KeyOrder}
+use Rattle.ciborium_value.specs.{Canonical.key_order, DeterministicForms.{inserted, placed_pair, sorted_pairs}}
+use Rattle.ciborium_value.specs.{Encoding.{item_of, pairs_of}, lemmas.GivenOutcomes.{mapped_gives, one_given}}
+use Rattle.ciborium_value.specs.{lemmas.GivenOutcomes.then_gives, Given.{gives, unpack_pairs}, Tree.{Tree, TreePairs}}
+use Rattle.ciborium_value.specs.{Tree.{no_tree_pairs, tree_pair}, declared.key_order.KeyOrder.KeyOrder}
 
 pub data AreReordered {X : Type 0} : List X → List X → Type 0 where
   as_they_are : {xs : List X} → AreReordered xs xs
@@ -68,8 +63,7 @@ none-reordered (first_stays r) h = absurd h
 none-reordered neighbours h = absurd h
 none-reordered (then_again r s) h = none-reordered s (none-reordered r h)
 
-pub alone-reordered : {X : Type 0} (P : X → Type 0) {xs ys : List X} → AreReordered xs ys →
-    IsAlone P xs → IsAlone P ys
+pub alone-reordered : {X : Type 0} (P : X → Type 0) {xs ys : List X} → AreReordered xs ys → IsAlone P xs → IsAlone P ys
 alone-reordered P as_they_are h = h
 alone-reordered P (first_stays r) h = (h.0, none-reordered r h.1)
 alone-reordered P neighbours h = absurd h.1
@@ -82,10 +76,8 @@ abbrev pub item_pairs : TreePairs → List (Item × Item)
 item_pairs ps = unpack_pairs (pairs_of ps)
 
 inserted-reordered : (o : KeyOrder) (k v : Tree) (ps qs : TreePairs) →
-    inserted o k v ps ≡ gives qs →
-    AreReordered ((item_of k, item_of v) ∷ item_pairs ps) (item_pairs qs)
-inserted-reordered o k v no_tree_pairs qs put =
-    subst (λ rs. AreReordered ((item_of k, item_of v) ∷ []) (item_pairs rs))
+    inserted o k v ps ≡ gives qs → AreReordered ((item_of k, item_of v) ∷ item_pairs ps) (item_pairs qs)
+inserted-reordered o k v no_tree_pairs qs put = subst (λ rs. AreReordered ((item_of k, item_of v) ∷ []) (item_pairs rs))
     (one_given (tree_pair k v no_tree_pairs) qs put) as_they_are
 inserted-reordered o k v (tree_pair l w ps) qs put =
     by (inserted-reordered o k v ps) (key_order o k l) put
@@ -93,8 +85,7 @@ inserted-reordered o k v (tree_pair l w ps) qs put =
     by : ((rs : TreePairs) → inserted o k v ps ≡ gives rs →
         AreReordered ((item_of k, item_of v) ∷ item_pairs ps) (item_pairs rs)) →
         (a : Ordering) → placed_pair a k v l w ps (inserted o k v ps) ≡ gives qs →
-        AreReordered ((item_of k, item_of v) ∷ (item_of l, item_of w) ∷ item_pairs ps)
-        (item_pairs qs)
+        AreReordered ((item_of k, item_of v) ∷ (item_of l, item_of w) ∷ item_pairs ps) (item_pairs qs)
     by more Less is = subst (λ rs. AreReordered
         ((item_of k, item_of v) ∷ (item_of l, item_of w) ∷ item_pairs ps) (item_pairs rs))
         (one_given (tree_pair k v (tree_pair l w ps)) qs is) as_they_are

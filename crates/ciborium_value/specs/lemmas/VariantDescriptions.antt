@@ -1,23 +1,15 @@
 -- The descriptions of enums by the names of their variants, from those of their data.
-use Rattle.std.proofs.Common.{ap, inl, inr, sym, ◌∙◌}
-use Rattle.std.proofs.lemmas.Slice.Eq.{bytes_eq-Decides}
-use Rattle.std.specs.Prelude.{◌≡◌, ◌⊎◌, ℕ, suc, Bool, true, false, List, [], ◌∷◌, ◌&&◌}
-use Rattle.std.specs.Prelude.{if◌then◌else◌, bytes_eq, refl}
-use Rattle.ciborium_ll.specs.Item as items
+use Rattle.std.proofs.{Common.{ap, inl, inr, sym, ◌∙◌}, lemmas.Slice.Eq.bytes_eq-Decides}
+use Rattle.std.specs.Prelude.{◌≡◌, ◌⊎◌, ℕ, suc, Bool, true, false, List, [], ◌∷◌, ◌&&◌, if◌then◌else◌, bytes_eq, refl}
 use Rattle.ciborium_ll.specs.Item.{Item}
-use Rattle.ciborium_value.specs.Described.{AreReadBy, Description, VariantsDescription}
-use Rattle.ciborium_value.specs.Described.{is_name_among}
-use Rattle.ciborium_value.specs.Labels.{fields_of, label_item, named}
-use Rattle.ciborium_value.specs.Nesting.{Limit}
-use Rattle.ciborium_value.specs.NeverWritten.{Avoided, IsNever, never-container, never-text}
-use Rattle.ciborium_value.specs.Places.{dictionary}
-use Rattle.ciborium_value.specs.ReadsBack.{IsNameRead, Way}
-use Rattle.ciborium_value.specs.Sinks.{Named, in_turn, named_text}
-use Rattle.ciborium_value.specs.Given.{Given, outcome}
-use Rattle.ciborium_value.specs.VariantReadings.{Variant, data_variant, enum_of, given_data}
-use Rattle.ciborium_value.specs.VariantReadings.{given_enum, unit_variant}
+use Rattle.ciborium_value.specs.Described.{AreReadBy, Description, VariantsDescription, is_name_among}
+use Rattle.ciborium_value.specs.{Labels.{fields_of, label_item, named}, Nesting.Limit, NeverWritten.{Avoided, IsNever}}
+use Rattle.ciborium_value.specs.{NeverWritten.{never-container, never-text}, Places.dictionary, ReadsBack.IsNameRead}
+use Rattle.ciborium_value.specs.{ReadsBack.Way, Sinks.{Named, in_turn, named_text}, Given.{Given, outcome}}
+use Rattle.ciborium_value.specs.VariantReadings.{Variant, data_variant, enum_of, given_data, given_enum, unit_variant}
 use Rattle.ciborium_value.specs.lemmas.ReadsBackVariants.{data_variant_back, unit_variant_back}
 use Rattle.ciborium_value.specs.lemmas.ReadsBackStructs.{first-apart}
+use Rattle.ciborium_ll.specs.Item as items
 
 -- ---- the value of one of two
 
@@ -54,14 +46,11 @@ module _ {E : Type 0} (all : List (Variant E)) (name : List ℕ) (names : List (
   -- what stands under the first name
   first-data : AreReadBy all (name ∷ names) these → (l : Limit) (i : Item) →
       outcome l (given_data all name i) ≡ outcome l (first i)
-  first-data h l i =
-      h name (ap (λ t. if t then true else is_name_among name names) (same-name name)) l i ∙
-      ap (λ t. if t then outcome l (first i) else outcome l (given_data behind name i))
-      (same-name name)
+  first-data h l i = h name (ap (λ t. if t then true else is_name_among name names) (same-name name)) l i ∙
+      ap (λ t. if t then outcome l (first i) else outcome l (given_data behind name i)) (same-name name)
 
   -- what stands under the others
-  others-data : is_name_among name names ≡ false → AreReadBy all (name ∷ names) these →
-      AreReadBy all names behind
+  others-data : is_name_among name names ≡ false → AreReadBy all (name ∷ names) these → AreReadBy all names behind
   others-data new h other among l i =
       let apart = other-name other name names among new (bytes_eq other name) refl in
       h other (ap (λ t. if t then true else is_name_among other names) apart ∙ among) l i ∙
@@ -84,14 +73,12 @@ module _ {S : Type 0} (name : List ℕ) (behind : VariantsDescription S) where
   is_new_unit = if is_name_among name behind.names then false else true && behind.is_sound
 
   module _ (sound : is_new_unit ≡ true) where
-    unit-apart : (is_name_among name behind.names ≡ false) × (true ≡ true) ×
-        (behind.is_sound ≡ true)
+    unit-apart : (is_name_among name behind.names ≡ false) × (true ≡ true) × (behind.is_sound ≡ true)
     unit-apart = first-apart (is_name_among name behind.names) true behind.is_sound sound
 
-    pub unit-back : (way : Way) {E : Type 0} (all : List (Variant E))
-        (make : Unit {0} ⊎ behind.Content → E) → AreReadBy all (name ∷ behind.names)
-        (with_unit make) → (s : Unit {0} ⊎ S) → IfEither (λ u. Unit {0}) behind.is_valid s →
-        IsNameRead way (unit_named s) (given_enum all)
+    pub unit-back : (way : Way) {E : Type 0} (all : List (Variant E)) (make : Unit {0} ⊎ behind.Content → E) →
+        AreReadBy all (name ∷ behind.names) (with_unit make) →
+        (s : Unit {0} ⊎ S) → IfEither (λ u. Unit {0}) behind.is_valid s → IsNameRead way (unit_named s) (given_enum all)
         (make (either_map (λ u. u) behind.content s)) (of_either (λ u. 1) behind.levels s)
     unit-back way all make h (inl u) valid = unit_variant_back all name (λ l.
         first-data all name behind.names (unit_variant name (make (inl tt))).taken
@@ -101,8 +88,7 @@ module _ {S : Type 0} (name : List ℕ) (behind : VariantsDescription S) where
         (behind.variants (λ c. make (inr c))) unit-apart.0 h) s valid
 
   pub unit-alike : (s t : Unit {0} ⊎ S) →
-      either_map (λ u. u) behind.content s ≡ either_map (λ u. u) behind.content t →
-      unit_named s ≡ unit_named t
+      either_map (λ u. u) behind.content s ≡ either_map (λ u. u) behind.content t → unit_named s ≡ unit_named t
   unit-alike (inl u) (inl v) same = refl
   unit-alike (inr s) (inr t) same = let inner : behind.content s ≡ behind.content t = cc in
       behind.alike s t inner
@@ -113,8 +99,7 @@ module _ {S : Type 0} (name : List ℕ) (behind : VariantsDescription S) where
   unit-never a (inr s) = behind.never a s
 
 -- a variant of this name without data, before others
-abbrev pub then_unit_variant : {S : Type 0} → List ℕ → VariantsDescription S →
-    VariantsDescription (Unit {0} ⊎ S)
+abbrev pub then_unit_variant : {S : Type 0} → List ℕ → VariantsDescription S → VariantsDescription (Unit {0} ⊎ S)
 then_unit_variant name behind = record {
   Content = Unit {0} ⊎ behind.Content;
   content = either_map (λ u. u) behind.content;
@@ -136,30 +121,24 @@ module _ {V S : Type 0} (name : List ℕ) (d : Description V) (behind : Variants
   data_named s = of_either (λ v. under_name name (d.written v)) behind.written s
 
   abbrev pub with_data : {E : Type 0} → (d.Content ⊎ behind.Content → E) → List (Variant E)
-  with_data make = data_variant name (λ c. make (inl c)) d.reading ∷
-      behind.variants (λ c. make (inr c))
+  with_data make = data_variant name (λ c. make (inl c)) d.reading ∷ behind.variants (λ c. make (inr c))
 
   abbrev pub is_new_data : Bool
   is_new_data = if is_name_among name behind.names then false else d.is_sound && behind.is_sound
 
   module _ (sound : is_new_data ≡ true) where
-    data-apart : (is_name_among name behind.names ≡ false) × (d.is_sound ≡ true) ×
-        (behind.is_sound ≡ true)
+    data-apart : (is_name_among name behind.names ≡ false) × (d.is_sound ≡ true) × (behind.is_sound ≡ true)
     data-apart = first-apart (is_name_among name behind.names) d.is_sound behind.is_sound sound
 
-    pub data-back : (way : Way) {E : Type 0} (all : List (Variant E))
-        (make : d.Content ⊎ behind.Content → E) → AreReadBy all (name ∷ behind.names)
-        (with_data make) → (s : V ⊎ S) → IfEither d.is_valid behind.is_valid s →
-        IsNameRead way (data_named s) (given_enum all)
-        (make (either_map d.reading.content behind.content s))
-        (of_either (λ v. suc (d.levels v)) behind.levels s)
-    data-back way all make h (inl v) valid =
-        data_variant_back all name (λ c. make (inl c)) d.reading
+    pub data-back : (way : Way) {E : Type 0} (all : List (Variant E)) (make : d.Content ⊎ behind.Content → E) →
+        AreReadBy all (name ∷ behind.names) (with_data make) →
+        (s : V ⊎ S) → IfEither d.is_valid behind.is_valid s → IsNameRead way (data_named s) (given_enum all)
+        (make (either_map d.reading.content behind.content s)) (of_either (λ v. suc (d.levels v)) behind.levels s)
+    data-back way all make h (inl v) valid = data_variant_back all name (λ c. make (inl c)) d.reading
         (first-data all name behind.names (data_variant name (λ c. make (inl c)) d.reading).taken
         (behind.variants (λ c. make (inr c))) h) (d.reads_back data-apart.1 way v valid)
     data-back way all make h (inr s) valid = behind.back data-apart.2 way all (λ c. make (inr c))
-        (others-data all name behind.names
-        (data_variant name (λ c. make (inl c)) d.reading).taken
+        (others-data all name behind.names (data_variant name (λ c. make (inl c)) d.reading).taken
         (behind.variants (λ c. make (inr c))) data-apart.0 h) s valid
 
   pub data-alike : (s t : V ⊎ S) → either_map d.reading.content behind.content s ≡
@@ -172,13 +151,11 @@ module _ {V S : Type 0} (name : List ℕ) (d : Description V) (behind : Variants
   data-alike u v same = cc
 
   pub data-never : (a : Avoided) (s : V ⊎ S) → IsNever a (data_named s)
-  data-never a (inl v) = never-container a dictionary
-      (in_turn label_item (λ r. r) ((named name, d.written v) ∷ []))
+  data-never a (inl v) = never-container a dictionary (in_turn label_item (λ r. r) ((named name, d.written v) ∷ []))
   data-never a (inr s) = behind.never a s
 
 -- a variant of this name with data, before others
-abbrev pub then_variant : {V S : Type 0} → List ℕ → Description V → VariantsDescription S →
-    VariantsDescription (V ⊎ S)
+abbrev pub then_variant : {V S : Type 0} → List ℕ → Description V → VariantsDescription S → VariantsDescription (V ⊎ S)
 then_variant name d behind = record {
   Content = d.Content ⊎ behind.Content;
   content = either_map d.reading.content behind.content;

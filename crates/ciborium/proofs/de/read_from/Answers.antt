@@ -3,8 +3,7 @@ use Rattle.std.proofs.Common.{◌≡◌, Err, ap, ◌∙◌, subst}
 use Rattle.ciborium_ll.specs.Accesses.{left_at_failure}
 use Rattle.ciborium_value.specs.Sources.{IsGrantedFault, RefusesAhead}
 use Rattle.ciborium.specs.inner.ByteSources.{ReadsValue, StandsBefore, fault_at}
-use Rattle.ciborium.proofs.Readers.HandedReaders.{some-map}
-use Rattle.ciborium.proofs.Readers.PutAside.{back-reads, same-cause}
+use Rattle.ciborium.proofs.{Readers.HandedReaders.some-map, Readers.PutAside.{back-reads, same-cause}}
 use Rattle.ciborium.proofs.de.read_from.Goals as goal
 
 pub returns-in-Err : goal.returns-in-Err

@@ -1,7 +1,5 @@
 use Rattle.std.proofs.Common.{subst, sym, Result, Ok, Err, IfOk}
-use Rattle.ciborium.specs.ReadsBack.{by_bytes}
-use Rattle.ciborium.specs.View.{read_as}
-use Rattle.ciborium.specs.Writes.{IsWrittenAs}
+use Rattle.ciborium.specs.{ReadsBack.by_bytes, View.read_as, Writes.IsWrittenAs}
 use Rattle.ciborium_callers.proofs.MemoryAlone.{content, for_memory, of_written}
 use Rattle.ciborium_callers.proofs.round_trips.through_vec.Goals as goal
 

@@ -38,15 +38,13 @@ returns-then-not-goes_on-clause-ok g c =
     partly-end g.A.Access.remaining given_byte c.args.self.now c.args.seq c.items.self c.next.new.self c.items.left
     c.items.bytes.items c.items.invariant.read
     (no_more (GoesOn (StandsBefore g.A.Access.remaining) SeqStands c.items.self c.next.new.self c.items.left
-    c.next.new.seq) (Leaves (StandsBefore g.A.Access.remaining) SeqStands c.items.self c.next.new.self
-    c.items.left)
+    c.next.new.seq) (Leaves (StandsBefore g.A.Access.remaining) SeqStands c.items.self c.next.new.self c.items.left)
     c.in_ok-goes_on.goes_on c.if-not-goes_on.true c.in_ok-goes_on.ensures.ok)
 
 pub returns-then-not-goes_on-clause-took : goal.returns-then-not-goes_on-clause-took
 returns-then-not-goes_on-clause-took g c =
     owes-end g.A.Access.remaining given_byte c.args.self.now c.args.seq c.items.self c.next.new.self c.items.left
-    c.items.invariant.owes
-    (no_more (TakesTo (IsUnread g.A.Access.remaining) c.items.self c.next.new.self
+    c.items.invariant.owes (no_more (TakesTo (IsUnread g.A.Access.remaining) c.items.self c.next.new.self
     (OwesLess SeqOwes c.items.left c.next.new.seq))
     (TakesTo (IsUnread g.A.Access.remaining) c.items.self c.next.new.self (OwesNothing SeqOwes c.items.left))
     c.in_ok-goes_on.goes_on c.if-not-goes_on.true c.in_ok-goes_on.ensures.took)

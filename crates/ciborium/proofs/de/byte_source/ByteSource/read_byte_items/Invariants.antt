@@ -1,6 +1,5 @@
 use Rattle.std.proofs.Common.{◌≤◌, ◌+◌}
-use Rattle.ciborium_value.specs.Sources.{TakesOnly}
-use Rattle.ciborium_value.specs.Given.{given_byte}
+use Rattle.ciborium_value.specs.{Sources.TakesOnly, Given.given_byte}
 use Rattle.ciborium.specs.inner.ByteSources.{HasTakenSince, seq_left, weight_left}
 use Rattle.ciborium.proofs.Containers.ByteItems.{OwesPartly, ReadsPartly}
 use Rattle.ciborium.proofs.de.byte_source.ByteSource.read_byte_items.Given as goal

@@ -1,13 +1,10 @@
-use Rattle.std.proofs.Common.{arith, Some, false, sym, subst, ◌∙◌}
-use Rattle.std.proofs.lemmas.Result.{err_from_is_err_and}
-use Rattle.ciborium_ll.specs.declared.header.Header.TheVariants as header
-use Rattle.ciborium_value.specs.Given.{given_pairs, give}
-use Rattle.ciborium.specs.inner.ByteSources.{IsUnread}
-use Rattle.ciborium.specs.inner.Skips.{TakesBare}
+use Rattle.std.proofs.{Common.{arith, Some, false, sym, subst, ◌∙◌}, lemmas.Result.err_from_is_err_and}
+use Rattle.ciborium_value.specs.{Given.{given_pairs, give}, Ahead.takes_level}
+use Rattle.ciborium.specs.{inner.ByteSources.IsUnread, inner.Skips.TakesBare}
 use Rattle.ciborium.proofs.Containers.EnteredContainers.{IsEntered, entered-kept, map-entered, map-nests, map-other}
-use Rattle.ciborium.proofs.Containers.EnteredContainers.{pairs-given, pairs-stand}
-use Rattle.ciborium.proofs.Containers.ByteItems.{head-refuses, nested-refuses, other-refuses}
-use Rattle.ciborium_value.specs.Ahead.{takes_level}
+use Rattle.ciborium.proofs.{Containers.EnteredContainers.{pairs-given, pairs-stand}, Containers.ByteItems.head-refuses}
+use Rattle.ciborium.proofs.Containers.ByteItems.{nested-refuses, other-refuses}
+use Rattle.ciborium_ll.specs.declared.header.Header.TheVariants as header
 use Rattle.ciborium.proofs.de.byte_source.source.ByteSourceSource.begin_map.Goals as goal
 
 pub returns-in_err-header-clause-refused : goal.returns-in_err-header-clause-refused

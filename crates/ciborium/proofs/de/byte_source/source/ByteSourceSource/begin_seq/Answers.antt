@@ -1,16 +1,13 @@
 use Rattle.std.proofs.Common.{rules, arith, ◌+◌, ◌<◌, refl, Some, false, sym, subst, ◌∙◌}
 use Rattle.std.proofs.lemmas.Result.{err_from_is_err_and}
 use Rattle.std.specs.Vec.Iter.{into_iter_items}
-use Rattle.ciborium_ll.specs.declared.header.Header.TheVariants as header
 use Rattle.ciborium_ll.specs.StringRefusal.{of_bytes}
-use Rattle.ciborium_value.specs.Given.{bare_seq, given_seq, give}
-use Rattle.ciborium.specs.inner.ByteSources.{IsUnread, seq_left, weight_left}
+use Rattle.ciborium_value.specs.{Given.{bare_seq, given_seq, give}, Ahead.takes_level}
+use Rattle.ciborium.specs.{inner.ByteSources.{IsUnread, seq_left, weight_left}, inner.Skips.TakesBare}
 use Rattle.ciborium.proofs.Containers.ByteItems.{head-refuses, nested-refuses, other-refuses, string-refuses}
-use Rattle.ciborium.specs.inner.Skips.{TakesBare}
-use Rattle.ciborium.proofs.Containers.EnteredContainers.{IsEntered, entered-kept, items-stand}
-use Rattle.ciborium.proofs.Containers.EnteredContainers.{array-entered, array-nests, bytes-entered, bytes-had}
-use Rattle.ciborium.proofs.Containers.EnteredContainers.{seq-given, seq-other}
-use Rattle.ciborium_value.specs.Ahead.{takes_level}
+use Rattle.ciborium.proofs.Containers.EnteredContainers.{IsEntered, entered-kept, items-stand, array-entered}
+use Rattle.ciborium.proofs.Containers.EnteredContainers.{array-nests, bytes-entered, bytes-had, seq-given, seq-other}
+use Rattle.ciborium_ll.specs.declared.header.Header.TheVariants as header
 use Rattle.ciborium.proofs.de.byte_source.source.ByteSourceSource.begin_seq.Goals as goal
 
 pub returns-in_err-header-clause-refused : goal.returns-in_err-header-clause-refused
@@ -87,7 +84,6 @@ returns-in_err-seq-in-Bytes-clause-refused g c =
     c.in-Bytes.len c.in-Bytes.is c.in_err-seq-in-Bytes.ensures.denied)
 
 pub returns-in_default-clause-refused : goal.returns-in_default-clause-refused
-returns-in_default-clause-refused g c =
-    other-refuses given_seq c.in_ok-header.ensures.reads c.in_ok-header.ensures.head
+returns-in_default-clause-refused g c = other-refuses given_seq c.in_ok-header.ensures.reads c.in_ok-header.ensures.head
     (seq-other (Some c.args.self.now.levels) c.in_ok-header.header
     c.in_ok-header.ensures.reads.bare c.in_default.not-Array c.in_default.not-Bytes)

@@ -1,19 +1,17 @@
 use Rattle.std.proofs.Common.{rules, ◌≡◌, ◌≢◌, ◌≤◌, ◌+◌, length, ap, ◌∙◌, sym, Some, false, subst, arith, string_bytes}
 use Rattle.std.proofs.lemmas.Result.{err_from_is_err_and}
-use Rattle.ciborium_ll.specs.declared.header.Header.TheVariants as header
 use Rattle.ciborium_ll.specs.StringRefusal.{of_text}
 use Rattle.ciborium_value.specs.Given.{deeper, given_name, given_variant}
-use Rattle.ciborium.specs.inner.ByteSources.{IsUnread, end_at, reader_of, fault_at}
-use Rattle.ciborium.specs.inner.FrontItems.{Denies, Reads}
+use Rattle.ciborium.specs.{inner.ByteSources.{IsUnread, end_at, reader_of, fault_at}, inner.FrontItems.{Denies, Reads}}
 use Rattle.ciborium.specs.inner.Skips.{TakesBare}
-use Rattle.ciborium.proofs.Containers.EnteredContainers.{deeper-is, same-unread}
-use Rattle.ciborium.proofs.Containers.ByteItems.{head-refuses, nested-refuses, other-refuses, refuses-denied}
-use Rattle.ciborium.proofs.Containers.DueLevels.{completes-begun, holds-begun}
-use Rattle.ciborium.proofs.Containers.NamedVariants.{key-denied, map-no-text, map-not-one, null-unread, pair-nests}
-use Rattle.ciborium.proofs.Containers.NamedVariants.{pair-begun, text-nests, text-begun, variant-other}
-use Rattle.ciborium.proofs.Items.SkippedTags.{denies-of-item}
-use Rattle.ciborium.proofs.Payloads.StringPayloads.{denies-content}
+use Rattle.ciborium.proofs.{Containers.EnteredContainers.{deeper-is, same-unread}, Containers.ByteItems.head-refuses}
+use Rattle.ciborium.proofs.Containers.ByteItems.{nested-refuses, other-refuses, refuses-denied}
+use Rattle.ciborium.proofs.{Containers.DueLevels.{completes-begun, holds-begun}, Containers.NamedVariants.key-denied}
+use Rattle.ciborium.proofs.Containers.NamedVariants.{map-no-text, map-not-one, null-unread, pair-nests, pair-begun}
+use Rattle.ciborium.proofs.Containers.NamedVariants.{text-nests, text-begun, variant-other}
+use Rattle.ciborium.proofs.{Items.SkippedTags.denies-of-item, Payloads.StringPayloads.denies-content}
 use Rattle.ciborium.proofs.Items.TakenOnly.{kept-alone, same-end}
+use Rattle.ciborium_ll.specs.declared.header.Header.TheVariants as header
 use Rattle.ciborium.proofs.de.byte_source.source.ByteSourceSource.begin_variant.Goals as goal
 
 pub returns-in_err-header-clause-refused : goal.returns-in_err-header-clause-refused

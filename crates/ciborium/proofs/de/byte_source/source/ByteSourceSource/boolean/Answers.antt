@@ -1,10 +1,9 @@
-use Rattle.std.proofs.Common.{Some, ap, false, true}
-use Rattle.std.proofs.lemmas.Result.{err_from_is_err_and}
+use Rattle.std.proofs.{Common.{Some, ap, false, true}, lemmas.Result.err_from_is_err_and}
 use Rattle.ciborium_ll.specs.Item.{simple}
-use Rattle.ciborium_ll.specs.declared.header.Header.TheVariants as header
 use Rattle.ciborium_value.specs.Given.{boolean_of, given_boolean}
 use Rattle.ciborium.proofs.Containers.ByteItems.{bare-refused, head-refused, other-refuses, whole-given}
 use Rattle.ciborium.proofs.Items.BareScalars.{boolean-gives, boolean-none, boolean-other}
+use Rattle.ciborium_ll.specs.declared.header.Header.TheVariants as header
 use Rattle.ciborium.proofs.de.byte_source.source.ByteSourceSource.boolean.Goals as goal
 
 pub returns-in_err-header-clause-takes : goal.returns-in_err-header-clause-takes
@@ -33,8 +32,7 @@ returns-else-number-eq-TRUE-clause-takes g c =
     (boolean-none h c.in-Simple.number c.in-Simple.is c.if-number-eq-FALSE.false c.if-number-eq-TRUE.false)))
 
 pub returns-in_default-clause-takes : goal.returns-in_default-clause-takes
-returns-in_default-clause-takes g c =
-    bare-refused c.in_ok-header.ensures.reads
+returns-in_default-clause-takes g c = bare-refused c.in_ok-header.ensures.reads
     (other-refuses given_boolean c.in_ok-header.ensures.reads c.in_ok-header.ensures.head
     (boolean-other (Some c.args.self.now.levels) c.in_ok-header.header c.in_ok-header.ensures.reads.bare
     (λ n e. absurd (c.in_default.not-Simple n e))))

@@ -1,15 +1,12 @@
-use Rattle.std.proofs.Common.{Some, ap, arith, refl, rules, sym, ◌∙◌}
-use Rattle.std.proofs.lemmas.Result.{err_from_is_err_and}
-use Rattle.ciborium_ll.specs.declared.header.Header.TheVariants as header
+use Rattle.std.proofs.{Common.{Some, ap, arith, refl, rules, sym, ◌∙◌}, lemmas.Result.err_from_is_err_and}
 use Rattle.ciborium_ll.specs.StringRefusal.{of_bytes}
 use Rattle.ciborium_value.specs.Given.{bare_bytes, given_bytes, outcome}
-use Rattle.ciborium.specs.inner.ByteSources.{fault_at}
-use Rattle.ciborium.specs.inner.StringContents.{string_item}
+use Rattle.ciborium.specs.{inner.ByteSources.fault_at, inner.StringContents.string_item}
 use Rattle.ciborium.proofs.Containers.ByteItems.{array-begun, array-refuses, array-takes, array-took, bytes-other}
 use Rattle.ciborium.proofs.Containers.ByteItems.{bare-refused, behind-refused, head-refused, nested-refuses}
 use Rattle.ciborium.proofs.Containers.ByteItems.{other-refuses, string-given, string-refuses}
-use Rattle.ciborium.proofs.Containers.EnteredContainers.{array-nests}
-use Rattle.ciborium.proofs.Items.SkippedTags.{untagged-under}
+use Rattle.ciborium.proofs.{Containers.EnteredContainers.array-nests, Items.SkippedTags.untagged-under}
+use Rattle.ciborium_ll.specs.declared.header.Header.TheVariants as header
 use Rattle.ciborium.proofs.de.byte_source.source.ByteSourceSource.bytes.Goals as goal
 
 pub returns-in_err-header : goal.returns-in_err-header

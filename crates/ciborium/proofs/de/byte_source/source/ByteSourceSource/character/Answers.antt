@@ -1,23 +1,16 @@
 use Rattle.std.proofs.Common.{rules, ◌≡◌, ◌≤◌, ℕ, [], ◌∷◌, ap, ◌∙◌, Some, false, subst, arith, length, take}
-use Rattle.std.proofs.Common.{length-append, chars, ◌+◌}
-use Rattle.std.proofs.lemmas.Grind.{common_steps}
-use Rattle.std.proofs.lemmas.Result.{err_from_is_err_and}
-use Rattle.ciborium_ll.specs.Accesses.{left_at_failure}
-use Rattle.ciborium_ll.specs.StringRefusal.{of_text}
-use Rattle.ciborium_ll.specs.declared.header.Header.TheVariants as header
-use Rattle.ciborium_value.specs.Sources.{of_kind}
-use Rattle.ciborium_value.specs.Given.{given_character, lone_character, settled}
-use Rattle.ciborium_value.specs.declared.kind.Kind.TheVariants as kinds
+use Rattle.std.proofs.{Common.{length-append, chars, ◌+◌}, lemmas.Grind.common_steps, lemmas.Result.err_from_is_err_and}
+use Rattle.ciborium_ll.specs.{Accesses.left_at_failure, StringRefusal.of_text}
+use Rattle.ciborium_value.specs.{Sources.of_kind, Given.{given_character, lone_character, settled}}
 use Rattle.ciborium_value.proofs.Sources.Sequences.{fault_outside}
-use Rattle.ciborium.specs.inner.ByteSources.{IsUnread, end_at, fault_at}
-use Rattle.ciborium.specs.inner.Skips.{TakesBare}
+use Rattle.ciborium.specs.{inner.ByteSources.{IsUnread, end_at, fault_at}, inner.Skips.TakesBare}
 use Rattle.ciborium.proofs.Payloads.LoneCharacters.{character-given, character-open, character-other, long-denied}
 use Rattle.ciborium.proofs.Payloads.LoneCharacters.{payload-denied, payload-taken, text-denied}
-use Rattle.ciborium.proofs.Items.SkippedTags.{reads-bare}
-use Rattle.ciborium.proofs.Items.TakenOnly.{same-end}
-use Rattle.ciborium.proofs.Payloads.StringPayloads.{string-behind}
-use Rattle.ciborium.proofs.Containers.ByteItems.{bare-refused, behind-given, behind-refused, head-refused}
-use Rattle.ciborium.proofs.Containers.ByteItems.{other-refuses, refuses-denied}
+use Rattle.ciborium.proofs.{Items.SkippedTags.reads-bare, Items.TakenOnly.same-end}
+use Rattle.ciborium.proofs.{Payloads.StringPayloads.string-behind, Containers.ByteItems.{bare-refused, behind-given}}
+use Rattle.ciborium.proofs.Containers.ByteItems.{behind-refused, head-refused, other-refuses, refuses-denied}
+use Rattle.ciborium_ll.specs.declared.header.Header.TheVariants as header
+use Rattle.ciborium_value.specs.declared.kind.Kind.TheVariants as kinds
 use Rattle.ciborium.proofs.de.byte_source.source.ByteSourceSource.character.Goals as goal
 
 short : (n : ℕ) → n ≤ 4 → length {A = ℕ} (take n (0 ∷ 0 ∷ 0 ∷ 0 ∷ [])) ≡ n
@@ -28,8 +21,7 @@ returns-in_err-header-clause-takes g c =
     let exit = err_from_is_err_and c.from_residual.result c.from_residual.ensures.1 in
     rw (exit.1, exit.2) (head-refused c.in_err-header.ensures.reads c.in_err-header.ensures.denied)
 
-pub returns-then-n-gt-GREATEST_CHARACTER_SIZE-clause-takes :
-    goal.returns-then-n-gt-GREATEST_CHARACTER_SIZE-clause-takes
+pub returns-then-n-gt-GREATEST_CHARACTER_SIZE-clause-takes : goal.returns-then-n-gt-GREATEST_CHARACTER_SIZE-clause-takes
 returns-then-n-gt-GREATEST_CHARACTER_SIZE-clause-takes g c =
     let old = c.args.self.now in
     let mid = c.bare_head.new.self in
@@ -102,15 +94,13 @@ returns-in_err-character-in-Some-clause-takes g c =
     (left_at_failure g.A.Access.can_fail (g.A.Access.remaining new.decoder.reader.now))) content.ok))))
 
 pub returns-in-None-clause-takes : goal.returns-in-None-clause-takes
-returns-in-None-clause-takes g c =
-    bare-refused c.in_ok-header.ensures.reads
+returns-in-None-clause-takes g c = bare-refused c.in_ok-header.ensures.reads
     (other-refuses given_character c.in_ok-header.ensures.reads c.in_ok-header.ensures.head
     (λ ts i all e. character-open (Some c.args.self.now.levels) ts i all
     (e ∙ c.in-Text.is ∙ ap header.Text c.in-None.is)))
 
 pub returns-in_default-clause-takes : goal.returns-in_default-clause-takes
-returns-in_default-clause-takes g c =
-    bare-refused c.in_ok-header.ensures.reads
+returns-in_default-clause-takes g c = bare-refused c.in_ok-header.ensures.reads
     (other-refuses given_character c.in_ok-header.ensures.reads c.in_ok-header.ensures.head
     (character-other (Some c.args.self.now.levels) c.in_ok-header.header c.in_ok-header.ensures.reads.bare
     c.in_default.not-Text))

@@ -1,10 +1,9 @@
-use Rattle.std.proofs.Common.{Some, sym, ◌∙◌}
-use Rattle.std.proofs.lemmas.Result.{err_from_is_err_and}
+use Rattle.std.proofs.{Common.{Some, sym, ◌∙◌}, lemmas.Result.err_from_is_err_and}
 use Rattle.ciborium_ll.specs.Item.{simple}
-use Rattle.ciborium_ll.specs.declared.header.Header.TheVariants as header
 use Rattle.ciborium_value.specs.Given.{given_unit}
 use Rattle.ciborium.proofs.Containers.ByteItems.{bare-refused, head-refused, other-refuses, whole-given}
 use Rattle.ciborium.proofs.Items.BareScalars.{unit-gives, unit-none, unit-other}
+use Rattle.ciborium_ll.specs.declared.header.Header.TheVariants as header
 use Rattle.ciborium.proofs.de.byte_source.source.ByteSourceSource.unit.Goals as goal
 
 pub returns-in_err-header-clause-takes : goal.returns-in_err-header-clause-takes
@@ -27,8 +26,7 @@ returns-else-is_null-clause-takes g c =
     (unit-none h c.in-Simple.number c.in-Simple.is (sym c.is_null.ensures ∙ c.if-is_null.false))))
 
 pub returns-in_default-clause-takes : goal.returns-in_default-clause-takes
-returns-in_default-clause-takes g c =
-    bare-refused c.in_ok-header.ensures.reads
+returns-in_default-clause-takes g c = bare-refused c.in_ok-header.ensures.reads
     (other-refuses given_unit c.in_ok-header.ensures.reads c.in_ok-header.ensures.head
     (unit-other (Some c.args.self.now.levels) c.in_ok-header.header c.in_ok-header.ensures.reads.bare
     (λ n e. absurd (c.in_default.not-Simple n e))))
