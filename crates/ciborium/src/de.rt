@@ -43,7 +43,6 @@ pub use deterministic::{
     from_reader_deterministic, from_reader_deterministic_with_order,
 };
 pub use error::Error;
-use error::put_back;
 pub use loading::from_slice_deterministic;
 pub use sequence::{read_buf_sequence, read_sequence};
 pub use slice::{from_slice, from_slice_with_recursion_limit};
@@ -66,7 +65,7 @@ fn read_from<T: Deserialize, R, A: Access<R>>(
 {
     match T::deserialize(alloc, source) {
         Ok(value) => Ok(value),
-        Err(refusal) => Err(put_back(refusal, source.failure.take())),
+        Err(refusal) => Err(source.put_back(refusal)),
     }
 }
 

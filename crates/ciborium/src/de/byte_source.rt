@@ -6,6 +6,7 @@ ghost use Rattle.ciborium_ll.specs.Decoding.{pushed_of};
 use ciborium_ll::{Decoder, Header};
 use std::{io, vec};
 
+mod aside;
 mod byte_lists;
 mod characters;
 mod containers;

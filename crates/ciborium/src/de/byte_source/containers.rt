@@ -1,4 +1,4 @@
-//! Containers: how they are entered, and their parts in turn.
+//! Containers: how they are entered.
 
 ghost use Rattle.std.specs.Prelude.{◌≡◌, ◌≢◌, ◌+◌, ◌-◌, ◌≤◌, IfErr, IfOk};
 ghost use Rattle.std.specs.Prelude.{None, OnErr, OnOk, Some};
