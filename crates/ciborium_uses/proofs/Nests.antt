@@ -5,8 +5,8 @@ use Rattle.ciborium.specs.Encoding.{item_of, items_of, pairs_of}
 use Rattle.ciborium.specs.Item as items
 use Rattle.ciborium.specs.Item.{Item, Items, Pairs}
 use Rattle.ciborium.specs.Meaning.{big_endian, bignum_meaning, folding_bytes, is_bignum_tag, items_meaning, meaning}
-use Rattle.ciborium.specs.Meaning.{pairs_meaning, short_string, simple_meaning, tag_meaning, tree_pairs_more, trees_more}
-use Rattle.ciborium.specs.Meaning.{without_zeros}
+use Rattle.ciborium.specs.Meaning.{pairs_meaning, short_string, simple_meaning, tag_meaning, tree_pairs_more}
+use Rattle.ciborium.specs.Meaning.{trees_more, without_zeros}
 use Rattle.ciborium.specs.Nesting.{items_nesting, nesting, pairs_nesting, tag_nesting}
 use Rattle.ciborium.specs.Tree as trees
 use Rattle.ciborium.specs.Tree.{Tree, Trees, TreePairs}

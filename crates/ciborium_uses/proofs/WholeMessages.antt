@@ -10,7 +10,8 @@ use Rattle.ciborium.specs.Writes.{IsWrittenAs}
 use Rattle.ciborium_value.proofs.FoldedTrees.Folding.{written_means_folded}
 use Rattle.ciborium_uses.proofs.KeptLabels.{kept, one-header, one-map, one-value, read-back, spelled}
 use Rattle.ciborium_uses.proofs.Nests.{nests}
-use Rattle.ciborium_uses.specs.Envelopes.{AreAlike, AreClaimBytes, AreHeaders, AreLabels, IsHeader, IsMessage, IsWhole, OneEnvelope}
+use Rattle.ciborium_uses.specs.Envelopes.{AreAlike, AreClaimBytes, AreHeaders, AreLabels, IsHeader, IsMessage, IsWhole}
+use Rattle.ciborium_uses.specs.Envelopes.{OneEnvelope}
 use Rattle.ciborium_uses.specs.Envelopes.{SpelledIsRead, message_of, message_tree, shortest_bytes, wrapped_tree}
 use Rattle.ciborium_uses.specs.declared.envelopes.Envelope.{Envelope}
 use Rattle.ciborium_uses.specs.declared.envelopes.wrapping.Wrapping.{Wrapping}
@@ -52,7 +53,8 @@ folds Token p c s m h = rw h refl
 -- the bytes that are written of a tree under tags
 pub spelled-under : (w v : Wrapping) (bs : List ℕ) (t : Tree) → w ≡ v →
     IsWrittenAs bs (Ok (item_of (wrapped_tree v t))) → Spells bs (item_of (wrapped_tree w t))
-spelled-under w v bs t same h = spelled bs _ (subst (λ v. IsWrittenAs bs (Ok (item_of (wrapped_tree v t)))) (sym same) h)
+spelled-under w v bs t same h =
+    spelled bs _ (subst (λ v. IsWrittenAs bs (Ok (item_of (wrapped_tree v t)))) (sym same) h)
 
 pub spelled-is-read : SpelledIsRead
 spelled-is-read bs w e h s = record {

@@ -54,7 +54,11 @@ pub fn unwrapped(value: Value) -> Result<(Wrapping, Value), EnvelopeError>
         Err(message) => return Ok((Wrapping::Bare, message)),
     };
     if tag == 18 {
-        return Ok((Wrapping::Signed, Box::into_inner(content)));
+        let message = Box::into_inner(content);
+        if message.is_tag() {
+            return Err(EnvelopeError::Tags);
+        }
+        return Ok((Wrapping::Signed, message));
     }
     if tag != 61 {
         return Err(refusal_of(tag));

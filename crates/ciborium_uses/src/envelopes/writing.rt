@@ -118,7 +118,8 @@ fn write_under(
 ///
 /// # Errors
 ///
-/// Those of `read_wrapped`, of which an envelope that is whole under these tags leaves `Memory` alone.
+/// Those of `read_wrapped`, of which an envelope that is whole under these tags leaves `Memory`
+/// alone.
 pub fn through_memory(
     alloc: Global,
     wrapping: Wrapping,

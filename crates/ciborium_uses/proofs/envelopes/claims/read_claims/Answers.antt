@@ -11,5 +11,6 @@ returns-in_err-labels-clause-refused c =
 
 pub returns-clause-refused : goal.returns-clause-refused
 returns-clause-refused c = refused_by c.claims_of.result c.claims_of.ensures.refused (λ e refused v h.
-    let same = one-map c.args.payload.now h.map (tree_of c.in_ok-labels.labels.map) h.labels c.in_ok-labels.ensures.ok in
+    let same = one-map c.args.payload.now h.map (tree_of c.in_ok-labels.labels.map) h.labels
+    c.in_ok-labels.ensures.ok in
     refused v (subst (λ m. AreClaims m v) same h.claims_at))
