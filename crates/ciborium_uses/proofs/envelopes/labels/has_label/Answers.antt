@@ -1,9 +1,12 @@
-use Rattle.std.proofs.Common.{ap, ◌∙◌}
-use Rattle.std.proofs.Common.{is_some}
-use Rattle.ciborium_uses.proofs.LabelMaps.{found_by_tree, is_some-by_tree}
+use Rattle.std.proofs.Common.{sym, ◌∙◌}
+use Rattle.ciborium.specs.Derived.{value_cmp}
+use Rattle.ciborium.specs.Order.{tree_cmp}
+use Rattle.ciborium.specs.View.{tree_of}
+use Rattle.ciborium_value.specs.lemmas.DerivedOrder.{value_cmp-is}
+use Rattle.ciborium_value.specs.lemmas.ReadsBackMaps.{one-has}
 use Rattle.ciborium_uses.proofs.envelopes.labels.has_label.Goals as goal
 
 pub returns : goal.returns
 returns c =
-    c.contains_key.ensures ∙ is_some-by_tree _
-    ∙ ap is_some (found_by_tree c.args.label.now c.args.labels.now.entries)
+    c.contains_key.ensures ∙
+    sym (one-has value_cmp tree_cmp tree_of tree_of value_cmp-is c.args.labels.now.by_label.entries c.args.label.now)
