@@ -1,34 +1,22 @@
 -- Labels are written as they are read, and read again.
-use Rattle.std.proofs.Common.{◌≡◌, ◌≤◌, ◌&&◌, inl, refl, sym, ap, subst, ◌∙◌, arith, IsTrue, ℕ, List, [], ◌∷◌}
-use Rattle.std.proofs.Common.{Bool, Ok, Option, Some, None, length, option_map, ◌==◌}
-use Rattle.std.proofs.lemmas.Bool.Decides.{nat_tests}
+use Rattle.std.proofs.Common.{◌≡◌, ◌≤◌, ◌&&◌, inl, refl, sym, ap, subst, ◌∙◌, arith, IsTrue, ℕ, List, [], ◌∷◌, Bool, Ok}
+use Rattle.std.proofs.{Common.{Option, Some, None, length, option_map, ◌==◌}, lemmas.Bool.Decides.nat_tests}
 use Rattle.ciborium_ll.proofs.UniqueSpelling.{none_begins_another, one_item}
 use Rattle.ciborium.proofs.ReadBack.RoundTrips.{one-content}
-use Rattle.ciborium.specs.Encoding.{item_of}
-use Rattle.ciborium.specs.Folded.{folded, tree_pairs_folded}
-use Rattle.ciborium.specs.Given.{Outcome, given_value, gives, of_meaning, outcome}
-use Rattle.ciborium.specs.Item as item
-use Rattle.ciborium.specs.Item.{Item}
-use Rattle.ciborium.specs.Meaning.{tree_pairs_more}
-use Rattle.ciborium.specs.Nesting.{nesting}
-use Rattle.ciborium.specs.Spells.{Spells}
-use Rattle.ciborium.specs.Tree as trees
-use Rattle.ciborium.specs.Tree.{Tree, TreePairs}
-use Rattle.ciborium.specs.TreeAnswers.{IsErrorOf}
-use Rattle.ciborium.specs.View.{tree_pairs_of}
+use Rattle.ciborium.specs.{Encoding.item_of, Folded.{folded, tree_pairs_folded}, Given.{Outcome, given_value, gives}}
+use Rattle.ciborium.specs.{Given.{of_meaning, outcome}, Item.Item, Meaning.tree_pairs_more, Nesting.nesting}
+use Rattle.ciborium.specs.{Spells.Spells, Tree.{Tree, TreePairs}, TreeAnswers.IsErrorOf, View.tree_pairs_of}
 use Rattle.ciborium.specs.Writes.{IsWrittenAs}
-use Rattle.ciborium_value.proofs.FoldedTrees.FoldedCopies.{given-folded}
-use Rattle.ciborium_value.proofs.FoldedTrees.Folding.{folds_once}
+use Rattle.ciborium_value.proofs.{FoldedTrees.FoldedCopies.given-folded, FoldedTrees.Folding.folds_once}
 use Rattle.ciborium_value.proofs.Writing.ReadBack.{written_spells_item}
-use Rattle.ciborium_value.specs.ReadsBack.{by_bytes}
-use Rattle.ciborium_value.specs.declared.error.Error.{Error}
-use Rattle.ciborium_value.specs.declared.error.Error.TheVariants as errors
-use Rattle.ciborium_value.specs.declared.kind.Kind.TheVariants as kinds
-use Rattle.ciborium_value.specs.declared.tree.Value.{Value}
-use Rattle.ciborium_value.specs.lemmas.GivenOutcomes.{meaning_given}
-use Rattle.ciborium_value.specs.lemmas.ReadsBackValues.{value-back}
+use Rattle.ciborium_value.specs.{ReadsBack.by_bytes, declared.error.Error.Error, declared.tree.Value.Value}
+use Rattle.ciborium_value.specs.{lemmas.GivenOutcomes.meaning_given, lemmas.ReadsBackValues.value-back}
 use Rattle.ciborium_uses.specs.Envelopes.{AreLabelBytes, AreLabels, IsAllOf, IsHeader, IsKept, are_labels, is_label}
 use Rattle.ciborium_uses.specs.Envelopes.{is_empty, is_label_map}
+use Rattle.ciborium.specs.Item as item
+use Rattle.ciborium.specs.Tree as trees
+use Rattle.ciborium_value.specs.declared.error.Error.TheVariants as errors
+use Rattle.ciborium_value.specs.declared.kind.Kind.TheVariants as kinds
 
 -- ---- folding keeps labels
 

@@ -1,16 +1,14 @@
 -- What an item means nests no deeper than the item.
 use Rattle.std.proofs.Common.{◌≡◌, ◌≤◌, ◌^◌, ◌==◌, ◌||◌, ℕ, suc, max, Bool, true, false, cond, eqb, ltb, leb, le-leb}
 use Rattle.std.proofs.Common.{leb-true, List, length, Option, Some, None, option_map, refl, subst, arith}
-use Rattle.ciborium.specs.Encoding.{item_of, items_of, pairs_of}
-use Rattle.ciborium.specs.Item as items
-use Rattle.ciborium.specs.Item.{Item, Items, Pairs}
-use Rattle.ciborium.specs.Meaning.{big_endian, bignum_meaning, folding_bytes, is_bignum_tag, items_meaning, meaning}
-use Rattle.ciborium.specs.Meaning.{pairs_meaning, short_string, simple_meaning, tag_meaning, tree_pairs_more}
-use Rattle.ciborium.specs.Meaning.{trees_more, without_zeros}
-use Rattle.ciborium.specs.Nesting.{items_nesting, nesting, pairs_nesting, tag_nesting}
-use Rattle.ciborium.specs.Tree as trees
+use Rattle.ciborium.specs.{Encoding.{item_of, items_of, pairs_of}, Item.{Item, Items, Pairs}, Meaning.big_endian}
+use Rattle.ciborium.specs.Meaning.{bignum_meaning, folding_bytes, is_bignum_tag, items_meaning, meaning, pairs_meaning}
+use Rattle.ciborium.specs.Meaning.{short_string, simple_meaning, tag_meaning, tree_pairs_more, trees_more}
+use Rattle.ciborium.specs.{Meaning.without_zeros, Nesting.{items_nesting, nesting, pairs_nesting, tag_nesting}}
 use Rattle.ciborium.specs.Tree.{Tree, Trees, TreePairs}
 use Rattle.ciborium_value.specs.lemmas.ReadsBackBignums.{length-without_zeros}
+use Rattle.ciborium.specs.Item as items
+use Rattle.ciborium.specs.Tree as trees
 
 -- what is meant, if anything is, takes so many levels at most
 abbrev Fits : ℕ → Option Tree → Type 0

@@ -1,19 +1,12 @@
 -- A message that was read is whole; what is whole is read again; and no bytes are two messages.
 use Rattle.std.proofs.Common.{◌≡◌, ◌≤◌, refl, sym, subst, ◌∙◌, arith, ℕ, List, Ok, Some}
-use Rattle.ciborium.specs.Encoding.{item_of}
-use Rattle.ciborium.specs.Folded.{folded}
-use Rattle.ciborium.specs.Nesting.{nesting}
-use Rattle.ciborium.specs.Spells.{Spells}
-use Rattle.ciborium.specs.Tree.{Tree}
-use Rattle.ciborium.specs.View.{tree_of}
+use Rattle.ciborium.specs.{Encoding.item_of, Folded.folded, Nesting.nesting, Spells.Spells, Tree.Tree, View.tree_of}
 use Rattle.ciborium.specs.Writes.{IsWrittenAs}
 use Rattle.ciborium_value.proofs.FoldedTrees.Folding.{written_means_folded}
-use Rattle.ciborium_uses.proofs.KeptLabels.{kept, one-header, one-map, one-value, read-back, spelled}
-use Rattle.ciborium_uses.proofs.Nests.{nests}
+use Rattle.ciborium_uses.proofs.{KeptLabels.{kept, one-header, one-map, one-value, read-back, spelled}, Nests.nests}
 use Rattle.ciborium_uses.specs.Envelopes.{AreAlike, AreClaimBytes, AreHeaders, AreLabels, IsHeader, IsMessage, IsWhole}
-use Rattle.ciborium_uses.specs.Envelopes.{OneEnvelope}
-use Rattle.ciborium_uses.specs.Envelopes.{SpelledIsRead, message_of, message_tree, shortest_bytes, wrapped_tree}
-use Rattle.ciborium_uses.specs.declared.envelopes.Envelope.{Envelope}
+use Rattle.ciborium_uses.specs.Envelopes.{OneEnvelope, SpelledIsRead, message_of, message_tree, shortest_bytes}
+use Rattle.ciborium_uses.specs.{Envelopes.wrapped_tree, declared.envelopes.Envelope.Envelope}
 use Rattle.ciborium_uses.specs.declared.envelopes.wrapping.Wrapping.{Wrapping}
 use Rattle.ciborium_uses.specs.declared.envelopes.wrapping.Wrapping.TheVariants.{Bare, Signed, Token}
 

@@ -1,39 +1,25 @@
 -- Signed messages of COSE (RFC 9052) that hold a CBOR Web Token (RFC 8392): which bytes they are,
 -- and what their
 -- signatures sign.
-use Rattle.std.specs.Prelude.{◌≡◌, ◌≤◌, ℕ, ℤ, pos, List, [], ◌∷◌, codes, if◌then◌else◌}
-use Rattle.std.specs.Prelude.{Bool, IsTrue, true, false, not, nat_le, ◌&&◌}
-use Rattle.std.specs.Prelude.{Option, Some, None, map, option_map, String, string_bytes}
-use Rattle.std.specs.declared.alloc.Global.{Global}
-use Rattle.std.specs.BTreeMap.{BTreeMap}
-use Rattle.std.specs.List.{list_all}
-use Rattle.ciborium.specs.Item as item
-use Rattle.ciborium.specs.Item.{Item}
-use Rattle.ciborium.specs.Spells.{Spells}
-use Rattle.ciborium.specs.Encoding.{encoding, item_of}
-use Rattle.ciborium.specs.Folded.{folded}
-use Rattle.ciborium.specs.Nesting.{nesting}
-use Rattle.ciborium.specs.Order.{tree_cmp}
-use Rattle.ciborium.specs.Given.{Outcome, gives, outcome, given_value}
-use Rattle.ciborium.specs.GivenParts.{has_key, given_map}
-use Rattle.ciborium.specs.Labels.{numbered}
-use Rattle.ciborium.specs.Lookups.{tree_under}
-use Rattle.ciborium.specs.Tree as trees
-use Rattle.ciborium.specs.Tree.{Tree, TreePairs, Trees}
+use Rattle.std.specs.Prelude.{◌≡◌, ◌≤◌, ℕ, ℤ, pos, List, [], ◌∷◌, codes, if◌then◌else◌, Bool, IsTrue, true, false, not}
+use Rattle.std.specs.Prelude.{nat_le, ◌&&◌, Option, Some, None, map, option_map, String, string_bytes}
+use Rattle.std.specs.{declared.alloc.Global.Global, BTreeMap.BTreeMap, List.list_all}
+use Rattle.ciborium.specs.{Item.Item, Spells.Spells, Encoding.{encoding, item_of}, Folded.folded, Nesting.nesting}
+use Rattle.ciborium.specs.{Order.tree_cmp, Given.{Outcome, gives, outcome, given_value}, GivenParts.has_key}
+use Rattle.ciborium.specs.{GivenParts.given_map, Labels.numbered, Lookups.tree_under, Tree.{Tree, TreePairs, Trees}}
 use Rattle.ciborium.specs.View.{pair_trees, tree_of}
-use Rattle.ciborium_value.specs.declared.byte_buf.ByteBuf.{ByteBuf}
-use Rattle.ciborium_value.specs.declared.tree.Value.{Value}
-use Rattle.ciborium_uses.specs.declared.envelopes.Envelope.{Envelope}
-use Rattle.ciborium_uses.specs.declared.envelopes.claims.Claims.{Claims}
+use Rattle.ciborium_value.specs.{declared.byte_buf.ByteBuf.ByteBuf, declared.tree.Value.Value}
+use Rattle.ciborium_uses.specs.{declared.envelopes.Envelope.Envelope, declared.envelopes.claims.Claims.Claims}
 use Rattle.ciborium_uses.specs.declared.envelopes.error.EnvelopeError.{EnvelopeError}
-use Rattle.ciborium_uses.specs.declared.envelopes.error.EnvelopeError.TheVariants as errors
 use Rattle.ciborium_uses.specs.declared.envelopes.error.Part.{Part}
-use Rattle.ciborium_uses.specs.declared.envelopes.error.Part.TheVariants as parts
 use Rattle.ciborium_uses.specs.declared.envelopes.wrapping.OtherMessage.{OtherMessage}
-use Rattle.ciborium_uses.specs.declared.envelopes.wrapping.OtherMessage.TheVariants as others
 use Rattle.ciborium_uses.specs.declared.envelopes.wrapping.Wrapping.{Wrapping}
-use Rattle.ciborium_uses.specs.declared.envelopes.wrapping.Wrapping.TheVariants.{Bare, Signed}
-use Rattle.ciborium_uses.specs.declared.envelopes.wrapping.Wrapping.TheVariants.{Token}
+use Rattle.ciborium_uses.specs.declared.envelopes.wrapping.Wrapping.TheVariants.{Bare, Signed, Token}
+use Rattle.ciborium.specs.Item as item
+use Rattle.ciborium.specs.Tree as trees
+use Rattle.ciborium_uses.specs.declared.envelopes.error.EnvelopeError.TheVariants as errors
+use Rattle.ciborium_uses.specs.declared.envelopes.error.Part.TheVariants as parts
+use Rattle.ciborium_uses.specs.declared.envelopes.wrapping.OtherMessage.TheVariants as others
 
 -- ---- items
 
@@ -172,8 +158,7 @@ message_tree protected unprotected payload signature =
 -- the message is this envelope: its parts, and what its headers and its payload hold
 pub record IsMessage (t : Tree) (e : Envelope) : Type 0 where
   pub unprotected_tree : Tree
-  pub parts : t ≡ message_tree e.protected.0.items unprotected_tree e.payload.0.items
-      e.signature.0.items
+  pub parts : t ≡ message_tree e.protected.0.items unprotected_tree e.payload.0.items e.signature.0.items
   pub unprotected : AreLabels unprotected_tree (tree_of e.unprotected)
   pub header : IsHeader e.protected.0.items (tree_of e.header)
   pub headers : AreHeaders (tree_of e.header) (tree_of e.unprotected)
@@ -221,8 +206,7 @@ header_bytes m = if is_empty m then [] else encoding m
 
 -- the message that is written of an envelope
 abbrev pub message_of : Envelope → Tree
-message_of e = message_tree e.protected.0.items (tree_of e.unprotected) e.payload.0.items
-    e.signature.0.items
+message_of e = message_tree e.protected.0.items (tree_of e.unprotected) e.payload.0.items e.signature.0.items
 
 -- an envelope that is read as it is written: its message is this envelope, and takes no more than
 -- 256 levels under its tags
@@ -271,8 +255,7 @@ signed_header bs m = if is_empty m then [] else bs
 -- (RFC 9052, section
 -- 4.4)
 abbrev pub signed_item : List ℕ → List ℕ → List ℕ → Item
-signed_item protected external payload = item.array false
-    (item.item (item.text false (codes "Signature1"))
+signed_item protected external payload = item.array false (item.item (item.text false (codes "Signature1"))
     (item.item (item.bytes false protected) (item.item (item.bytes false external)
     (item.item (item.bytes false payload) item.no_items))))
 

@@ -1,7 +1,6 @@
 use Rattle.std.proofs.Common.{◌≡◌, subst, sym, ◌∙◌}
 use Rattle.ciborium.specs.View.{tree_of}
-use Rattle.ciborium_uses.proofs.Exits.{exit_by}
-use Rattle.ciborium_uses.proofs.WholeMessages.{same-headers}
+use Rattle.ciborium_uses.proofs.{Exits.exit_by, WholeMessages.same-headers}
 use Rattle.ciborium_uses.specs.Envelopes.{AreClaimBytes, IsHeader, message_tree}
 use Rattle.ciborium_uses.proofs.envelopes.open.Goals as goal
 

@@ -1,5 +1,4 @@
-use Rattle.ciborium_uses.proofs.Exits.{exit_by}
-use Rattle.ciborium_uses.proofs.WholeMessages.{one-envelope}
+use Rattle.ciborium_uses.proofs.{Exits.exit_by, WholeMessages.one-envelope}
 use Rattle.ciborium_uses.specs.declared.envelopes.wrapping.Wrapping.TheVariants.{Signed}
 use Rattle.ciborium_uses.proofs.envelopes.read_envelope.Goals as goal
 

@@ -1,9 +1,6 @@
 use Rattle.std.proofs.Common.{◌≤◌, ◌∙◌, ap, subst, sym}
-use Rattle.ciborium.specs.Encoding.{item_of}
-use Rattle.ciborium.specs.Nesting.{nesting}
-use Rattle.ciborium.specs.View.{tree_of}
-use Rattle.ciborium_uses.proofs.Exits.{exit_by}
-use Rattle.ciborium_uses.proofs.WholeMessages.{whole}
+use Rattle.ciborium.specs.{Encoding.item_of, Nesting.nesting, View.tree_of}
+use Rattle.ciborium_uses.proofs.{Exits.exit_by, WholeMessages.whole}
 use Rattle.ciborium_uses.specs.Envelopes.{IsMessage, wrapped_tree}
 use Rattle.ciborium_uses.proofs.envelopes.read_wrapped.Goals as goal
 
@@ -27,7 +24,6 @@ returns-in_err-envelope-clause-refused c =
     c.in_err-envelope.ensures.refused v (subst (λ t. IsMessage t v) (h.message.parts ∙ sym same.1) h.message))
 
 pub returns-clause-whole : goal.returns-clause-whole
-returns-clause-whole c =
-    whole c.in_ok-wrapping.wrapping (tree_of c.in_ok-wrapping.message) c.in_ok-envelope.envelope
+returns-clause-whole c = whole c.in_ok-wrapping.wrapping (tree_of c.in_ok-wrapping.message) c.in_ok-envelope.envelope
     (subst (λ t. nesting (item_of t) ≤ 256) c.in_ok-wrapping.ensures.ok c.in_ok-value.ensures.nests)
     c.in_ok-envelope.ensures.ok

@@ -1,8 +1,6 @@
 use Rattle.std.proofs.Common.{Err, arith, refl}
 use Rattle.ciborium.specs.View.{tree_of}
-use Rattle.ciborium_uses.proofs.KeptLabels.{one-value}
-use Rattle.ciborium_uses.proofs.Nests.{nests}
-use Rattle.ciborium_uses.proofs.WholeItems.{refused}
+use Rattle.ciborium_uses.proofs.{KeptLabels.one-value, Nests.nests, WholeItems.refused}
 use Rattle.ciborium_uses.proofs.envelopes.items.read_all.Goals as goal
 
 pub returns-in-Ok-clause-only : goal.returns-in-Ok-clause-only

@@ -1,12 +1,8 @@
 use Rattle.std.proofs.Common.{sym, ◌∙◌}
-use Rattle.ciborium.specs.Derived.{value_cmp}
-use Rattle.ciborium.specs.Order.{tree_cmp}
-use Rattle.ciborium.specs.View.{tree_of}
-use Rattle.ciborium_value.specs.lemmas.DerivedOrder.{value_cmp-is}
-use Rattle.ciborium_value.specs.lemmas.ReadsBackMaps.{one-has}
+use Rattle.ciborium.specs.{Derived.value_cmp, Order.tree_cmp, View.tree_of}
+use Rattle.ciborium_value.specs.{lemmas.DerivedOrder.value_cmp-is, lemmas.ReadsBackMaps.one-has}
 use Rattle.ciborium_uses.proofs.envelopes.labels.has_label.Goals as goal
 
 pub returns : goal.returns
-returns c =
-    c.contains_key.ensures ∙
+returns c = c.contains_key.ensures ∙
     sym (one-has value_cmp tree_cmp tree_of tree_of value_cmp-is c.args.labels.now.by_label.entries c.args.label.now)

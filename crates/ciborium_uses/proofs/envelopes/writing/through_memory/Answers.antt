@@ -1,7 +1,6 @@
 use Rattle.std.proofs.Common.{subst, sym}
 use Rattle.ciborium_uses.specs.Envelopes.{IsWrapped}
-use Rattle.ciborium_uses.proofs.Exits.{answered_by, refused_by}
-use Rattle.ciborium_uses.proofs.WholeMessages.{one-envelope, spelled-is-read}
+use Rattle.ciborium_uses.proofs.{Exits.{answered_by, refused_by}, WholeMessages.{one-envelope, spelled-is-read}}
 use Rattle.ciborium_uses.proofs.envelopes.writing.through_memory.Goals as goal
 
 pub returns-clause-again : goal.returns-clause-again

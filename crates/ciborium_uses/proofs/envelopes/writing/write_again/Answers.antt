@@ -1,6 +1,5 @@
 use Rattle.std.proofs.Common.{◌∙◌}
-use Rattle.ciborium_uses.proofs.Exits.{answered_by}
-use Rattle.ciborium_uses.proofs.WholeMessages.{alike-shortest, one-envelope, spelled-is-read}
+use Rattle.ciborium_uses.proofs.{Exits.answered_by, WholeMessages.{alike-shortest, one-envelope, spelled-is-read}}
 use Rattle.ciborium_uses.proofs.envelopes.writing.write_again.Goals as goal
 
 pub returns-clause-again : goal.returns-clause-again

@@ -1,5 +1,4 @@
-use Rattle.ciborium_uses.proofs.Exits.{answered_by}
-use Rattle.ciborium_uses.proofs.WholeMessages.{spelled-under}
+use Rattle.ciborium_uses.proofs.{Exits.answered_by, WholeMessages.spelled-under}
 use Rattle.ciborium_uses.specs.declared.envelopes.wrapping.Wrapping.TheVariants.{Bare, Signed, Token}
 use Rattle.ciborium_uses.proofs.envelopes.writing.write_envelope.Goals as goal
 
