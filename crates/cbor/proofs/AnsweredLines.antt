@@ -1,17 +1,13 @@
 -- One more line is read and answered.
 use Rattle.std.proofs.Common.{◌≡◌, ℕ, ◌<◌, List, [], ◌∷◌, ◌++◌, length, Bool, true, false, ◌&&◌, Option, Some, None}
 use Rattle.std.proofs.Common.{Result, Ok, Err, IfOk, OnOk, inl, refl, sym, ap, subst, ◌∙◌, append-nil}
-use Rattle.std.proofs.lemmas.List.{append_assoc, flat_map_more}
-use Rattle.std.proofs.lemmas.List.Folds.{list_all-append}
-use Rattle.std.specs.Bool.{MatchBool}
-use Rattle.std.specs.declared.io.buffered.BufReader.{BufReader}
-use Rattle.std.specs.Io.BufRead.{drop_through}
-use Rattle.std.specs.Io.KnownBytes.{Keeps, append_known}
-use Rattle.std.specs.Io.Buffered.{reader_remaining, reader_inner, reader_buffer, reader_capacity}
-use Rattle.cbor.specs.declared.reading.Reading.{Reading}
+use Rattle.std.proofs.{lemmas.List.{append_assoc, flat_map_more}, lemmas.List.Folds.list_all-append}
+use Rattle.std.specs.{Bool.MatchBool, declared.io.buffered.BufReader.BufReader, Io.BufRead.drop_through}
+use Rattle.std.specs.{Io.KnownBytes.{Keeps, append_known}, Io.Buffered.{reader_remaining, reader_inner, reader_buffer}}
+use Rattle.std.specs.Io.Buffered.{reader_capacity}
+use Rattle.cbor.specs.{declared.reading.Reading.Reading, Lines.{AnswersLine, AreAnswered, AreAnsweredBy, MayBeAnswer}}
+use Rattle.cbor.specs.Lines.{all_ok, answer_lines, first_line, text_line}
 use Rattle.cbor.specs.Lines as lines
-use Rattle.cbor.specs.Lines.{AnswersLine, AreAnswered, AreAnsweredBy, MayBeAnswer, all_ok, answer_lines, first_line}
-use Rattle.cbor.specs.Lines.{text_line}
 
 -- a new reader shows what the reader in it has
 pub begins-with : {T A : Type 0} (remaining : T → Option (List ℕ)) (r : BufReader T A) (inner : T) (b : List ℕ) →
@@ -21,9 +17,8 @@ begins-with remaining r inner b same empty room e = rw (room, empty, same, e) re
 
 -- the rest of b is left, and the lines before it are answered behind w; all says whether each is as it is asked for
 abbrev pub IsLeft : Reading → List ℕ → List ℕ → Bool → Option (List ℕ) → Option (List ℕ) → Type 0
-IsLeft reading b w all left held =
-    (rest : List ℕ) × (answers : List (Bool × List ℕ)) × (left ≡ Some rest) × AreAnsweredBy reading b rest answers ×
-    (all ≡ all_ok answers) × (held ≡ Some (w ++ answer_lines answers))
+IsLeft reading b w all left held = (rest : List ℕ) × (answers : List (Bool × List ℕ)) × (left ≡ Some rest) ×
+    AreAnsweredBy reading b rest answers × (all ≡ all_ok answers) × (held ≡ Some (w ++ answer_lines answers))
 
 -- no line is answered yet
 pub none-answered : (reading : Reading) (b w : List ℕ) (left held : Option (List ℕ)) → left ≡ Some b →
@@ -59,8 +54,7 @@ pub and-true : (x : Bool) → (x && true) ≡ x
 and-true true = refl
 and-true false = refl
 
-all-more : (answers : List (Bool × List ℕ)) (a : Bool × List ℕ) →
-    all_ok (answers ++ (a ∷ [])) ≡ (all_ok answers && a.0)
+all-more : (answers : List (Bool × List ℕ)) (a : Bool × List ℕ) → all_ok (answers ++ (a ∷ [])) ≡ (all_ok answers && a.0)
 all-more answers a = list_all-append (λ x. x.0) answers (a ∷ []) ∙ ap (λ (x : Bool). all_ok answers && x) (and-true a.0)
 
 -- one more line is answered
@@ -135,7 +129,6 @@ flushed-each P Q done (Err x) same keep h = tt
 
 -- and so do bytes that are written
 pub flushed-told : {E : Type 0} (xs : List ℕ) (held now : Option (List ℕ)) (done r : Result Bool E) →
-    IfOk r (λ all. done ≡ Ok all) → Keeps held now →
-    OnOk done (held ≡ Some xs) → OnOk r (now ≡ Some xs)
+    IfOk r (λ all. done ≡ Ok all) → Keeps held now → OnOk done (held ≡ Some xs) → OnOk r (now ≡ Some xs)
 flushed-told xs held now done r same k h = flushed-each (λ all. held ≡ Some xs) (λ all. now ≡ Some xs) done r same
     (λ all e. still held now xs k e) h

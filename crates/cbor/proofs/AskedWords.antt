@@ -1,23 +1,18 @@
 -- What words ask for is one thing.
 use Rattle.std.proofs.Common.{◌≡◌, ◌≢◌, ℕ, ◌<◌, ◌≤◌, ◌-◌, ◌==◌, Bool, true, false, List, [], ◌∷◌, get_or, map, sum}
-use Rattle.std.proofs.Common.{length, take, drop, if◌then◌else◌, Option, Some, None, MatchOption, refl}
-use Rattle.std.proofs.Common.{IsSome, ◌⊎◌, inl, inr, codes, sym, subst, ◌∙◌, ap, ap₂, arith, nat_le, ◌&&◌}
-use Rattle.std.proofs.lemmas.Bool.Decides.{nat_tests}
-use Rattle.std.specs.List.{list_all}
-use Rattle.std.proofs.lemmas.List.{take_all}
-use Rattle.std.specs.Bool.{MatchBool}
-use Rattle.std.specs.Char.{digit_value}
+use Rattle.std.proofs.Common.{length, take, drop, if◌then◌else◌, Option, Some, None, MatchOption, refl, IsSome, ◌⊎◌}
+use Rattle.std.proofs.Common.{inl, inr, codes, sym, subst, ◌∙◌, ap, ap₂, arith, nat_le, ◌&&◌}
+use Rattle.std.proofs.{lemmas.Bool.Decides.nat_tests, lemmas.List.take_all}
+use Rattle.std.specs.{List.list_all, Bool.MatchBool, Char.digit_value}
 use Rattle.ciborium_value.specs.declared.key_order.KeyOrder.TheVariants.{LengthFirst, Bytewise}
-use Rattle.cbor.specs.declared.command.Command.{Command}
-use Rattle.cbor.specs.declared.command.Command.TheVariants.{Answer, Sort, Show, ShowExactly, Dump, Encode, Tell}
-use Rattle.cbor.specs.declared.command.Topic.TheVariants.{Help, Version}
-use Rattle.cbor.specs.declared.reading.Layout.TheVariants.{OneLine, Indented}
+use Rattle.cbor.specs.{declared.command.Command.Command, declared.command.Command.TheVariants.{Answer, Sort, Show}}
+use Rattle.cbor.specs.declared.command.Command.TheVariants.{ShowExactly, Dump, Encode, Tell}
+use Rattle.cbor.specs.{declared.command.Topic.TheVariants.{Help, Version}, declared.reading.Layout.TheVariants.OneLine}
+use Rattle.cbor.specs.{declared.reading.Layout.TheVariants.Indented, declared.reading.Showing.Showing}
+use Rattle.cbor.specs.{declared.reading.Spelling.TheVariants.{Any, Deterministic}, Words.{AreWordsFor, AskForNothing}}
+use Rattle.cbor.specs.Words.{AskFor, NameLimit, NameLimitBehind, command_limit, command_words}
 use Rattle.cbor.specs.declared.reading.Reading.TheVariants as readings
-use Rattle.cbor.specs.declared.reading.Showing.{Showing}
 use Rattle.cbor.specs.declared.reading.Showing.TheVariants as showings
-use Rattle.cbor.specs.declared.reading.Spelling.TheVariants.{Any, Deterministic}
-use Rattle.cbor.specs.Words.{AreWordsFor, AskForNothing, AskFor, NameLimit, NameLimitBehind, command_limit}
-use Rattle.cbor.specs.Words.{command_words}
 
 -- ---- words ask for one command
 
@@ -111,33 +106,24 @@ letters : List (List ℕ) → ℕ
 letters words = sum (map sum words)
 
 command-of : ℕ → ℕ → Command
-command-of total n =
-    if total == 412 then Answer (readings.Item Any n)
+command-of total n = if total == 412 then Answer (readings.Item Any n)
     else if total == 819 then Answer (readings.Item (Deterministic LengthFirst) n)
     else if total == 1334 then Answer (readings.Item (Deterministic Bytewise) n)
-    else if total == 329 then Answer readings.Sequence
-    else if total == 527 then Answer (readings.Form LengthFirst n)
+    else if total == 329 then Answer readings.Sequence else if total == 527 then Answer (readings.Form LengthFirst n)
     else if total == 1042 then Answer (readings.Form Bytewise n)
     else if total == 405 then Answer (readings.Notation OneLine n)
     else if total == 1137 then Answer (readings.Notation Indented n)
-    else if total == 438 then Answer readings.Dump
-    else if total == 1028 then Answer readings.Exact
-    else if total == 622 then Answer (readings.Encode n)
-    else if total == 456 then Sort LengthFirst
-    else if total == 971 then Sort Bytewise
-    else if total == 1147 then Show (showings.Encoding Any) n
+    else if total == 438 then Answer readings.Dump else if total == 1028 then Answer readings.Exact
+    else if total == 622 then Answer (readings.Encode n) else if total == 456 then Sort LengthFirst
+    else if total == 971 then Sort Bytewise else if total == 1147 then Show (showings.Encoding Any) n
     else if total == 1554 then Show (showings.Encoding (Deterministic LengthFirst)) n
     else if total == 2069 then Show (showings.Encoding (Deterministic Bytewise)) n
     else if total == 1140 then Show (showings.Notation OneLine) n
     else if total == 1872 then Show (showings.Notation Indented) n
     else if total == 1262 then Show (showings.Form LengthFirst) n
     else if total == 1777 then Show (showings.Form Bytewise) n
-    else if total == 1763 then ShowExactly
-    else if total == 1173 then Dump
-    else if total == 1357 then Encode n
-    else if total == 515 then Tell Help
-    else if total == 149 then Tell Help
-    else Tell Version
+    else if total == 1763 then ShowExactly else if total == 1173 then Dump else if total == 1357 then Encode n
+    else if total == 515 then Tell Help else if total == 149 then Tell Help else Tell Version
 
 told-apart : (command : Command) → command-of (letters (command_words command)) (limit_of command) ≡ command
 unfolding letters command-of limit_of or-default
@@ -154,17 +140,19 @@ told-apart command = refl
 -- words begin with these, which tell the command
 abbrev IsToldBy : List (List ℕ) → Command → Type 0
 IsToldBy words command = (flags : List (List ℕ)) × AreNames flags ×
-    NameLimitBehind flags words (limit_of command) ×
-    (command-of (letters flags) (limit_of command) ≡ command)
+    NameLimitBehind flags words (limit_of command) × (command-of (letters flags) (limit_of command) ≡ command)
 
 told-help : IsToldBy (codes "-h" ∷ []) (Tell Help)
 unfolding letters command-of limit_of or-default
 told-help = (codes "-h" ∷ [], (λ h. omega (arith, h), tt), (refl, refl), refl)
 
 told-by : (words : List (List ℕ)) (command : Command) → AskFor words command → IsToldBy words command
-told-by words command (inl asked) =
-    (command_words command, tested (command_words command) (all-names command), named words command asked,
-    told-apart command)
+told-by words command (inl asked) = (
+  command_words command,
+  tested (command_words command) (all-names command),
+  named words command asked,
+  told-apart command,
+)
 told-by words command (inr (short, help)) = rw (short, help) told-help
 
 -- what words ask for is one command
@@ -194,8 +182,7 @@ asks-for-none words alone limited command asked =
 pub judged : (words : List (List ℕ)) (r : Option Command) →
     ((command : Command) → command_limit command ≡ None → ¬ AskFor words command) →
     MatchOption r ((command : Command) → IsSome (command_limit command) → ¬ AskFor words command)
-    (λ command. AskFor words command) →
-    MatchOption r (AskForNothing words) (λ command. AskFor words command)
+    (λ command. AskFor words command) → MatchOption r (AskForNothing words) (λ command. AskFor words command)
 judged words None alone limited = asks-for-none words alone limited
 judged words (Some command) alone asked = asked
 
@@ -228,9 +215,8 @@ abbrev pub behind : {S : Type 0} → List S → List S
 behind words = take (length words - 1) (drop 1 words)
 
 -- the texts of words, the first of which is this one
-first-word : {S : Type 0} (text : S → List ℕ) (words : List S) (word : S) (name : List ℕ) → 1 ≤ length words →
-    word ≡ get_or words 0 word →
-    text word ≡ name → map text words ≡ name ∷ map text (behind words)
+first-word : {S : Type 0} (text : S → List ℕ) (words : List S) (word : S) (name : List ℕ) →
+    1 ≤ length words → word ≡ get_or words 0 word → text word ≡ name → map text words ≡ name ∷ map text (behind words)
 first-word text [] word name least e is = absurd (omega arith)
 first-word text (w ∷ ws) word name least e is =
     let rest : behind (w ∷ ws) ≡ ws = take_all (length (w ∷ ws) - 1) ws (omega arith) in
@@ -243,18 +229,16 @@ same-first (n ∷ ns) name more = refl
 
 -- two lists of words begin with one name
 pub first-words : {S T : Type 0} (f : S → List ℕ) (g : T → List ℕ) (words : List S) (names : List T) (word : S)
-    (name : T) → 1 ≤ length words →
-    1 ≤ length names → word ≡ get_or words 0 word → f word ≡ g (get_or names 0 name) →
-    (map f words ≡ g (get_or names 0 name) ∷ map f (behind words)) ×
+    (name : T) → 1 ≤ length words → 1 ≤ length names → word ≡ get_or words 0 word →
+    f word ≡ g (get_or names 0 name) → (map f words ≡ g (get_or names 0 name) ∷ map f (behind words)) ×
     (map g names ≡ g (get_or names 0 name) ∷ map g (behind names))
 first-words f g words names word name some more e is = (
   first-word f words word (g (get_or names 0 name)) some e is,
   first-word g names (get_or names 0 name) (g (get_or names 0 name)) more (same-first names name more) refl,
 )
 
-pub same-words : (r : Bool) (name : List ℕ) (xs ys us vs : List (List ℕ)) → (us ≡ name ∷ xs) × (vs ≡ name ∷ ys) →
-    MatchBool r (xs ≡ ys) (xs ≢ ys) →
-    MatchBool r (us ≡ vs) (us ≢ vs)
+pub same-words : (r : Bool) (name : List ℕ) (xs ys us vs : List (List ℕ)) →
+    (us ≡ name ∷ xs) × (vs ≡ name ∷ ys) → MatchBool r (xs ≡ ys) (xs ≢ ys) → MatchBool r (us ≡ vs) (us ≢ vs)
 same-words true name xs ys us vs (a, b) h = a ∙ (ap (λ (zs : List (List ℕ)). name ∷ zs) h ∙ sym b)
 same-words false name xs ys us vs (a, b) h = λ e. let same : name ∷ xs ≡ name ∷ ys = sym a ∙ (e ∙ b) in h cc
 

@@ -1,30 +1,22 @@
 -- The heads of an item are read and dumped one by one.
-use Rattle.std.proofs.Common.{◌≡◌, ℕ, zero, suc, ◌+◌, ◌<◌, ◌≤◌, List, [], ◌∷◌, ◌++◌, length, drop}
-use Rattle.std.proofs.Common.{Option, Some, None, Result, Ok, Err, OnOk, inl, if◌then◌else◌, is_ok, inr, refl, sym, ap}
-use Rattle.std.proofs.Common.{◌∙◌, subst, arith, append-nil, append_assoc}
-use Rattle.std.proofs.Common.{length-append, take-append-drop, add-one}
+use Rattle.std.proofs.Common.{◌≡◌, ℕ, zero, suc, ◌+◌, ◌<◌, ◌≤◌, List, [], ◌∷◌, ◌++◌, length, drop, Option, Some, None}
+use Rattle.std.proofs.Common.{Result, Ok, Err, OnOk, inl, if◌then◌else◌, is_ok, inr, refl, sym, ap, ◌∙◌, subst, arith}
+use Rattle.std.proofs.Common.{append-nil, append_assoc, length-append, take-append-drop, add-one}
 use Rattle.std.proofs.lemmas.List.{flat_map_more, length-drop}
 use Rattle.std.specs.List.{flat_map, repeat}
 use Rattle.hex.specs.Hex.{encode_lower, encode_with}
-use Rattle.ciborium_ll.specs.Header.{IsCounted, SpellsHeader}
-use Rattle.ciborium_ll.specs.ItemHeads as found
-use Rattle.ciborium_ll.specs.ItemHeads.{HasRead, IsHeadRead, open_in, unread, was_read}
-use Rattle.ciborium_ll.specs.ItemLengths.{IsNoItem}
-use Rattle.ciborium_ll.specs.Levels.{AreItem}
-use Rattle.ciborium_ll.specs.declared.header.Header.{Header}
-use Rattle.ciborium_ll.specs.declared.header.Header.TheVariants as header
-use Rattle.ciborium_ll.specs.declared.item_heads.ItemHead.{ItemHead}
-use Rattle.ciborium_ll.specs.declared.item_heads.ItemHeads.{ItemHeads}
-use Rattle.ciborium_ll.specs.declared.item_heads.NoItem.{NoItem}
-use Rattle.ciborium_ll.specs.declared.item_heads.NoItem.TheVariants.{Incomplete, Malformed, TooDeep}
-use Rattle.ciborium_ll.specs.declared.levels.Level.{Level}
+use Rattle.ciborium_ll.specs.{Header.{IsCounted, SpellsHeader}, ItemHeads.{HasRead, IsHeadRead, open_in, unread}}
+use Rattle.ciborium_ll.specs.{ItemHeads.was_read, ItemLengths.IsNoItem, Levels.AreItem, declared.header.Header.Header}
+use Rattle.ciborium_ll.specs.{declared.item_heads.ItemHead.ItemHead, declared.item_heads.ItemHeads.ItemHeads}
+use Rattle.ciborium_ll.specs.{declared.item_heads.NoItem.NoItem, declared.item_heads.NoItem.TheVariants.Incomplete}
+use Rattle.ciborium_ll.specs.{declared.item_heads.NoItem.TheVariants.{Malformed, TooDeep}, declared.levels.Level.Level}
 use Rattle.ciborium_ll.specs.declared.levels.Level.TheVariants.{Items}
 use Rattle.ciborium_value.proofs.Trees.Notations.{encode_lower-append}
 use Rattle.cbor.specs.Dumped.{AreHeads, AreHeadsAt, AreLinesOf, Entry, IsBrokenDump, IsEntryAt, ShowsAt, entry_bytes}
-use Rattle.cbor.specs.Dumped.{entry_of}
-use Rattle.cbor.specs.Dumped.{hex_column, line_of, reason_text}
-use Rattle.cbor.specs.Laws.{DumpKeepsBytes, DumpKeepsHex}
+use Rattle.cbor.specs.{Dumped.{entry_of, hex_column, line_of, reason_text}, Laws.{DumpKeepsBytes, DumpKeepsHex}}
 use Rattle.cbor.specs.Line.{trailing_text}
+use Rattle.ciborium_ll.specs.ItemHeads as found
+use Rattle.ciborium_ll.specs.declared.header.Header.TheVariants as header
 
 -- ---- one more head
 
@@ -225,8 +217,7 @@ told-reason b text longer r reason same h e = of (subst (λ (v : Result ℕ NoIt
   where
     of : AreLinesOf b (Err reason) text → IsBrokenDump b longer
     of (es, levels, rest, heads, is, here, lines) =
-        IsBrokenDump.none es levels rest reason heads is here
-        (e ∙ ap (λ (t : List ℕ). t ++ reason_text reason) lines)
+        IsBrokenDump.none es levels rest reason heads is here (e ∙ ap (λ (t : List ℕ). t ++ reason_text reason) lines)
 
 -- ---- the hex columns
 
@@ -247,8 +238,7 @@ no-hex = refl
 
 columns-joined : (es : List Entry) → flat_map hex_column es ≡ encode_lower (flat_map entry_bytes es)
 columns-joined [] = no-hex
-columns-joined (e ∷ es) =
-    ap (λ (c : List ℕ). hex_column e ++ c) (columns-joined es) ∙
+columns-joined (e ∷ es) = ap (λ (c : List ℕ). hex_column e ++ c) (columns-joined es) ∙
     sym (encode_lower-append (entry_bytes e) (flat_map entry_bytes es))
 
 pub dump_keeps_hex : DumpKeepsHex

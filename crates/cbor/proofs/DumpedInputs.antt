@@ -31,5 +31,4 @@ all-read b bytes buffer n (Some xs) (Some ys) (rest, e, is) h zero end =
 -- a dump stays where the output is flushed
 pub dumped-still : (b w : List ℕ) (is_item : Bool) (held now : Option (List ℕ)) → Keeps held now →
     IsDumpedBehind b w is_item held → IsDumpedBehind b w is_item now
-dumped-still b w is_item held now k (text, dump, e) =
-    (text, dump, still held now (w ++ dump_lines is_item text) k e)
+dumped-still b w is_item held now k (text, dump, e) = (text, dump, still held now (w ++ dump_lines is_item text) k e)

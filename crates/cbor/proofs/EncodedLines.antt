@@ -2,20 +2,15 @@
 use Rattle.std.proofs.Common.{◌≡◌, ℕ, ◌+◌, List, [], ◌∷◌, ◌++◌, length, Bool, true, false, Option, Some, refl, sym, ap}
 use Rattle.std.proofs.Common.{Result, Ok, Err, IfOk, subst, ◌∙◌, ◌≢◌, append-nil, arith, inl}
 use Rattle.std.proofs.lemmas.List.{flat_map_more, length_push}
-use Rattle.std.specs.Io.BufRead.{drop_through}
-use Rattle.std.specs.List.{flat_map}
-use Rattle.ciborium_value.specs.Denotes.{DenotesWithin}
-use Rattle.ciborium_value.specs.Encoding.{encoding}
-use Rattle.ciborium_value.specs.Tree.{Tree}
+use Rattle.std.specs.{Io.BufRead.drop_through, List.flat_map}
+use Rattle.ciborium_value.specs.{Denotes.DenotesWithin, Encoding.encoding, Tree.Tree}
 use Rattle.ciborium_value.specs.RefusalMessages.{notation_error_message}
 use Rattle.ciborium_value.specs.declared.from_notation.error.NotationError.{NotationError}
 use Rattle.ciborium_value.specs.declared.from_notation.error.NotationError.TheVariants.{At, Memory}
-use Rattle.cbor.specs.Encoded.{RefusesLine, TellsNoTree}
-use Rattle.cbor.specs.EncodedLines.{AreAllEncoded, AreEncoded, AreEncodedUpTo, IsEncodedUpToRefused}
-use Rattle.cbor.specs.Lines as lines
-use Rattle.cbor.specs.Lines.{AreLines, text_line}
-use Rattle.cbor.specs.SortedLines.{refused_line_text}
+use Rattle.cbor.specs.{Encoded.{RefusesLine, TellsNoTree}, EncodedLines.{AreAllEncoded, AreEncoded, AreEncodedUpTo}}
+use Rattle.cbor.specs.{EncodedLines.IsEncodedUpToRefused, Lines.{AreLines, text_line}, SortedLines.refused_line_text}
 use Rattle.cbor.proofs.AnsweredLines.{IsHeld, LineIsRead, line-ahead, none-ahead}
+use Rattle.cbor.specs.Lines as lines
 
 -- the lines of b so far are encoded behind w, the rest is left, and its first line has this number
 abbrev pub AreEncodedSoFar : ℕ → List ℕ → List ℕ → ℕ → Option (List ℕ) → Option (List ℕ) → Type 0
@@ -60,9 +55,8 @@ module _ (limit : ℕ) (b w : List ℕ) (n : ℕ) (left next held kept : Option 
       )
 
   -- the next line is refused
-  pub one-refused : (shown reason told message : List ℕ) → more ≡ true → shown ≡ line →
-      TellsNoTree limit shown reason → told ≡ reason → message ≡ text_line (refused_line_text n told) →
-      IsEncodedUpToRefused limit b w kept message
+  pub one-refused : (shown reason told message : List ℕ) → more ≡ true → shown ≡ line → TellsNoTree limit shown reason →
+      told ≡ reason → message ≡ text_line (refused_line_text n told) → IsEncodedUpToRefused limit b w kept message
   one-refused shown reason told message m same tells is written =
       let (trees, rest, e, (a, f), count) = before in
       let h = line-ahead left next line more rest read m e in (

@@ -1,18 +1,14 @@
 -- The levels of an item that is shown by its very heads.
-use Rattle.std.proofs.Common.{◌≡◌, ◌≢◌, ℕ, suc, ◌+◌, ◌-◌, ◌/◌, ◌%◌, ◌<◌, ◌==◌, Bool, true, false, List, [], ◌∷◌}
-use Rattle.std.proofs.Common.{Option, Some, None, option_map, if◌then◌else◌, refl, sym, ap, ◌∙◌, subst, arith}
-use Rattle.std.proofs.Common.{inl, inr}
+use Rattle.std.proofs.Common.{◌≡◌, ◌≢◌, ℕ, suc, ◌+◌, ◌-◌, ◌/◌, ◌%◌, ◌<◌, ◌==◌, Bool, true, false, List, [], ◌∷◌, Option}
+use Rattle.std.proofs.Common.{Some, None, option_map, if◌then◌else◌, refl, sym, ap, ◌∙◌, subst, arith, inl, inr}
 use Rattle.std.proofs.lemmas.Bool.Decides.{eqb_tells}
-use Rattle.ciborium_ll.specs.ItemHeads.{HasRead, IsHeadRead, open_in}
-use Rattle.ciborium_ll.specs.Levels.{behind_break, behind_bytes, behind_head, behind_item, behind_text}
-use Rattle.ciborium_ll.specs.Levels.{incomplete}
-use Rattle.ciborium_ll.specs.declared.header.Header.{Header}
-use Rattle.ciborium_ll.specs.declared.header.Header.TheVariants as header
-use Rattle.ciborium_ll.specs.declared.item_heads.ItemHead.{ItemHead}
-use Rattle.ciborium_ll.specs.declared.item_heads.ItemHeads.{ItemHeads}
+use Rattle.ciborium_ll.specs.{ItemHeads.{HasRead, IsHeadRead, open_in}, Levels.{behind_break, behind_bytes}}
+use Rattle.ciborium_ll.specs.{Levels.{behind_head, behind_item, behind_text, incomplete}, declared.header.Header.Header}
+use Rattle.ciborium_ll.specs.{declared.item_heads.ItemHead.ItemHead, declared.item_heads.ItemHeads.ItemHeads}
 use Rattle.ciborium_ll.specs.declared.levels.Level.{Level}
-use Rattle.ciborium_ll.specs.declared.levels.Level.TheVariants as level
 use Rattle.cbor.specs.Exact.{IsBegun, behind_begun, chunk_level, kind_of, open_level, string_header}
+use Rattle.ciborium_ll.specs.declared.header.Header.TheVariants as header
+use Rattle.ciborium_ll.specs.declared.levels.Level.TheVariants as level
 
 -- ---- the head of an item
 
@@ -35,8 +31,7 @@ begun : (h : Header) (levels around more : List Level) → h ≢ header.Break �
     behind_head h levels ≡ Some more → more ≡ behind_begun h around
 begun (header.Positive n) levels around more other e f = some-is _ around more e f
 begun (header.Negative n) levels around more other e f = some-is _ around more e f
-begun (header.Bytes (Some n)) levels around more other e f =
-    some-is _ around more (as-bytes levels around e ∙ e) f
+begun (header.Bytes (Some n)) levels around more other e f = some-is _ around more (as-bytes levels around e ∙ e) f
 begun (header.Bytes None) levels around more other e f = opens level.ByteChunks levels around more e f
 begun (header.Text (Some n)) levels around more other e f = some-is _ around more (as-text levels around e ∙ e) f
 begun (header.Text None) levels around more other e f = opens level.TextChunks levels around more e f

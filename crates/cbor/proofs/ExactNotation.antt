@@ -1,25 +1,19 @@
 -- The notation that shows the very heads of an item is appended item by item.
-use Rattle.std.proofs.Common.{◌≡◌, ℕ, ◌+◌, ◌==◌, Bool, true, false, List, [], ◌∷◌, ◌++◌, length, codes}
-use Rattle.std.proofs.Common.{if◌then◌else◌, inl, inr, refl, sym, ap, ◌∙◌, subst, arith, append-nil, append_assoc}
-use Rattle.std.proofs.Common.{drop, add-one, decimal, OnOk, Result, Ok, Err, is_ok, ◌<◌, ◌≤◌, length-append}
-use Rattle.std.proofs.Common.{take-append-drop}
-use Rattle.std.proofs.lemmas.List.{append_cancel_right}
-use Rattle.std.proofs.lemmas.Bool.{eqb-true}
-use Rattle.std.proofs.lemmas.Bool.Decides.{eqb_tells}
+use Rattle.std.proofs.Common.{◌≡◌, ℕ, ◌+◌, ◌==◌, Bool, true, false, List, [], ◌∷◌, ◌++◌, length, codes, if◌then◌else◌}
+use Rattle.std.proofs.Common.{inl, inr, refl, sym, ap, ◌∙◌, subst, arith, append-nil, append_assoc, drop, add-one}
+use Rattle.std.proofs.Common.{decimal, OnOk, Result, Ok, Err, is_ok, ◌<◌, ◌≤◌, length-append, take-append-drop}
+use Rattle.std.proofs.{lemmas.List.append_cancel_right, lemmas.Bool.eqb-true, lemmas.Bool.Decides.eqb_tells}
 use Rattle.hex.specs.Hex.{encode_lower}
-use Rattle.ciborium_ll.specs.Head.{IsFloat, IsHead, break_byte, open_byte}
-use Rattle.ciborium_ll.specs.Header.{IsFloatOf, SpellsHeader}
-use Rattle.ciborium_ll.specs.ItemHeads.{HasRead, IsHeadRead, open_in, unread, was_read}
-use Rattle.ciborium_ll.specs.Levels.{AreItem, EndAll, IsPayloadOf}
-use Rattle.ciborium_ll.specs.StringRefusal.{IsAllowed, StringKind, of_bytes, of_text, string_major}
-use Rattle.ciborium_ll.specs.declared.header.Header.TheVariants as header
-use Rattle.ciborium_ll.specs.declared.item_heads.ItemHead.{ItemHead}
+use Rattle.ciborium_ll.specs.{Head.{IsFloat, IsHead, break_byte, open_byte}, Header.{IsFloatOf, SpellsHeader}}
+use Rattle.ciborium_ll.specs.{ItemHeads.{HasRead, IsHeadRead, open_in, unread, was_read}, Levels.{AreItem, EndAll}}
+use Rattle.ciborium_ll.specs.{Levels.IsPayloadOf, StringRefusal.{IsAllowed, StringKind, of_bytes, of_text}}
+use Rattle.ciborium_ll.specs.{StringRefusal.string_major, declared.item_heads.ItemHead.ItemHead}
 use Rattle.ciborium_ll.specs.declared.item_heads.ItemHeads.{ItemHeads}
 use Rattle.cbor.specs.Exact.{AreChunksExactly, AreExactly, AreOpenChunks, AreOpenParts, HasPassed, IsExactly}
 use Rattle.cbor.specs.Exact.{IsItemPushed, IsPushed, IsStringExactly, empty_text, head_bytes, lead, mark, open_text}
-use Rattle.cbor.specs.Exact.{IsFrontPushed, TellsNoItem, kind_of, payload_text, string_header}
-use Rattle.cbor.specs.Line.{trailing_text}
+use Rattle.cbor.specs.{Exact.{IsFrontPushed, TellsNoItem, kind_of, payload_text, string_header}, Line.trailing_text}
 use Rattle.cbor.proofs.DumpedHeads.{less-unread}
+use Rattle.ciborium_ll.specs.declared.header.Header.TheVariants as header
 
 -- ---- bytes that were read
 
@@ -42,8 +36,7 @@ passed-head old new head (read, is) = record {
 }
 
 pub passed-less : (a b : ItemHeads) (r : List ℕ) → HasPassed a b r → length (unread b) ≤ length (unread a)
-passed-less a b r passed =
-    omega (arith, ap (λ (x : List ℕ). length x) passed.front ∙ length-append r (unread b))
+passed-less a b r passed = omega (arith, ap (λ (x : List ℕ). length x) passed.front ∙ length-append r (unread b))
 
 -- ---- items in a row
 
@@ -171,8 +164,7 @@ all-parts is_map n k a b c head t u (r, x, before, are, e) is ends count = (
 
 pub with-parts : (head : ItemHead) (a c : ItemHeads) (b u t v : List ℕ) → head.payload.now ≡ [] → HasPassed a c b →
     IsExactly (head.bytes.now ++ b) u → v ≡ t ++ u → IsItemPushed head a c t v
-with-parts head a c b u t v bare passed shows e =
-    (b, u, passed, rw (bare, append-nil head.bytes.now) shows, e)
+with-parts head a c b u t v bare passed shows e = (b, u, passed, rw (bare, append-nil head.bytes.now) shows, e)
 
 pub alone : (head : ItemHead) (h : ItemHeads) (u t v : List ℕ) → HasRead h → head.payload.now ≡ [] →
     IsExactly head.bytes.now u → v ≡ t ++ u → IsItemPushed head h h t v

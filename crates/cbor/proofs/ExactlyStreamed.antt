@@ -1,18 +1,12 @@
 -- Items of a stream are shown by their very heads, one by one.
 use Rattle.std.proofs.Common.{◌≡◌, ℕ, ◌<◌, ◌+◌, ◌-◌, Bool, true, false, List, [], ◌++◌, length, take, drop, Option}
 use Rattle.std.proofs.Common.{Some, arith, ap, append_assoc, append-nil, length-append, length-take-le, sym, subst}
-use Rattle.std.proofs.Common.{take-append-drop, ◌∙◌}
-use Rattle.std.proofs.lemmas.List.{drop_at, take_at}
-use Rattle.ciborium_ll.specs.ItemLengths.{IsNoItem}
-use Rattle.ciborium_ll.specs.Levels.{AreItem}
-use Rattle.ciborium_ll.specs.declared.item_heads.NoItem.{NoItem}
+use Rattle.std.proofs.{Common.{take-append-drop, ◌∙◌}, lemmas.List.{drop_at, take_at}}
+use Rattle.ciborium_ll.specs.{ItemLengths.IsNoItem, Levels.AreItem, declared.item_heads.NoItem.NoItem}
 use Rattle.ciborium_ll.proofs.UniqueSpelling.{none_begins_another}
-use Rattle.cbor.specs.Dumped.{reason_text}
-use Rattle.cbor.specs.Exact.{IsExactly, IsFrontPushed}
-use Rattle.cbor.specs.ExactStreams.{AreExactLines, IsFrontExactly, IsShownExactly, ended, no_item}
-use Rattle.cbor.specs.ExactStreams.{reason_behind, shown}
-use Rattle.cbor.specs.Lines.{text_line}
-use Rattle.cbor.specs.Streams.{refused_line}
+use Rattle.cbor.specs.{Dumped.reason_text, Exact.{IsExactly, IsFrontPushed}, ExactStreams.AreExactLines}
+use Rattle.cbor.specs.ExactStreams.{IsFrontExactly, IsShownExactly, ended, no_item, reason_behind, shown}
+use Rattle.cbor.specs.{Lines.text_line, Streams.refused_line}
 use Rattle.cbor.proofs.StreamedItems.{IsKept}
 
 -- ---- one item
@@ -57,9 +51,8 @@ copy-shown b copied left text size whole item (fits, front, shows) =
 -- of b this is left, where the next item has this number and begins at this offset: with lines that show what is left,
 -- those so far show b behind w
 abbrev pub AreLinesSoFar : List ℕ → List ℕ → List ℕ → Option (List ℕ) → Option (List ℕ) → ℕ → ℕ → Type 0
-AreLinesSoFar place b w left held number offset =
-    (rest : List ℕ) × (lines : List ℕ) × (left ≡ Some rest) × (held ≡ Some (w ++ lines)) ×
-    ((all : Bool) (more : List ℕ) → AreExactLines place number offset rest all more →
+AreLinesSoFar place b w left held number offset = (rest : List ℕ) × (lines : List ℕ) × (left ≡ Some rest) ×
+    (held ≡ Some (w ++ lines)) × ((all : Bool) (more : List ℕ) → AreExactLines place number offset rest all more →
     AreExactLines place 1 0 b all (lines ++ more))
 
 -- at first nothing is shown
@@ -104,8 +97,7 @@ module _ (place b w : List ℕ) (left held kept : Option (List ℕ)) (number off
 
   -- no item comes next, and the line says so
   pub last-line : (now : Option (List ℕ)) (why : NoItem) →
-      ((xs : List ℕ) → left ≡ Some xs → (0 < length xs) × IsNoItem xs why) →
-      ((ys : List ℕ) → kept ≡ Some ys →
+      ((xs : List ℕ) → left ≡ Some xs → (0 < length xs) × IsNoItem xs why) → ((ys : List ℕ) → kept ≡ Some ys →
       now ≡ Some (ys ++ refused_line place number (reason_text (reason_behind offset why)))) →
       IsShownExactly place b w false now
   last-line now why read written =

@@ -1,13 +1,9 @@
 -- One more item of a sequence is read, and its hex is put behind the text.
 use Rattle.std.proofs.Common.{◌≡◌, ℕ, ◌+◌, List, [], ◌∷◌, ◌++◌, length, false, ◌==◌, refl, sym, subst, ap, ◌∙◌, arith}
-use Rattle.std.proofs.Common.{length-append, codes}
-use Rattle.std.proofs.lemmas.List.{flat_map_more}
-use Rattle.std.proofs.lemmas.Bool.Decides.{nat_tests}
+use Rattle.std.proofs.{Common.{length-append, codes}, lemmas.List.flat_map_more, lemmas.Bool.Decides.nat_tests}
 use Rattle.ciborium_value.specs.Tree.{Tree}
-use Rattle.cbor.specs.declared.reading.Spelling.{Spelling}
-use Rattle.cbor.specs.declared.reading.Spelling.TheVariants.{Any}
-use Rattle.cbor.specs.declared.answer.LineRefusal.{LineRefusal}
-use Rattle.cbor.specs.Answer.{IsFrontRefused, refused_text, wants_memory}
+use Rattle.cbor.specs.{declared.reading.Spelling.Spelling, declared.reading.Spelling.TheVariants.Any}
+use Rattle.cbor.specs.{declared.answer.LineRefusal.LineRefusal, Answer.{IsFrontRefused, refused_text, wants_memory}}
 use Rattle.cbor.specs.Sequence.{AreItemsBefore, AreNoSequence, AreSequence, item_text, refused_item_text, sequence_text}
 use Rattle.cbor.specs.Spellings.{HasItemBefore}
 use Rattle.cbor.proofs.JudgedAnswers.{item-refused}
@@ -30,8 +26,7 @@ one-more-before spelling limit (t ∷ ts) b rest left v (next, first, others) it
     (next, first, one-more-before spelling limit ts next rest left v others item)
 
 pub one-more-item : (b rest left text longer : List ℕ) (number : ℕ) (v : Tree) → IsSoFar b rest text number →
-    HasItemBefore Any rest 256 v left →
-    longer ≡ text ++ item_text v → IsSoFar b left longer (number + 1)
+    HasItemBefore Any rest 256 v left → longer ≡ text ++ item_text v → IsSoFar b left longer (number + 1)
 one-more-item b rest left text longer number v (trees, a, same, count) item e = (
   trees ++ (v ∷ []),
   one-more-before Any 256 trees b rest left v a item,

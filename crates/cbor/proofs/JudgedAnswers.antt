@@ -1,25 +1,19 @@
 -- What the text of a line says of it.
-use Rattle.std.proofs.Common.{◌≡◌, ℕ, ◌+◌, ◌<◌, List, length, Bool, true, false, Result, Ok, Err, MatchResult}
-use Rattle.std.proofs.Common.{inl, inr, refl, sym, ap, ◌∙◌, subst}
+use Rattle.std.proofs.Common.{◌≡◌, ℕ, ◌+◌, ◌<◌, List, length, Bool, true, false, Result, Ok, Err, MatchResult, inl, inr}
+use Rattle.std.proofs.Common.{refl, sym, ap, ◌∙◌, subst}
 use Rattle.std.specs.Bool.{MatchBool}
-use Rattle.hex.specs.Hex.{decode_of}
-use Rattle.hex.specs.declared.error.FromHexError.{FromHexError}
-use Rattle.ciborium_ll.specs.Refusal as faults
+use Rattle.hex.specs.{Hex.decode_of, declared.error.FromHexError.FromHexError}
 use Rattle.ciborium_ll.specs.Refusal.{io, syntax, too_long, semantic, recursion_limit_exceeded}
 use Rattle.ciborium_value.specs.Tree.{Tree}
-use Rattle.cbor.specs.declared.answer.LineRefusal.{LineRefusal}
-use Rattle.cbor.specs.declared.answer.LineRefusal.TheVariants.{Hex, Trailing, Io, Syntax, Semantic, Nesting, TooLong}
-use Rattle.cbor.specs.declared.answer.LineRefusal.TheVariants.{Memory}
-use Rattle.cbor.specs.declared.reading.Reading.TheVariants.{Item, Sequence}
-use Rattle.cbor.specs.declared.reading.Spelling.{Spelling}
-use Rattle.cbor.specs.declared.reading.Spelling.TheVariants.{Any}
-use Rattle.cbor.specs.Answer.{IsFrontRefused, kind_of_reason, refused_text, wants_memory}
-use Rattle.cbor.specs.Line.{IsLineAnswer, hex_text, refusal_text}
-use Rattle.cbor.specs.Lines.{AnswersLine}
+use Rattle.cbor.specs.{declared.answer.LineRefusal.LineRefusal, declared.answer.LineRefusal.TheVariants.{Hex, Trailing}}
+use Rattle.cbor.specs.declared.answer.LineRefusal.TheVariants.{Io, Syntax, Semantic, Nesting, TooLong, Memory}
+use Rattle.cbor.specs.{declared.reading.Reading.TheVariants.{Item, Sequence}, declared.reading.Spelling.Spelling}
+use Rattle.cbor.specs.{declared.reading.Spelling.TheVariants.Any, Answer.{IsFrontRefused, kind_of_reason, refused_text}}
+use Rattle.cbor.specs.{Answer.wants_memory, Line.{IsLineAnswer, hex_text, refusal_text}, Lines.AnswersLine}
 use Rattle.cbor.specs.Sequence.{AreItemsBefore, AreNoSequence, AreSequence, HasSequenceAnswer, IsSequenceAnswer}
-use Rattle.cbor.specs.Sequence.{refused_item_text}
-use Rattle.cbor.specs.Spellings.{RefusesItem}
+use Rattle.cbor.specs.{Sequence.refused_item_text, Spellings.RefusesItem}
 use Rattle.cbor.proofs.JudgedLines.{item-answer, refusal_is_answered}
+use Rattle.ciborium_ll.specs.Refusal as faults
 
 pub not-memory : (e : LineRefusal) → wants_memory e ≡ false → e ≡ Memory → ⊥
 not-memory e m same = let no : true ≡ false = ap wants_memory (sym same) ∙ m in cc
@@ -31,9 +25,8 @@ pub item-answers : (spelling : Spelling) (line : List ℕ) (limit : ℕ) (is_ok 
     AnswersLine (Item spelling limit) line is_ok text → IsLineAnswer spelling line limit text
 item-answers spelling line limit true text (v, means, same) =
     item-answer spelling (decode_of line) limit v text means same
-item-answers spelling line limit false text (e, h, m, same) =
-    subst (λ (t : List ℕ). IsLineAnswer spelling line limit t) (sym same)
-    (refusal_is_answered spelling line limit e (λ is. absurd (not-memory e m is)) h)
+item-answers spelling line limit false text (e, h, m, same) = subst (λ (t : List ℕ). IsLineAnswer spelling line limit t)
+    (sym same) (refusal_is_answered spelling line limit e (λ is. absurd (not-memory e m is)) h)
 
 -- ---- sequences
 
@@ -52,9 +45,8 @@ front-refusal spelling rest limit Memory m h = absurd cc
 
 -- the text of the item that is refused behind some good ones answers the bytes
 pub item-refused : (b : List ℕ) (trees : List Tree) (rest : List ℕ) (n : ℕ) (e : LineRefusal) (text : List ℕ) →
-    AreItemsBefore Any b 256 trees rest → 0 < length rest →
-    n ≡ length trees + 1 → IsFrontRefused Any rest 256 e → (wants_memory e ≡ false) ×
-    (text ≡ refused_item_text n (refused_text e)) → AreNoSequence b 256 text
+    AreItemsBefore Any b 256 trees rest → 0 < length rest → n ≡ length trees + 1 → IsFrontRefused Any rest 256 e →
+    (wants_memory e ≡ false) × (text ≡ refused_item_text n (refused_text e)) → AreNoSequence b 256 text
 item-refused b trees rest n e text a more count h (m, same) =
     let f = front-refusal Any rest 256 e m h in (
       trees,

@@ -1,18 +1,15 @@
 -- What a line means, or why it is refused, and the text that answers it.
-use Rattle.std.proofs.Common.{◌≡◌, ◌≢◌, ℕ, List, get_or, Result, Ok, Err, IsErr, MatchResult, refl, sym, ap}
-use Rattle.std.proofs.Common.{subst, arith}
-use Rattle.hex.specs.Hex.{decode_of}
-use Rattle.hex.specs.declared.error.FromHexError.{FromHexError}
+use Rattle.std.proofs.Common.{◌≡◌, ◌≢◌, ℕ, List, get_or, Result, Ok, Err, IsErr, MatchResult, refl, sym, ap, subst}
+use Rattle.std.proofs.Common.{arith}
+use Rattle.hex.specs.{Hex.decode_of, declared.error.FromHexError.FromHexError}
 use Rattle.ciborium_ll.specs.Refusal.{io, syntax, too_long, semantic, recursion_limit_exceeded}
 use Rattle.ciborium_value.specs.Tree.{Tree}
-use Rattle.cbor.specs.declared.answer.LineRefusal.{LineRefusal}
-use Rattle.cbor.specs.declared.answer.LineRefusal.TheVariants.{Hex, Trailing, Io, Syntax, Semantic, Nesting, TooLong}
-use Rattle.cbor.specs.declared.answer.LineRefusal.TheVariants.{Memory}
-use Rattle.cbor.specs.declared.reading.Spelling.{Spelling}
-use Rattle.cbor.specs.Answer.{AreRefused, IsFrontRefused, IsRefused, kind_of_reason, refused_text}
-use Rattle.cbor.specs.Laws.{ItemIsAnswered, RefusalIsAnswered, RefusedMeansNothing}
-use Rattle.cbor.specs.Line.{HasAnswer, IsLineAnswer, good, hex_text, refused, trailing, trailing_text, tree_text}
-use Rattle.cbor.specs.Spellings.{IsItem}
+use Rattle.cbor.specs.{declared.answer.LineRefusal.LineRefusal, declared.answer.LineRefusal.TheVariants.{Hex, Trailing}}
+use Rattle.cbor.specs.declared.answer.LineRefusal.TheVariants.{Io, Syntax, Semantic, Nesting, TooLong, Memory}
+use Rattle.cbor.specs.{declared.reading.Spelling.Spelling, Answer.{AreRefused, IsFrontRefused, IsRefused}}
+use Rattle.cbor.specs.{Answer.{kind_of_reason, refused_text}, Laws.{ItemIsAnswered, RefusalIsAnswered}}
+use Rattle.cbor.specs.{Laws.RefusedMeansNothing, Line.{HasAnswer, IsLineAnswer, good, hex_text, refused, trailing}}
+use Rattle.cbor.specs.{Line.{trailing_text, tree_text}, Spellings.IsItem}
 use Rattle.cbor.proofs.OneLineAnswer.{one_answer}
 
 -- what refuses the front of some bytes refuses them
@@ -95,5 +92,4 @@ other-text v Memory same = let f : 111 ≡ 109 = ap first same in omega (arith, 
 pub refused_means_nothing : RefusedMeansNothing
 refused_means_nothing spelling line limit e v m h means =
     other-text v e (one_answer spelling line limit (tree_text v) (refused_text e)
-    (item_is_answered spelling line limit v means)
-    (refusal_is_answered spelling line limit e m h))
+    (item_is_answered spelling line limit v means) (refusal_is_answered spelling line limit e m h))

@@ -2,20 +2,14 @@
 use Rattle.std.proofs.Common.{◌≡◌, ℕ, ◌+◌, List, [], ◌∷◌, ◌++◌, length, map, flat_map, Bool, true, false, Option, Some}
 use Rattle.std.proofs.Common.{Result, Ok, Err, is_err, is_ok, refl, ap, subst, sym, ◌∙◌, arith}
 use Rattle.std.proofs.lemmas.List.{length_push, map_push}
-use Rattle.std.specs.Bool.{if◌then◌else◌}
-use Rattle.std.specs.Io.BufRead.{drop_through}
-use Rattle.std.specs.Io.KnownBytes.{Keeps}
-use Rattle.ciborium_value.specs.Tree.{Tree}
-use Rattle.ciborium_value.specs.View.{tree_of}
-use Rattle.ciborium_value.specs.declared.key_order.KeyOrder.{KeyOrder}
+use Rattle.std.specs.{Bool.if◌then◌else◌, Io.BufRead.drop_through, Io.KnownBytes.Keeps}
+use Rattle.ciborium_value.specs.{Tree.Tree, View.tree_of, declared.key_order.KeyOrder.KeyOrder}
 use Rattle.ciborium_value.specs.declared.tree.Value.{Value}
-use Rattle.cbor.specs.declared.answer.LineRefusal.{LineRefusal}
-use Rattle.cbor.specs.declared.reading.Spelling.TheVariants.{Any}
-use Rattle.cbor.specs.Answer.{IsMeant, IsRefused, refused_text}
-use Rattle.cbor.specs.Lines as lines
-use Rattle.cbor.specs.Lines.{AreMeant, text_line}
+use Rattle.cbor.specs.{declared.answer.LineRefusal.LineRefusal, declared.reading.Spelling.TheVariants.Any}
+use Rattle.cbor.specs.{Answer.{IsMeant, IsRefused, refused_text}, Lines.{AreMeant, text_line}}
 use Rattle.cbor.specs.SortedLines.{AreSortedOrRefused, IsFirstRefused, hex_line, refused_line_text}
 use Rattle.cbor.proofs.AnsweredLines.{LineIsRead, line-ahead, none-ahead, still}
+use Rattle.cbor.specs.Lines as lines
 
 -- the rest of b is left, the lines before it mean these trees, and the next line has this number
 abbrev pub AreRead : List ℕ → ℕ → Option (List ℕ) → List Tree → ℕ → Type 0
@@ -30,16 +24,14 @@ none-read b limit left values e f =
 
 -- a push that did not fail
 pub pushed : {X E : Type 0} (r : Result (Unit {0}) E) (new old : List X) (x : X) →
-    new ≡ (if is_ok r then old ++ (x ∷ []) else old) → is_err r ≡ false →
-    new ≡ old ++ (x ∷ [])
+    new ≡ (if is_ok r then old ++ (x ∷ []) else old) → is_err r ≡ false → new ≡ old ++ (x ∷ [])
 pushed (Ok u) new old x e ok = e
 pushed (Err y) new old x e ok = absurd cc
 
 -- one more line is an item, and its value is pushed
 pub one-more-read : (b : List ℕ) (limit : ℕ) (left next : Option (List ℕ)) (values kept : List Value) (value : Value)
-    (line shown : List ℕ) (more : Bool) (n : ℕ) →
-    AreRead b limit left (map tree_of values) n → LineIsRead left next line more → more ≡ true → shown ≡ line →
-    IsMeant Any shown limit (tree_of value) →
+    (line shown : List ℕ) (more : Bool) (n : ℕ) → AreRead b limit left (map tree_of values) n →
+    LineIsRead left next line more → more ≡ true → shown ≡ line → IsMeant Any shown limit (tree_of value) →
     kept ≡ values ++ (value ∷ []) → AreRead b limit next (map tree_of kept) (n + 1)
 one-more-read b limit left next values kept value line shown more n (rest, e, a, count) read m same means push =
     let h = line-ahead left next line more rest read m e in
@@ -57,10 +49,9 @@ one-more-read b limit left next values kept value line shown more n (rest, e, a,
     )
 
 -- the next line is no item
-pub first-refused : (b : List ℕ) (limit : ℕ) (left next : Option (List ℕ)) (trees : List Tree)
-    (line shown : List ℕ) (more : Bool) (n : ℕ) (e : LineRefusal) → AreRead b limit left trees n →
-    LineIsRead left next line more → more ≡ true → shown ≡ line → IsRefused Any shown limit e →
-    IsFirstRefused b limit n e
+pub first-refused : (b : List ℕ) (limit : ℕ) (left next : Option (List ℕ)) (trees : List Tree) (line shown : List ℕ)
+    (more : Bool) (n : ℕ) (e : LineRefusal) → AreRead b limit left trees n → LineIsRead left next line more →
+    more ≡ true → shown ≡ line → IsRefused Any shown limit e → IsFirstRefused b limit n e
 first-refused b limit left next trees line shown more n e (rest, is, a, count) read m same h =
     let ahead = line-ahead left next line more rest read m is in
     (trees, rest, a, ahead.0, subst (λ (l : List ℕ). IsRefused Any l limit e) (same ∙ ahead.1) h, count)

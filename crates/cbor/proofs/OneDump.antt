@@ -1,16 +1,13 @@
 -- The heads of an item are one list, so that an item has one dump.
-use Rattle.std.proofs.Common.{◌≡◌, ℕ, ◌+◌, List, [], ◌∷◌, ◌++◌, length, Some, None, refl, sym, ap, ap₂}
-use Rattle.std.proofs.Common.{◌∙◌, subst, arith, append_assoc}
+use Rattle.std.proofs.Common.{◌≡◌, ℕ, ◌+◌, List, [], ◌∷◌, ◌++◌, length, Some, None, refl, sym, ap, ap₂, ◌∙◌, subst}
+use Rattle.std.proofs.Common.{arith, append_assoc}
 use Rattle.std.specs.List.{flat_map}
-use Rattle.ciborium_ll.specs.Header.{announced_length}
-use Rattle.ciborium_ll.specs.Levels.{IsPayloadOf, behind_head, incomplete}
-use Rattle.ciborium_ll.specs.declared.header.Header.{Header}
-use Rattle.ciborium_ll.specs.declared.header.Header.TheVariants as header
-use Rattle.ciborium_ll.specs.declared.levels.Level.{Level}
+use Rattle.ciborium_ll.specs.{Header.announced_length, Levels.{IsPayloadOf, behind_head, incomplete}}
+use Rattle.ciborium_ll.specs.{declared.header.Header.Header, declared.levels.Level.Level}
 use Rattle.ciborium_ll.specs.declared.levels.Level.TheVariants.{Items}
 use Rattle.ciborium_ll.proofs.OneHeader.{one_header_at_front}
-use Rattle.cbor.specs.Dumped.{AreHeadsAt, Entry, IsEntryAt, entry_bytes, line_of}
-use Rattle.cbor.specs.Laws.{OneDumpOfItem}
+use Rattle.cbor.specs.{Dumped.{AreHeadsAt, Entry, IsEntryAt, entry_bytes, line_of}, Laws.OneDumpOfItem}
+use Rattle.ciborium_ll.specs.declared.header.Header.TheVariants as header
 
 -- behind an item no head may stand
 none-behind : (h : Header) → behind_head h [] ≡ None
@@ -50,8 +47,7 @@ entry p d h b payload = record { offset = p; depth = d; header = h; head = b; pa
 one-entry : (e f : Entry) → e.offset ≡ f.offset → e.depth ≡ f.depth → e.header ≡ f.header → e.head ≡ f.head →
     e.payload ≡ f.payload → e ≡ f
 unfolding entry
-one-entry e f o d h b q =
-    ap₂ (λ (x : ℕ) (y : ℕ). entry x y e.header e.head e.payload) o d ∙
+one-entry e f o d h b q = ap₂ (λ (x : ℕ) (y : ℕ). entry x y e.header e.head e.payload) o d ∙
     (ap₂ (λ (x : Header) (y : List ℕ). entry f.offset f.depth x y e.payload) h b ∙
     ap (λ (x : List ℕ). entry f.offset f.depth f.header f.head x) q)
 

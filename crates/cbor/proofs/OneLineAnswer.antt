@@ -1,15 +1,12 @@
 -- Each line has one answer.
 use Rattle.std.proofs.Common.{◌≡◌, ℕ, ◌<◌, List, [], ◌∷◌, length, inl, inr, Result, Ok, Err, MatchResult, refl, sym, ap}
-use Rattle.std.proofs.Common.{◌∙◌, subst, arith, append-nil}
-use Rattle.std.proofs.lemmas.List.Elements.{All-from_get_or}
-use Rattle.hex.specs.Hex.{decode_of}
-use Rattle.hex.specs.declared.error.FromHexError.{FromHexError}
+use Rattle.std.proofs.{Common.{◌∙◌, subst, arith, append-nil}, lemmas.List.Elements.All-from_get_or}
+use Rattle.hex.specs.{Hex.decode_of, declared.error.FromHexError.FromHexError}
 use Rattle.hex.proofs.HexLemmas.{decode_of-ok}
 use Rattle.ciborium_ll.specs.Bytes.{AreBytes}
 use Rattle.ciborium_value.specs.Tree.{Tree}
-use Rattle.cbor.specs.declared.reading.Spelling.{Spelling}
-use Rattle.cbor.specs.Laws.{IsAnswered, OneAnswerToLine}
-use Rattle.cbor.specs.Line.{HasAnswer, good, trailing, refused, tree_text, trailing_text, refusal_text, hex_text}
+use Rattle.cbor.specs.{declared.reading.Spelling.Spelling, Laws.{IsAnswered, OneAnswerToLine}, Line.{HasAnswer, good}}
+use Rattle.cbor.specs.Line.{trailing, refused, tree_text, trailing_text, refusal_text, hex_text}
 use Rattle.cbor.specs.Spellings.{HasItemBefore, IsItem}
 use Rattle.cbor.proofs.SpelledItems.{HasItem, item-or-refused, not-both, one-refusal, one-tree}
 
@@ -53,8 +50,7 @@ whole spelling b limit v item = (v, [], (b, item, sym (append-nil b)))
 
 -- nothing stands behind all of b
 none-behind : (spelling : Spelling) (b left : List ℕ) (limit : ℕ) (v w : Tree) →
-    IsItem spelling b limit v →
-    HasItemBefore spelling b limit w left → 0 < length left → ⊥
+    IsItem spelling b limit v → HasItemBefore spelling b limit w left → 0 < length left → ⊥
 none-behind spelling b left limit v w item (s, other, e) more =
     let same = one-tree spelling b s [] left limit v w item other (append-nil b ∙ e) in
     let size : 0 ≡ length left = ap (λ (xs : List ℕ). length xs) same.1 in
@@ -62,13 +58,11 @@ none-behind spelling b left limit v w item (s, other, e) more =
 
 -- what stands behind an item
 one-rest : (spelling : Spelling) (b x y : List ℕ) (limit : ℕ) (v w : Tree) →
-    HasItemBefore spelling b limit v x →
-    HasItemBefore spelling b limit w y → x ≡ y
+    HasItemBefore spelling b limit v x → HasItemBefore spelling b limit w y → x ≡ y
 one-rest spelling b x y limit v w (s, p, e) (t, q, f) = (one-tree spelling s t x y limit v w p q (sym e ∙ f)).1
 
-one-of-bytes : (spelling : Spelling) (b : List ℕ) (limit : ℕ) (x y : List ℕ) → AreBytes b →
-    HasAnswer spelling b limit x →
-    HasAnswer spelling b limit y → x ≡ y
+one-of-bytes : (spelling : Spelling) (b : List ℕ) (limit : ℕ) (x y : List ℕ) →
+    AreBytes b → HasAnswer spelling b limit x → HasAnswer spelling b limit y → x ≡ y
 one-of-bytes spelling b limit x y h (good v p e) (good w q f) = e ∙
     (ap tree_text (one-tree spelling b b [] [] limit v w p q refl).0 ∙ sym f)
 one-of-bytes spelling b limit x y h (good v p e) (trailing w left q more f) =
@@ -89,12 +83,10 @@ one-of-bytes spelling b limit x y h (refused t ref e) (refused u fer f) = e ∙
     (ap refusal_text (one-refusal spelling b limit t u h ref fer) ∙ sym f)
 
 one-by : (spelling : Spelling) (d : Result (List ℕ) FromHexError) (limit : ℕ) (x y : List ℕ) →
-    ((b : List ℕ) → d ≡ Ok b → AreBytes b) →
-    MatchResult d (λ b. HasAnswer spelling b limit x) (λ _. x ≡ hex_text) →
+    ((b : List ℕ) → d ≡ Ok b → AreBytes b) → MatchResult d (λ b. HasAnswer spelling b limit x) (λ _. x ≡ hex_text) →
     MatchResult d (λ b. HasAnswer spelling b limit y) (λ _. y ≡ hex_text) → x ≡ y
 one-by spelling (Ok b) limit x y h p q = one-of-bytes spelling b limit x y (h b refl) p q
 one-by spelling (Err e) limit x y h p q = p ∙ sym q
 
 pub one_answer : OneAnswerToLine
-one_answer spelling line limit a b p q = one-by spelling (decode_of line) limit a b
-    (λ s e. decoded-bytes line s e) p q
+one_answer spelling line limit a b p q = one-by spelling (decode_of line) limit a b (λ s e. decoded-bytes line s e) p q

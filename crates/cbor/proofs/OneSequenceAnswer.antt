@@ -2,19 +2,13 @@
 use Rattle.std.proofs.Common.{◌≡◌, ℕ, zero, suc, ◌+◌, ◌<◌, ◌≤◌, ◌⊎◌, List, [], ◌∷◌, ◌++◌, length, inl, inr, Result, Ok}
 use Rattle.std.proofs.Common.{Err, MatchResult, refl, sym, ap, ◌∙◌, subst, arith, length-append}
 use Rattle.std.proofs.lemmas.List.Elements.{All-tail}
-use Rattle.hex.specs.Hex.{decode_of}
-use Rattle.hex.specs.declared.error.FromHexError.{FromHexError}
-use Rattle.ciborium_ll.specs.Bytes.{AreBytes}
-use Rattle.ciborium_ll.specs.Refusal.{Refusal, io}
-use Rattle.ciborium_value.specs.Refuses.{no_head}
-use Rattle.ciborium_value.specs.Tree.{Tree}
-use Rattle.cbor.specs.declared.reading.Spelling.TheVariants.{Any}
-use Rattle.cbor.specs.Laws.{IsSequenceAnswered, OneSequenceAnswer}
-use Rattle.cbor.specs.Line.{hex_text, refusal_text}
-use Rattle.cbor.specs.Sequence.{AreItemsBefore, HasSequenceAnswer, refused_item_text, sequence_text}
-use Rattle.cbor.specs.Spellings.{HasItemBefore, IsItem, RefusesItem}
-use Rattle.cbor.proofs.OneLineAnswer.{decoded-bytes}
-use Rattle.cbor.proofs.SpelledItems.{item-or-refused, not-both, one-refusal, one-tree}
+use Rattle.hex.specs.{Hex.decode_of, declared.error.FromHexError.FromHexError}
+use Rattle.ciborium_ll.specs.{Bytes.AreBytes, Refusal.{Refusal, io}}
+use Rattle.ciborium_value.specs.{Refuses.no_head, Tree.Tree}
+use Rattle.cbor.specs.{declared.reading.Spelling.TheVariants.Any, Laws.{IsSequenceAnswered, OneSequenceAnswer}}
+use Rattle.cbor.specs.{Line.{hex_text, refusal_text}, Sequence.{AreItemsBefore, HasSequenceAnswer, refused_item_text}}
+use Rattle.cbor.specs.{Sequence.sequence_text, Spellings.{HasItemBefore, IsItem, RefusesItem}}
+use Rattle.cbor.proofs.{OneLineAnswer.decoded-bytes, SpelledItems.{item-or-refused, not-both, one-refusal, one-tree}}
 
 -- where nothing is left no item stands
 nothing : (limit : ℕ) → RefusesItem Any [] limit io
@@ -40,11 +34,9 @@ one-row : (ts us : List Tree) (b r q : List ℕ) (limit : ℕ) (e f : Refusal) �
     AreItemsBefore Any b limit us q → RefusesItem Any r limit e → RefusesItem Any q limit f → (ts ≡ us) × (r ≡ q)
 one-row [] [] b r q limit e f h m n p s = (refl, sym m ∙ n)
 one-row [] (w ∷ us) b r q limit e f h m (left, item, more) p s =
-    absurd (not-both Any b limit e h (w, left, item)
-    (subst (λ (xs : List ℕ). RefusesItem Any xs limit e) (sym m) p))
+    absurd (not-both Any b limit e h (w, left, item) (subst (λ (xs : List ℕ). RefusesItem Any xs limit e) (sym m) p))
 one-row (v ∷ ts) [] b r q limit e f h (left, item, more) n p s =
-    absurd (not-both Any b limit f h (v, left, item)
-    (subst (λ (xs : List ℕ). RefusesItem Any xs limit f) (sym n) s))
+    absurd (not-both Any b limit f h (v, left, item) (subst (λ (xs : List ℕ). RefusesItem Any xs limit f) (sym n) s))
 one-row (v ∷ ts) (w ∷ us) b r q limit e f h (x, (s, i, split), m) (y, (t, j, other), n) p k =
     let same = one-tree Any s t x y limit v w i j (sym split ∙ other) in
     let rest = one-row ts us x r q limit e f (bytes-left b x limit v h (s, i, split)) m
@@ -72,8 +64,7 @@ one-of-bytes b limit x y h (inr (ts, rest, u, m, more, r, e)) (inr (us, left, v,
     ∙ (ap (λ (k : Refusal). refused_item_text (length us + 1) (refusal_text k)) reason ∙ sym f))
 
 -- an item is some bytes
-less-left : (b left s : List ℕ) (limit : ℕ) (v : Tree) → IsItem Any s limit v → b ≡ s ++ left →
-    length left < length b
+less-left : (b left s : List ℕ) (limit : ℕ) (v : Tree) → IsItem Any s limit v → b ≡ s ++ left → length left < length b
 less-left b left [] limit v item split = absurd (not-both Any [] limit io (λ i d below. absurd (omega arith))
     (v, [], ([], item, refl)) (nothing limit))
 less-left b left (x ∷ s) limit v item split =
@@ -100,8 +91,7 @@ found (suc n) (x ∷ b) limit below h =
       | inr r ↦ ([], x ∷ b, refl, inr (omega arith, r.0, r.1))
     ]
 
-bytes-answered : (b : List ℕ) (limit : ℕ) → AreBytes b → (answer : List ℕ) ×
-    HasSequenceAnswer b limit answer
+bytes-answered : (b : List ℕ) (limit : ℕ) → AreBytes b → (answer : List ℕ) × HasSequenceAnswer b limit answer
 bytes-answered b limit h =
     let f = found (length b) b limit (omega arith) h in
     elim f.3 [
@@ -109,8 +99,7 @@ bytes-answered b limit h =
       | inr r ↦ (refused_item_text (length f.0 + 1) (refusal_text r.1), inr (f.0, f.1, r.1, f.2, r.0, r.2, refl))
     ]
 
-answered-by : (d : Result (List ℕ) FromHexError) (limit : ℕ) →
-    ((b : List ℕ) → d ≡ Ok b → AreBytes b) →
+answered-by : (d : Result (List ℕ) FromHexError) (limit : ℕ) → ((b : List ℕ) → d ≡ Ok b → AreBytes b) →
     (answer : List ℕ) × MatchResult d (λ b. HasSequenceAnswer b limit answer) (λ _. answer ≡ hex_text)
 answered-by (Ok b) limit h = bytes-answered b limit (h b refl)
 answered-by (Err e) limit h = (hex_text, refl)
@@ -119,8 +108,7 @@ pub is_sequence_answered : IsSequenceAnswered
 is_sequence_answered line limit = answered-by (decode_of line) limit (λ b e. decoded-bytes line b e)
 
 one-by : (d : Result (List ℕ) FromHexError) (limit : ℕ) (x y : List ℕ) →
-    ((b : List ℕ) → d ≡ Ok b → AreBytes b) →
-    MatchResult d (λ b. HasSequenceAnswer b limit x) (λ _. x ≡ hex_text) →
+    ((b : List ℕ) → d ≡ Ok b → AreBytes b) → MatchResult d (λ b. HasSequenceAnswer b limit x) (λ _. x ≡ hex_text) →
     MatchResult d (λ b. HasSequenceAnswer b limit y) (λ _. y ≡ hex_text) → x ≡ y
 one-by (Ok b) limit x y h p q = one-of-bytes b limit x y (h b refl) p q
 one-by (Err e) limit x y h p q = p ∙ sym q

@@ -1,30 +1,21 @@
 -- Each line has one answer by the deterministic form of its item, and one by its notation.
 use Rattle.std.proofs.Common.{◌≡◌, ◌⊎◌, ℕ, List, [], ◌∷◌, length, inl, inr, Result, Ok, Err, is_err, MatchResult, false}
 use Rattle.std.proofs.Common.{refl, sym, ap, ◌∙◌, subst, arith, append-nil}
-use Rattle.hex.specs.Hex.{decode_of}
-use Rattle.hex.specs.declared.error.FromHexError.{FromHexError}
-use Rattle.ciborium_ll.specs.Refusal as refusal
-use Rattle.ciborium_value.specs.DeterministicForms.{deterministic_form}
-use Rattle.ciborium_value.specs.Given.{Outcome, gives, refuses, nests}
-use Rattle.ciborium_value.specs.Tree.{Tree}
-use Rattle.ciborium_value.specs.declared.key_order.KeyOrder.{KeyOrder}
-use Rattle.ciborium_value.specs.declared.kind.Kind.TheVariants as kinds
+use Rattle.hex.specs.{Hex.decode_of, declared.error.FromHexError.FromHexError}
+use Rattle.ciborium_value.specs.{DeterministicForms.deterministic_form, Given.{Outcome, gives, refuses, nests}}
+use Rattle.ciborium_value.specs.{Tree.Tree, declared.key_order.KeyOrder.KeyOrder}
 use Rattle.ciborium_value.proofs.Forms.RefusedForms.{form_or_refused}
-use Rattle.cbor.specs.declared.answer.Reason.{Reason}
-use Rattle.cbor.specs.declared.answer.Reason.TheVariants as reasons
-use Rattle.cbor.specs.declared.answer.LineRefusal.{LineRefusal}
+use Rattle.cbor.specs.{declared.answer.Reason.Reason, declared.answer.LineRefusal.LineRefusal}
 use Rattle.cbor.specs.declared.answer.LineRefusal.TheVariants.{Hex, Trailing, Io, Syntax, Semantic, Nesting, TooLong}
-use Rattle.cbor.specs.declared.reading.Spelling.TheVariants.{Any}
-use Rattle.cbor.specs.Answer.{AreRefused, IsMeant, IsRefused, TellsRefusal, kind_of_reason, refused_text, wants_memory}
-use Rattle.cbor.specs.Forms.{IsFormAnswer, formless_text}
-use Rattle.cbor.specs.Laws.{IsFormAnswered, IsNotationAnswered, OneFormAnswer, OneNotationAnswer}
-use Rattle.cbor.specs.Line.{tree_text}
-use Rattle.cbor.specs.Shown.{notation_text}
-use Rattle.cbor.specs.Spellings.{IsItem, RefusesItem}
-use Rattle.cbor.proofs.JudgedAnswers.{not-memory}
-use Rattle.cbor.proofs.JudgedLines.{refusal_is_answered, refused-by, refused_means_nothing}
-use Rattle.cbor.proofs.OneLineAnswer.{decoded-bytes, one_answer}
-use Rattle.cbor.proofs.SpelledItems.{HasItem, item-or-refused, one-tree}
+use Rattle.cbor.specs.{declared.reading.Spelling.TheVariants.Any, Answer.{AreRefused, IsMeant, IsRefused, TellsRefusal}}
+use Rattle.cbor.specs.{Answer.{kind_of_reason, refused_text, wants_memory}, Forms.{IsFormAnswer, formless_text}}
+use Rattle.cbor.specs.{Laws.{IsFormAnswered, IsNotationAnswered, OneFormAnswer, OneNotationAnswer}, Line.tree_text}
+use Rattle.cbor.specs.{Shown.notation_text, Spellings.{IsItem, RefusesItem}}
+use Rattle.cbor.proofs.{JudgedAnswers.not-memory, JudgedLines.{refusal_is_answered, refused-by, refused_means_nothing}}
+use Rattle.cbor.proofs.{OneLineAnswer.{decoded-bytes, one_answer}, SpelledItems.{HasItem, item-or-refused, one-tree}}
+use Rattle.ciborium_ll.specs.Refusal as refusal
+use Rattle.ciborium_value.specs.declared.kind.Kind.TheVariants as kinds
+use Rattle.cbor.specs.declared.answer.Reason.TheVariants as reasons
 
 -- the text of what a form is, or why there is none; nesting is no answer
 abbrev form_text : Outcome Tree → List ℕ
@@ -34,13 +25,11 @@ form_text nests = []
 
 -- a line means one tree
 one-meant-by : (d : Result (List ℕ) FromHexError) (limit : ℕ) (v w : Tree) →
-    MatchResult d (λ b. IsItem Any b limit v) (λ _. ⊥) →
-    MatchResult d (λ b. IsItem Any b limit w) (λ _. ⊥) → v ≡ w
+    MatchResult d (λ b. IsItem Any b limit v) (λ _. ⊥) → MatchResult d (λ b. IsItem Any b limit w) (λ _. ⊥) → v ≡ w
 one-meant-by (Ok b) limit v w p q = (one-tree Any b b [] [] limit v w p q refl).0
 one-meant-by (Err e) limit v w p q = absurd p
 
-one-meant : (line : List ℕ) (limit : ℕ) (v w : Tree) → IsMeant Any line limit v →
-    IsMeant Any line limit w → v ≡ w
+one-meant : (line : List ℕ) (limit : ℕ) (v w : Tree) → IsMeant Any line limit v → IsMeant Any line limit w → v ≡ w
 one-meant line limit v w p q = one-meant-by (decode_of line) limit v w p q
 
 -- an answer is the text of a tree that the line means, or of a refusal
@@ -49,10 +38,8 @@ IsTextOrRefusal text line limit answer =
     ((v : Tree) × IsMeant Any line limit v × (answer ≡ text v)) ⊎ TellsRefusal Any line limit answer
 
 one-of : (text : Tree → List ℕ) (line : List ℕ) (limit : ℕ) (a b : List ℕ) →
-    IsTextOrRefusal text line limit a →
-    IsTextOrRefusal text line limit b → a ≡ b
-one-of text line limit a b (inl (v, p, e)) (inl (w, q, f)) = e ∙
-    (ap text (one-meant line limit v w p q) ∙ sym f)
+    IsTextOrRefusal text line limit a → IsTextOrRefusal text line limit b → a ≡ b
+one-of text line limit a b (inl (v, p, e)) (inl (w, q, f)) = e ∙ (ap text (one-meant line limit v w p q) ∙ sym f)
 one-of text line limit a b (inl (v, p, e)) (inr (r, h, m, f)) =
     absurd (refused_means_nothing Any line limit r v (not-memory r m) h p)
 one-of text line limit a b (inr (r, h, m, e)) (inl (v, p, f)) =
@@ -67,10 +54,8 @@ abbrev tree_form_text : KeyOrder → Tree → List ℕ
 tree_form_text order v = form_text (deterministic_form order v)
 
 form-or-refusal : (order : KeyOrder) (line : List ℕ) (limit : ℕ) (answer : List ℕ) →
-    IsFormAnswer order line limit answer →
-    IsTextOrRefusal (tree_form_text order) line limit answer
-form-or-refusal order line limit answer (inl (v, u, means, form, same)) =
-    inl (v, means, same ∙ ap form_text (sym form))
+    IsFormAnswer order line limit answer → IsTextOrRefusal (tree_form_text order) line limit answer
+form-or-refusal order line limit answer (inl (v, u, means, form, same)) = inl (v, means, same ∙ ap form_text (sym form))
 form-or-refusal order line limit answer (inr (inl (v, k, means, none, same))) =
     inl (v, means, same ∙ ap form_text (sym none))
 form-or-refusal order line limit answer (inr (inr h)) = inr h

@@ -1,21 +1,16 @@
 -- From what reading a value answers to what holds of the bytes.
 use Rattle.std.proofs.Common.{◌≡◌, ℕ, List, [], length, ◌==◌, Bool, true, IsTrue, Option, Some, None, IfSome, Err}
-use Rattle.std.proofs.Common.{unwrap_or, inl, inr, refl, ◌≢◌, sym, subst, arith}
-use Rattle.std.proofs.lemmas.List.{nil_from_length}
 use Rattle.std.proofs.lemmas.Bool.Decides.{nat_tests}
 use Rattle.ciborium_value.specs.declared.kind.Kind.TheVariants.{TrailingData}
 use Rattle.ciborium_ll.specs.Refusal.{Refusal, SemanticKind}
-use Rattle.ciborium.specs.declared.de.error.Error.{Error}
-use Rattle.ciborium.specs.declared.de.error.Error.TheVariants as errors
-use Rattle.ciborium.specs.ValueAnswers.{IsNamed, IsRefusedBy, refusal_kind_of}
 use Rattle.ciborium.specs.SliceAnswers.{AreAllRead}
-use Rattle.cbor.specs.declared.answer.LineRefusal.{LineRefusal as Reason}
+use Rattle.cbor.specs.{declared.answer.LineRefusal.LineRefusal as Reason, Spellings.RefusesItem}
+use Rattle.std.proofs.{Common.{unwrap_or, inl, inr, refl, ◌≢◌, sym, subst, arith}, lemmas.List.nil_from_length}
+use Rattle.ciborium.specs.{declared.de.error.Error.Error, ValueAnswers.{IsNamed, IsRefusedBy, refusal_kind_of}}
+use Rattle.cbor.specs.{declared.answer.LineRefusal.TheVariants.Memory, declared.reading.Spelling.Spelling}
+use Rattle.cbor.specs.{declared.reading.Spelling.TheVariants.Any, Answer.{AreRefused, IsFrontRefused, StandsFor}}
+use Rattle.ciborium.specs.declared.de.error.Error.TheVariants as errors
 use Rattle.cbor.specs.declared.answer.LineRefusal.TheVariants as reasons
-use Rattle.cbor.specs.declared.answer.LineRefusal.TheVariants.{Memory}
-use Rattle.cbor.specs.declared.reading.Spelling.{Spelling}
-use Rattle.cbor.specs.declared.reading.Spelling.TheVariants.{Any}
-use Rattle.cbor.specs.Answer.{AreRefused, IsFrontRefused, StandsFor}
-use Rattle.cbor.specs.Spellings.{RefusesItem}
 
 -- a list that is found to be empty
 pub nothing-left : (xs : List ℕ) → (length xs == 0) ≡ true → xs ≡ []

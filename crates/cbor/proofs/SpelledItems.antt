@@ -1,11 +1,9 @@
 -- What holds of items and of what refuses them, however items may be spelled.
 use Rattle.std.proofs.Common.{◌≡◌, ℕ, ◌⊎◌, List, ◌++◌, Some, inl, inr}
-use Rattle.ciborium_ll.specs.Bytes.{AreBytes}
-use Rattle.ciborium_ll.specs.Refusal.{Refusal}
+use Rattle.ciborium_ll.specs.{Bytes.AreBytes, Refusal.Refusal}
 use Rattle.ciborium_value.specs.Tree.{Tree}
 use Rattle.ciborium_value.proofs.GoodItems.Outcome.{good_or_refused, never_both, one_reading, one_refusal}
-use Rattle.cbor.specs.declared.reading.Spelling.{Spelling}
-use Rattle.cbor.specs.Spellings.{HasItemBefore, IsItem, RefusesItem, spelling_of}
+use Rattle.cbor.specs.{declared.reading.Spelling.Spelling, Spellings.{HasItemBefore, IsItem, RefusesItem, spelling_of}}
 
 -- an item is at the front
 abbrev pub HasItem : Spelling → List ℕ → ℕ → Type 0

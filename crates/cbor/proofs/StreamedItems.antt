@@ -2,29 +2,20 @@
 use Rattle.std.proofs.Common.{◌≡◌, ℕ, ◌<◌, ◌+◌, ◌==◌, Bool, ◌&&◌, true, false, List, [], ◌++◌, length, take, drop}
 use Rattle.std.proofs.Common.{arith, Option, Some, None, Result, Ok, Err, IfErr, IfOk, OnOk, inl, refl, ap}
 use Rattle.std.proofs.Common.{append_assoc, append-nil, length-append, length-take-le, sym, subst, take-append-drop}
-use Rattle.std.proofs.Common.{◌∙◌}
-use Rattle.std.proofs.lemmas.List.{drop_at, take_at}
+use Rattle.std.proofs.{Common.◌∙◌, lemmas.List.{drop_at, take_at}}
 use Rattle.std.specs.Io.KnownBytes.{Consumes, prepend_known}
 use Rattle.ciborium_ll.specs.Levels.{AreItem}
 use Rattle.ciborium_ll.proofs.UniqueSpelling.{none_begins_another}
 use Rattle.ciborium.specs.NextItems.{TakesTo}
-use Rattle.ciborium_value.specs.Tree.{Tree}
-use Rattle.ciborium_value.specs.View.{tree_of}
-use Rattle.ciborium_value.specs.declared.tree.Value.{Value}
-use Rattle.cbor.specs.declared.answer.LineRefusal.{LineRefusal}
-use Rattle.cbor.specs.declared.answer.LineRefusal.TheVariants.{Memory}
-use Rattle.cbor.specs.declared.reading.Showing.{Showing}
-use Rattle.cbor.specs.declared.reading.Spelling.{Spelling}
-use Rattle.cbor.specs.declared.streams.Next.TheVariants.{Item, NoItem as NoNext}
-use Rattle.cbor.specs.Answer.{IsFrontRefused, refusal_behind, refused_text, wants_memory}
-use Rattle.cbor.specs.Lines.{text_line}
-use Rattle.cbor.specs.Sequence.{refused_item_text}
-use Rattle.cbor.specs.Shown.{shown_spelling}
-use Rattle.cbor.specs.Spellings.{HasItemBefore, IsItem}
-use Rattle.cbor.specs.Streams.{AreItemsShown, IsFront, IsItemLine, IsJudged, IsStreamShown, IsTaken}
-use Rattle.cbor.specs.Streams.{ended, no_item, refused, refused_line, shown}
-use Rattle.cbor.proofs.AnsweredLines.{and-true}
-use Rattle.cbor.proofs.ReadBytes.{nothing-left}
+use Rattle.ciborium_value.specs.{Tree.Tree, View.tree_of, declared.tree.Value.Value}
+use Rattle.cbor.specs.{declared.answer.LineRefusal.LineRefusal, declared.answer.LineRefusal.TheVariants.Memory}
+use Rattle.cbor.specs.{declared.reading.Showing.Showing, declared.reading.Spelling.Spelling}
+use Rattle.cbor.specs.{declared.streams.Next.TheVariants.{Item, NoItem as NoNext}, Answer.IsFrontRefused}
+use Rattle.cbor.specs.{Answer.{refusal_behind, refused_text, wants_memory}, Lines.text_line, Sequence.refused_item_text}
+use Rattle.cbor.specs.{Shown.shown_spelling, Spellings.{HasItemBefore, IsItem}, Streams.{AreItemsShown, IsFront}}
+use Rattle.cbor.specs.Streams.{IsItemLine, IsJudged, IsStreamShown, IsTaken, ended, no_item, refused, refused_line}
+use Rattle.cbor.specs.Streams.{shown}
+use Rattle.cbor.proofs.{AnsweredLines.and-true, ReadBytes.nothing-left}
 
 -- ---- one item
 
@@ -85,10 +76,9 @@ memory-behind p Memory h = h
 memory-behind p other h = refl
 
 pub refused-shown : {E : Type 0} (place w : List ℕ) (n offset : ℕ) (e f : LineRefusal) (text : List ℕ)
-    (after : Option (List ℕ)) (r : Result Unit E) → f ≡ refusal_behind offset e →
-    (wants_memory f ≡ false) × (text ≡ refused_item_text n (refused_text f)) →
-    OnOk r (after ≡ Some ((w ++ place) ++ text_line text)) →
-    OnOk r ((wants_memory e ≡ false) ×
+    (after : Option (List ℕ)) (r : Result Unit E) →
+    f ≡ refusal_behind offset e → (wants_memory f ≡ false) × (text ≡ refused_item_text n (refused_text f)) →
+    OnOk r (after ≡ Some ((w ++ place) ++ text_line text)) → OnOk r ((wants_memory e ≡ false) ×
     (after ≡ Some (w ++ refused_line place n (refused_text (refusal_behind offset e)))))
 refused-shown place w n offset e f text after (Ok u) is (m, same) h = (
   memory-behind offset e (rw is at m),
@@ -144,12 +134,10 @@ module _ (place : List ℕ) (showing : Showing) (limit : ℕ) where
 
     -- one more item has its line
     pub one-more-shown : (next now : Option (List ℕ)) (judged : Result Value LineRefusal) (size behind : ℕ)
-        (is_shown : Bool) → behind ≡ offset + size →
-        ((xs : List ℕ) → left ≡ Some xs →
+        (is_shown : Bool) → behind ≡ offset + size → ((xs : List ℕ) → left ≡ Some xs →
         (0 < length xs) × IsTaken (shown_spelling showing) xs limit next (Item judged size)) →
         ((s ys : List ℕ) → IsJudged (shown_spelling showing) s limit judged → kept ≡ Some ys →
-        (line : List ℕ) × IsItemLine place showing limit number offset s is_shown line ×
-        (now ≡ Some (ys ++ line))) →
+        (line : List ℕ) × IsItemLine place showing limit number offset s is_shown line × (now ≡ Some (ys ++ line))) →
         AreShownSoFar place showing limit b w next now (number + 1) behind (whole && is_shown)
     one-more-shown next now judged size behind is_shown moved read written =
         let (rest, lines, e, f, so) = so_far in
@@ -180,8 +168,7 @@ module _ (place : List ℕ) (showing : Showing) (limit : ℕ) where
 
     -- no item comes next, and the line says so
     pub none-follows : (now : Option (List ℕ)) (e : LineRefusal) →
-        ((xs : List ℕ) → left ≡ Some xs →
-        (0 < length xs) × IsTaken (shown_spelling showing) xs limit None (NoNext e)) →
+        ((xs : List ℕ) → left ≡ Some xs → (0 < length xs) × IsTaken (shown_spelling showing) xs limit None (NoNext e)) →
         ((ys : List ℕ) → kept ≡ Some ys → (wants_memory e ≡ false) ×
         (now ≡ Some (ys ++ refused_line place number (refused_text (refusal_behind offset e))))) →
         IsStreamShown place showing b limit w false now
@@ -204,7 +191,6 @@ module _ (place : List ℕ) (showing : Showing) (limit : ℕ) where
 
 -- what is shown stays so where what waits is sent, or the output is flushed
 pub shown-sent : (place : List ℕ) (showing : Showing) (b : List ℕ) (limit : ℕ) (w : List ℕ)
-    (held now : Option (List ℕ)) →
-    IsKept held now → (all : Bool) → IsStreamShown place showing b limit w all held →
-    IsStreamShown place showing b limit w all now
+    (held now : Option (List ℕ)) → IsKept held now →
+    (all : Bool) → IsStreamShown place showing b limit w all held → IsStreamShown place showing b limit w all now
 shown-sent place showing b limit w held now keeps all (lines, shows, e) = (lines, shows, keeps (w ++ lines) e)

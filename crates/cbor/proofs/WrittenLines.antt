@@ -1,12 +1,9 @@
 -- One more line is written.
 use Rattle.std.proofs.Common.{◌≡◌, ℕ, ◌<◌, ◌+◌, List, [], ◌∷◌, ◌++◌, length, get_or, map, take, flat_map, Option, Some}
-use Rattle.std.proofs.Common.{Result, Ok, Err, OnOk, sym, ap, ◌∙◌}
-use Rattle.std.proofs.lemmas.List.{append_assoc, flat_map_more, map_more}
+use Rattle.std.proofs.{Common.{Result, Ok, Err, OnOk, sym, ap, ◌∙◌}, lemmas.List.{append_assoc, flat_map_more}}
+use Rattle.std.proofs.lemmas.List.{map_more}
 use Rattle.hex.specs.Hex.{encode_lower}
-use Rattle.ciborium_value.specs.Encoding.{encoding}
-use Rattle.ciborium_value.specs.Tree.{Tree}
-use Rattle.ciborium_value.specs.View.{tree_of}
-use Rattle.ciborium_value.specs.declared.tree.Value.{Value}
+use Rattle.ciborium_value.specs.{Encoding.encoding, Tree.Tree, View.tree_of, declared.tree.Value.Value}
 use Rattle.cbor.specs.SortedLines.{hex_line}
 
 -- the lines of the values up to i are held behind w, and then that of the value at i

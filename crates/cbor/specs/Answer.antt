@@ -1,24 +1,19 @@
 -- What a line means, or why it is refused, as the program answers it, and the text of a refusal.
-use Rattle.std.specs.Prelude.{◌≡◌, ℕ, ◌+◌, ◌<◌, Bool, true, false, IsTrue, List, [], length, Option}
-use Rattle.std.specs.Prelude.{Some, Ok, IsErr, MatchResult, codes}
+use Rattle.std.specs.Prelude.{◌≡◌, ℕ, ◌+◌, ◌<◌, Bool, true, false, IsTrue, List, [], length, Option, Some, Ok, IsErr}
+use Rattle.std.specs.Prelude.{MatchResult, codes}
 use Rattle.hex.specs.Hex.{decode_of}
-use Rattle.ciborium_ll.specs.Refusal as refusal
 use Rattle.ciborium_value.specs.Tree.{Tree}
-use Rattle.ciborium.specs.declared.de.error.Error.{Error}
-use Rattle.ciborium.specs.ValueAnswers.{IsRefusedBy}
-use Rattle.cbor.specs.declared.answer.Reason.{Reason}
+use Rattle.ciborium.specs.{declared.de.error.Error.Error, ValueAnswers.IsRefusedBy}
+use Rattle.cbor.specs.{declared.answer.Reason.Reason, declared.answer.LineRefusal.LineRefusal}
+use Rattle.cbor.specs.declared.answer.LineRefusal.TheVariants.{Hex, Trailing, Io, Syntax, Semantic, Nesting, TooLong}
+use Rattle.cbor.specs.{declared.answer.LineRefusal.TheVariants.Memory, declared.reading.Spelling.Spelling}
+use Rattle.cbor.specs.{Spellings.{HasItemBefore, IsItem, RefusesItem}, Line.{hex_text, refusal_text, trailing_text}}
+use Rattle.ciborium_ll.specs.Refusal as refusal
 use Rattle.cbor.specs.declared.answer.Reason.TheVariants as reasons
-use Rattle.cbor.specs.declared.answer.LineRefusal.{LineRefusal}
-use Rattle.cbor.specs.declared.answer.LineRefusal.TheVariants.{Hex, Trailing, Io, Syntax, Semantic}
-use Rattle.cbor.specs.declared.answer.LineRefusal.TheVariants.{Nesting, TooLong, Memory}
-use Rattle.cbor.specs.declared.reading.Spelling.{Spelling}
-use Rattle.cbor.specs.Spellings.{HasItemBefore, IsItem, RefusesItem}
-use Rattle.cbor.specs.Line.{hex_text, refusal_text, trailing_text}
 
 -- a line is the hex of bytes that are one item, spelled so and within so many levels, and mean v
 abbrev pub IsMeant : Spelling → List ℕ → ℕ → Tree → Type 0
-IsMeant spelling line limit v = MatchResult (decode_of line) (λ b. IsItem spelling b limit v)
-    (λ _. ⊥)
+IsMeant spelling line limit v = MatchResult (decode_of line) (λ b. IsItem spelling b limit v) (λ _. ⊥)
 
 -- the kind that a reason is
 abbrev pub kind_of_reason : Reason → refusal.SemanticKind
@@ -44,8 +39,7 @@ IsFrontRefused spelling b limit Io = RefusesItem spelling b limit refusal.io
 IsFrontRefused spelling b limit (Syntax p) = RefusesItem spelling b limit (refusal.syntax p)
 IsFrontRefused spelling b limit (Semantic p reason) =
     RefusesItem spelling b limit (refusal.semantic p (kind_of_reason reason))
-IsFrontRefused spelling b limit Nesting = RefusesItem spelling b limit
-    refusal.recursion_limit_exceeded
+IsFrontRefused spelling b limit Nesting = RefusesItem spelling b limit refusal.recursion_limit_exceeded
 IsFrontRefused spelling b limit TooLong = RefusesItem spelling b limit refusal.too_long
 IsFrontRefused spelling b limit Memory = Unit {0}
 
@@ -53,8 +47,7 @@ IsFrontRefused spelling b limit Memory = Unit {0}
 -- then at its end or not
 abbrev pub StandsFor : {E : Type 0} → Error E → Bool → LineRefusal → Type 0
 StandsFor error is_at_end e =
-    (spelling : Spelling) (b : List ℕ) (limit : ℕ) (left : Option (List ℕ)) →
-    (IsTrue is_at_end → left ≡ Some []) →
+    (spelling : Spelling) (b : List ℕ) (limit : ℕ) (left : Option (List ℕ)) → (IsTrue is_at_end → left ≡ Some []) →
     IsRefusedBy left error (RefusesItem spelling b limit) → IsFrontRefused spelling b limit e
 
 -- b is no item: more bytes follow one, or it begins with none
@@ -66,8 +59,7 @@ AreRefused spelling b limit other = IsFrontRefused spelling b limit other
 abbrev pub IsRefused : Spelling → List ℕ → ℕ → LineRefusal → Type 0
 IsRefused spelling line limit Hex = IsErr (decode_of line)
 IsRefused spelling line limit Memory = Unit {0}
-IsRefused spelling line limit other = (b : List ℕ) × (decode_of line ≡ Ok b) ×
-    AreRefused spelling b limit other
+IsRefused spelling line limit other = (b : List ℕ) × (decode_of line ≡ Ok b) × AreRefused spelling b limit other
 
 -- what the text of a refusal begins with
 abbrev pub refusal_word : LineRefusal → List ℕ
@@ -117,5 +109,4 @@ IsHexRefused line other = ⊥
 -- the text tells why a line is no such item; want of memory is told elsewhere
 abbrev pub TellsRefusal : Spelling → List ℕ → ℕ → List ℕ → Type 0
 TellsRefusal spelling line limit text =
-    (e : LineRefusal) × IsRefused spelling line limit e × (wants_memory e ≡ false) ×
-    (text ≡ refused_text e)
+    (e : LineRefusal) × IsRefused spelling line limit e × (wants_memory e ≡ false) × (text ≡ refused_text e)

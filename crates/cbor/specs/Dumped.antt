@@ -1,23 +1,17 @@
 -- What an annotated dump of an item shows: a line for each of its heads, and then nothing, or why
 -- the bytes are no item (RFC 8949, sections 3 and 5.3.1). Texts are lists of bytes.
-use Rattle.std.specs.Prelude.{◌≡◌, ℕ, ◌+◌, ◌-◌, ◌<◌, ◌==◌, Bool, List, [], ◌∷◌, ◌++◌, length}
-use Rattle.std.specs.Prelude.{if◌then◌else◌, Option, Some, None, Result, Ok, Err, MatchResult}
-use Rattle.std.specs.Prelude.{codes, decimal}
-use Rattle.std.specs.Bool.{MatchBool}
-use Rattle.std.specs.List.{flat_map, repeat}
+use Rattle.std.specs.Prelude.{◌≡◌, ℕ, ◌+◌, ◌-◌, ◌<◌, ◌==◌, Bool, List, [], ◌∷◌, ◌++◌, length, if◌then◌else◌, Option}
+use Rattle.std.specs.{Prelude.{Some, None, Result, Ok, Err, MatchResult, codes, decimal}, Bool.MatchBool, List.flat_map}
+use Rattle.std.specs.List.{repeat}
 use Rattle.hex.specs.Hex.{decode_of, encode_lower}
-use Rattle.ciborium_ll.specs.Header.{SpellsHeader}
-use Rattle.ciborium_ll.specs.ItemLengths.{EndInside, IsNoItem}
-use Rattle.ciborium_ll.specs.Levels.{AreItem, IsPayloadOf, behind_head, incomplete}
-use Rattle.ciborium_ll.specs.declared.header.Header.{Header}
-use Rattle.ciborium_ll.specs.declared.header.Header.TheVariants as header
-use Rattle.ciborium_ll.specs.declared.item_heads.ItemHead.{ItemHead}
-use Rattle.ciborium_ll.specs.declared.item_heads.NoItem.{NoItem}
+use Rattle.ciborium_ll.specs.{Header.SpellsHeader, ItemLengths.{EndInside, IsNoItem}, Levels.{AreItem, IsPayloadOf}}
+use Rattle.ciborium_ll.specs.{Levels.{behind_head, incomplete}, declared.header.Header.Header}
+use Rattle.ciborium_ll.specs.{declared.item_heads.ItemHead.ItemHead, declared.item_heads.NoItem.NoItem}
 use Rattle.ciborium_ll.specs.declared.item_heads.NoItem.TheVariants.{Incomplete, Malformed, TooDeep}
-use Rattle.ciborium_ll.specs.declared.levels.Level.{Level}
-use Rattle.ciborium_ll.specs.declared.levels.Level.TheVariants.{Items}
+use Rattle.ciborium_ll.specs.{declared.levels.Level.Level, declared.levels.Level.TheVariants.Items}
 use Rattle.ciborium_value.specs.Notation.{quoted}
 use Rattle.cbor.specs.Line.{hex_text, trailing_text}
+use Rattle.ciborium_ll.specs.declared.header.Header.TheVariants as header
 
 -- ---- the heads of an item (RFC 8949, section 3)
 
@@ -41,16 +35,14 @@ pub record IsEntryAt (levels : List Level) (p : ℕ) (e : Entry) (more : List Le
   pub depth : e.depth ≡ length levels - 1
   pub spelled : SpellsHeader e.head e.header
   pub payload : IsPayloadOf e.header e.payload
-  pub placed : (behind : List Level) × (behind_head e.header levels ≡ Some behind) ×
-      (more ≡ incomplete behind)
+  pub placed : (behind : List Level) × (behind_head e.header levels ≡ Some behind) × (more ≡ incomplete behind)
 
 -- b begins with these heads, the first at offset p where these levels are open; behind the last
 -- others are open, and rest is left
 abbrev pub AreHeadsAt : List Level → ℕ → List ℕ → List Entry → List Level → List ℕ → Type 0
 AreHeadsAt levels p b [] open_ rest = (open_ ≡ levels) × (b ≡ rest)
-AreHeadsAt levels p b (e ∷ es) open_ rest = (more : List Level) × (left : List ℕ) ×
-    IsEntryAt levels p e more × (b ≡ entry_bytes e ++ left) ×
-    AreHeadsAt more (p + length (entry_bytes e)) left es open_ rest
+AreHeadsAt levels p b (e ∷ es) open_ rest = (more : List Level) × (left : List ℕ) × IsEntryAt levels p e more ×
+    (b ≡ entry_bytes e ++ left) × AreHeadsAt more (p + length (entry_bytes e)) left es open_ rest
 
 -- b begins with these heads of one item; behind the last these levels are open, and rest is left
 abbrev pub AreHeads : List ℕ → List Entry → List Level → List ℕ → Type 0
@@ -65,12 +57,8 @@ length_words None = codes " of indefinite length"
 
 -- a simple value by its name or its number (section 3.3)
 abbrev pub simple_words : ℕ → List ℕ
-simple_words n =
-    if n == 20 then codes "false"
-    else if n == 21 then codes "true"
-    else if n == 22 then codes "null"
-    else if n == 23 then codes "undefined"
-    else codes "simple " ++ decimal n
+simple_words n = if n == 20 then codes "false" else if n == 21 then codes "true"
+    else if n == 22 then codes "null" else if n == 23 then codes "undefined" else codes "simple " ++ decimal n
 
 -- what a head says
 abbrev pub head_words : Header → List ℕ
@@ -127,8 +115,7 @@ entry_of head = record {
 
 -- b is one item, and the text is the lines of its heads
 abbrev pub IsWholeDump : List ℕ → List ℕ → Type 0
-IsWholeDump b text = (es : List Entry) × AreItem b × AreHeads b es [] [] ×
-    (text ≡ flat_map line_of es)
+IsWholeDump b text = (es : List Entry) × AreItem b × AreHeads b es [] [] × (text ≡ flat_map line_of es)
 
 -- the reason shows at offset p, where r follows: no head there is whole, or its place is named
 abbrev pub ShowsAt : ℕ → List ℕ → NoItem → Type 0
@@ -139,13 +126,11 @@ ShowsAt p r (TooDeep q) = q ≡ p
 -- b is no item: behind the lines of the heads in order the text says why
 pub data IsBrokenDump (b : List ℕ) (text : List ℕ) : Type 0 where
   -- an item is at the front, and more bytes follow it
-  trailing : (es : List Entry) (s rest : List ℕ) → AreItem s → b ≡ s ++ rest →
-      AreHeads b es [] rest → 0 < length rest →
-      text ≡ flat_map line_of es ++ trailing_text (length rest) → IsBrokenDump b text
+  trailing : (es : List Entry) (s rest : List ℕ) → AreItem s → b ≡ s ++ rest → AreHeads b es [] rest →
+      0 < length rest → text ≡ flat_map line_of es ++ trailing_text (length rest) → IsBrokenDump b text
   -- none is at the front, and this shows right behind the heads
   none : (es : List Entry) (open_ : List Level) (rest : List ℕ) (e : NoItem) →
-      AreHeads b es open_ rest → IsNoItem b e →
-      ShowsAt (length (flat_map entry_bytes es)) rest e →
+      AreHeads b es open_ rest → IsNoItem b e → ShowsAt (length (flat_map entry_bytes es)) rest e →
       text ≡ flat_map line_of es ++ reason_text e → IsBrokenDump b text
 
 -- the text is the dump of b, and says whether b is one item
@@ -158,14 +143,12 @@ IsDumpText line text = MatchResult (decode_of line) (λ b. IsWholeDump b text) (
 
 -- a line is no such hex, and the text tells why: `hex` where it is not an even number of hex digits
 abbrev pub TellsNoDump : List ℕ → List ℕ → Type 0
-TellsNoDump line text = MatchResult (decode_of line) (λ b. IsBrokenDump b text)
-    (λ _. text ≡ hex_text)
+TellsNoDump line text = MatchResult (decode_of line) (λ b. IsBrokenDump b text) (λ _. text ≡ hex_text)
 
 -- the text is the lines of the heads of b, and the answer is how many bytes follow the item, or why
 -- there is none
 abbrev pub AreLinesOf : List ℕ → Result ℕ NoItem → List ℕ → Type 0
 AreLinesOf b (Ok n) text = (es : List Entry) × (s : List ℕ) × (rest : List ℕ) × AreItem s ×
     (b ≡ s ++ rest) × AreHeads b es [] rest × (n ≡ length rest) × (text ≡ flat_map line_of es)
-AreLinesOf b (Err e) text = (es : List Entry) × (open_ : List Level) × (rest : List ℕ) ×
-    AreHeads b es open_ rest × IsNoItem b e ×
-    ShowsAt (length (flat_map entry_bytes es)) rest e × (text ≡ flat_map line_of es)
+AreLinesOf b (Err e) text = (es : List Entry) × (open_ : List Level) × (rest : List ℕ) × AreHeads b es open_ rest ×
+    IsNoItem b e × ShowsAt (length (flat_map entry_bytes es)) rest e × (text ≡ flat_map line_of es)

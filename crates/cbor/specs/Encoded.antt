@@ -1,12 +1,9 @@
 -- What the program answers to a line of diagnostic notation (RFC 8949, section 8). Texts are lists
 -- of bytes.
-use Rattle.std.specs.Prelude.{◌≡◌, ◌⊎◌, ℕ, List, ◌++◌, codes, decimal}
-use Rattle.std.specs.Str.{IsValidUpTo}
+use Rattle.std.specs.{Prelude.{◌≡◌, ◌⊎◌, ℕ, List, ◌++◌, codes, decimal}, Str.IsValidUpTo}
 use Rattle.hex.specs.Hex.{encode_lower}
-use Rattle.ciborium_value.specs.Denotes.{DenotesWithin, MayRefuse}
-use Rattle.ciborium_value.specs.Encoding.{encoding}
-use Rattle.ciborium_value.specs.RefusalMessages.{notation_error_message}
-use Rattle.ciborium_value.specs.Tree.{Tree}
+use Rattle.ciborium_value.specs.{Denotes.{DenotesWithin, MayRefuse}, Encoding.encoding}
+use Rattle.ciborium_value.specs.{RefusalMessages.notation_error_message, Tree.Tree}
 use Rattle.ciborium_value.specs.declared.from_notation.error.NotationError.{NotationError}
 use Rattle.ciborium_value.specs.declared.from_notation.error.NotationError.TheVariants.{At}
 use Rattle.ciborium_value.specs.declared.from_notation.error.NotationFault.{NotationFault}
@@ -14,8 +11,7 @@ use Rattle.ciborium_value.specs.declared.from_notation.error.NotationFault.{Nota
 -- a line denotes a tree within so many levels, and the text is its encoding in lower-case hex
 -- (section 4.1)
 abbrev pub IsEncodingText : ℕ → List ℕ → List ℕ → Type 0
-IsEncodingText limit line text = (v : Tree) × DenotesWithin limit line v ×
-    (text ≡ encode_lower (encoding v))
+IsEncodingText limit line text = (v : Tree) × DenotesWithin limit line v × (text ≡ encode_lower (encoding v))
 
 -- this error refuses a line within so many levels: however many it denotes a tree within
 abbrev pub RefusesLine : ℕ → List ℕ → NotationError → Type 0
@@ -28,7 +24,5 @@ not_utf8_text n = codes "not UTF-8 at byte " ++ decimal n
 -- a line is refused, and the text is the message of the error, or it is not UTF-8, and the text
 -- says where
 abbrev pub TellsNoTree : ℕ → List ℕ → List ℕ → Type 0
-TellsNoTree limit line text =
-    ((p : ℕ) × (fault : NotationFault) × RefusesLine limit line (At p fault) ×
-    (text ≡ notation_error_message (At p fault))) ⊎
-    ((n : ℕ) × IsValidUpTo line n × (text ≡ not_utf8_text n))
+TellsNoTree limit line text = ((p : ℕ) × (fault : NotationFault) × RefusesLine limit line (At p fault) ×
+    (text ≡ notation_error_message (At p fault))) ⊎ ((n : ℕ) × IsValidUpTo line n × (text ≡ not_utf8_text n))

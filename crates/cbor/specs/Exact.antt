@@ -1,40 +1,29 @@
 -- Diagnostic notation that shows the very heads of an item: indefinite lengths, heads that are not
 -- the shortest, floats and all simple values (RFC 8949, sections 8 and 8.1). Texts are lists of
 -- bytes.
-use Rattle.std.specs.Prelude.{◌≡◌, ℕ, suc, ◌+◌, ◌^◌, ◌%◌, ◌<◌, ◌==◌, ◌&&◌, Bool, true, false, List}
-use Rattle.std.specs.Prelude.{[], ◌∷◌, ◌++◌, length, if◌then◌else◌, nat_lt, MatchResult, codes}
-use Rattle.std.specs.Prelude.{decimal, None, Some}
-use Rattle.std.specs.Bool.{MatchBool}
+use Rattle.std.specs.Prelude.{◌≡◌, ℕ, suc, ◌+◌, ◌^◌, ◌%◌, ◌<◌, ◌==◌, ◌&&◌, Bool, true, false, List, [], ◌∷◌, ◌++◌}
+use Rattle.std.specs.{Prelude.{length, if◌then◌else◌, nat_lt, MatchResult, codes, decimal, None, Some}, Bool.MatchBool}
 use Rattle.hex.specs.Hex.{decode_of, encode_lower}
-use Rattle.ciborium_ll.specs.Head.{IsFloat, IsHead, IsSimple, break_byte, open_byte}
-use Rattle.ciborium_ll.specs.ItemHeads.{HasRead, open_in, unread}
-use Rattle.ciborium_ll.specs.ItemLengths.{IsNoItem}
-use Rattle.ciborium_ll.specs.Levels.{AreItem, incomplete}
+use Rattle.ciborium_ll.specs.{Head.{IsFloat, IsHead, IsSimple, break_byte, open_byte}, ItemHeads.{HasRead, open_in}}
+use Rattle.ciborium_ll.specs.{ItemHeads.unread, ItemLengths.IsNoItem, Levels.{AreItem, incomplete}}
 use Rattle.ciborium_ll.specs.StringRefusal.{IsAllowed, StringKind, of_bytes, of_text, string_major}
-use Rattle.ciborium_ll.specs.declared.header.Header.{Header}
-use Rattle.ciborium_ll.specs.declared.header.Header.TheVariants as header
-use Rattle.ciborium_ll.specs.declared.levels.Level.{Level}
-use Rattle.ciborium_ll.specs.declared.levels.Level.TheVariants as level
-use Rattle.ciborium_ll.specs.declared.item_heads.ItemHead.{ItemHead}
-use Rattle.ciborium_ll.specs.declared.item_heads.ItemHeads.{ItemHeads}
-use Rattle.ciborium_ll.specs.declared.item_heads.NoItem as reasons
+use Rattle.ciborium_ll.specs.{declared.header.Header.Header, declared.levels.Level.Level}
+use Rattle.ciborium_ll.specs.{declared.item_heads.ItemHead.ItemHead, declared.item_heads.ItemHeads.ItemHeads}
 use Rattle.ciborium_value.specs.Notation.{quoted}
-use Rattle.cbor.specs.declared.exact.Unshown.{Unshown}
-use Rattle.cbor.specs.declared.exact.Unshown.TheVariants.{NoItem, Memory}
-use Rattle.cbor.specs.Dumped.{reason_text}
-use Rattle.cbor.specs.Line.{hex_text, trailing_text}
+use Rattle.cbor.specs.{declared.exact.Unshown.Unshown, declared.exact.Unshown.TheVariants.{NoItem, Memory}}
+use Rattle.cbor.specs.{Dumped.reason_text, Line.{hex_text, trailing_text}}
+use Rattle.ciborium_ll.specs.declared.header.Header.TheVariants as header
+use Rattle.ciborium_ll.specs.declared.levels.Level.TheVariants as level
+use Rattle.ciborium_ll.specs.declared.item_heads.NoItem as reasons
 
 -- ---- encoding indicators (section 8.1)
 
 -- behind what a head of so many bytes with argument n says: nothing where no shorter head has it,
 -- and else an underscore and i, where its additional information is 24 + i
 abbrev pub mark : ℕ → ℕ → List ℕ
-mark size n =
-    if size == 2 && nat_lt n 24 then codes "_0"
-    else if size == 3 && nat_lt n (2 ^ 8) then codes "_1"
-    else if size == 5 && nat_lt n (2 ^ 16) then codes "_2"
-    else if size == 9 && nat_lt n (2 ^ 32) then codes "_3"
-    else []
+mark size n = if size == 2 && nat_lt n 24 then codes "_0"
+    else if size == 3 && nat_lt n (2 ^ 8) then codes "_1" else if size == 5 && nat_lt n (2 ^ 16) then codes "_2"
+    else if size == 9 && nat_lt n (2 ^ 32) then codes "_3" else []
 
 -- behind a bracket that opens, a space follows it
 abbrev pub spaced : List ℕ → List ℕ
@@ -50,17 +39,13 @@ payload_text of_text payload = quoted payload
 
 -- b is a definite string, and the text shows it
 abbrev pub IsStringExactly : StringKind → List ℕ → List ℕ → Type 0
-IsStringExactly kind b text = (h : List ℕ) × (payload : List ℕ) ×
-    IsHead h (string_major kind) (length payload) × IsAllowed kind payload × (b ≡ h ++ payload) ×
-    (text ≡ payload_text kind payload ++ mark (length h) (length payload))
+IsStringExactly kind b text = (h : List ℕ) × (payload : List ℕ) × IsHead h (string_major kind) (length payload) ×
+    IsAllowed kind payload × (b ≡ h ++ payload) × (text ≡ payload_text kind payload ++ mark (length h) (length payload))
 
 -- what stands before a part that n others precede: nothing before the first, a comma before each
 -- other, but in a map a colon before the value of a key
 abbrev pub lead : Bool → ℕ → List ℕ
-lead is_map n =
-    if n == 0 then []
-    else if is_map && (n % 2 == 1) then codes ": "
-    else codes ", "
+lead is_map n = if n == 0 then [] else if is_map && (n % 2 == 1) then codes ": " else codes ", "
 
 -- b are n definite strings in a row, the parts of an open one, and the text shows them
 pub data AreChunksExactly (kind : StringKind) : ℕ → List ℕ → List ℕ → Type 0 where
@@ -81,12 +66,8 @@ open_text kind n t = if n == 0 then empty_text kind else codes "(_ " ++ (t ++ co
 
 -- a simple value by its name or its number (section 3.3)
 abbrev pub simple_text : ℕ → List ℕ
-simple_text n =
-    if n == 20 then codes "false"
-    else if n == 21 then codes "true"
-    else if n == 22 then codes "null"
-    else if n == 23 then codes "undefined"
-    else codes "simple(" ++ (decimal n ++ codes ")")
+simple_text n = if n == 20 then codes "false" else if n == 21 then codes "true" else if n == 22 then codes "null"
+    else if n == 23 then codes "undefined" else codes "simple(" ++ (decimal n ++ codes ")")
 
 -- b between the initial byte of an open item and the break (section 3.2)
 abbrev pub opened : ℕ → List ℕ → List ℕ
@@ -95,10 +76,8 @@ opened major b = open_byte major ∷ (b ++ (break_byte ∷ []))
 mutual
   -- b is one item, and the text shows it
   pub data IsExactly : List ℕ → List ℕ → Type 0 where
-    unsigned : (h : List ℕ) (n : ℕ) → IsHead h 0 n →
-        IsExactly h (decimal n ++ mark (length h) n)
-    negative : (h : List ℕ) (n : ℕ) → IsHead h 1 n →
-        IsExactly h (codes "-" ++ (decimal (n + 1) ++ mark (length h) n))
+    unsigned : (h : List ℕ) (n : ℕ) → IsHead h 0 n → IsExactly h (decimal n ++ mark (length h) n)
+    negative : (h : List ℕ) (n : ℕ) → IsHead h 1 n → IsExactly h (codes "-" ++ (decimal (n + 1) ++ mark (length h) n))
     string : (kind : StringKind) (b t : List ℕ) → IsStringExactly kind b t → IsExactly b t
     open_string : (kind : StringKind) (n : ℕ) (b t : List ℕ) → AreChunksExactly kind n b t →
         IsExactly (opened (string_major kind) b) (open_text kind n t)
@@ -110,12 +89,10 @@ mutual
         IsExactly (h ++ b) (codes "{" ++ (spaced (mark (length h) n) ++ (t ++ codes "}")))
     open_map : (n : ℕ) (b t : List ℕ) → AreExactly true (n + n) b t →
         IsExactly (opened 5 b) (codes "{_ " ++ (t ++ codes "}"))
-    tag : (h : List ℕ) (n : ℕ) (b t : List ℕ) → IsHead h 6 n → IsExactly b t →
-        IsExactly (h ++ b)
-        (decimal n ++ (mark (length h) n ++ (codes "(" ++ (t ++ codes ")"))))
+    tag : (h : List ℕ) (n : ℕ) (b t : List ℕ) → IsHead h 6 n →
+        IsExactly b t → IsExactly (h ++ b) (decimal n ++ (mark (length h) n ++ (codes "(" ++ (t ++ codes ")"))))
     simple : (h : List ℕ) (n : ℕ) → IsSimple h n → IsExactly h (simple_text n)
-    float : (h raw : List ℕ) → IsFloat h raw →
-        IsExactly h (codes "float'" ++ (encode_lower raw ++ codes "'"))
+    float : (h raw : List ℕ) → IsFloat h raw → IsExactly h (codes "float'" ++ (encode_lower raw ++ codes "'"))
 
   -- b are n items in a row, of an array or, keys and values in turn, of a map, and the text shows
   -- them
@@ -148,8 +125,7 @@ IsExactText line text = MatchResult (decode_of line) (λ b. IsWholeExactly b tex
 
 -- a line is no such hex, and the text tells why: `hex` where it is not an even number of hex digits
 abbrev pub TellsNotExact : List ℕ → List ℕ → Type 0
-TellsNotExact line text = MatchResult (decode_of line) (λ b. TellsNoItem b text)
-    (λ _. text ≡ hex_text)
+TellsNotExact line text = MatchResult (decode_of line) (λ b. TellsNoItem b text) (λ _. text ≡ hex_text)
 
 -- ---- steps of reading and writing
 
@@ -198,8 +174,7 @@ chunk_level is_text = if is_text then level.TextChunks else level.ByteChunks
 
 -- the level in an open array or map behind so many parts
 abbrev pub open_level : Bool → ℕ → Level
-open_level is_map n =
-    if is_map then (if n % 2 == 1 then level.OpenValues else level.OpenKeys) else level.OpenItems
+open_level is_map n = if is_map then (if n % 2 == 1 then level.OpenValues else level.OpenKeys) else level.OpenItems
 
 -- the levels behind the head of an item that stands where these are left behind it
 abbrev pub behind_begun : Header → List Level → List Level

@@ -1,17 +1,12 @@
 -- What is written for a stream of items as bytes (RFC 8742) that are shown by the notation of their
 -- very heads. Texts are lists of bytes.
-use Rattle.std.specs.Prelude.{◌≡◌, ℕ, ◌+◌, ◌<◌, ◌≤◌, Bool, true, false, List, [], ◌++◌, length}
-use Rattle.std.specs.Prelude.{take, drop, Option, Some}
-use Rattle.ciborium_ll.specs.ItemLengths.{IsNoItem}
-use Rattle.ciborium_ll.specs.Levels.{AreItem}
-use Rattle.ciborium_ll.specs.declared.item_heads.NoItem.{NoItem}
+use Rattle.std.specs.Prelude.{◌≡◌, ℕ, ◌+◌, ◌<◌, ◌≤◌, Bool, true, false, List, [], ◌++◌, length, take, drop, Option}
+use Rattle.std.specs.Prelude.{Some}
+use Rattle.ciborium_ll.specs.{ItemLengths.IsNoItem, Levels.AreItem, declared.item_heads.NoItem.NoItem}
 use Rattle.ciborium_ll.specs.declared.item_heads.NoItem.TheVariants.{Incomplete, Malformed, TooDeep}
-use Rattle.cbor.specs.declared.exact_streams.Next.{Next}
-use Rattle.cbor.specs.declared.exact_streams.Next.TheVariants as next
-use Rattle.cbor.specs.Dumped.{reason_text}
-use Rattle.cbor.specs.Exact.{IsExactly}
-use Rattle.cbor.specs.Lines.{text_line}
+use Rattle.cbor.specs.{declared.exact_streams.Next.Next, Dumped.reason_text, Exact.IsExactly, Lines.text_line}
 use Rattle.cbor.specs.Streams.{refused_line}
+use Rattle.cbor.specs.declared.exact_streams.Next.TheVariants as next
 
 -- a reason, with its offset counted from so many bytes before
 abbrev pub reason_behind : ℕ → NoItem → NoItem
@@ -30,8 +25,7 @@ pub data AreExactLines (place : List ℕ) : ℕ → ℕ → List ℕ → Bool �
       AreExactLines place number offset (s ++ left) all (text_line text ++ lines)
   -- no well-formed item of at most 256 levels stands at the front: that is the end
   no_item : (number offset : ℕ) (b : List ℕ) (why : NoItem) → 0 < length b → IsNoItem b why →
-      AreExactLines place number offset b false
-      (refused_line place number (reason_text (reason_behind offset why)))
+      AreExactLines place number offset b false (refused_line place number (reason_text (reason_behind offset why)))
 
 -- the stream b is shown so behind w, and nothing else is written
 abbrev pub IsShownExactly : List ℕ → List ℕ → List ℕ → Bool → Option (List ℕ) → Type 0
@@ -40,12 +34,10 @@ IsShownExactly place b w all after = (lines : List ℕ) × AreExactLines place 1
 
 -- an item of so many bytes begins b, and the text shows it
 abbrev pub IsFrontExactly : List ℕ → ℕ → List ℕ → Type 0
-IsFrontExactly b size text = (size ≤ length b) × AreItem (take size b) ×
-    IsExactly (take size b) text
+IsFrontExactly b size text = (size ≤ length b) × AreItem (take size b) × IsExactly (take size b) text
 
 -- of the bytes b an item was taken, which the text shows, or none stands at their front
 abbrev pub IsNextExactly : List ℕ → Option (List ℕ) → List ℕ → Next → Type 0
 IsNextExactly b after text next.End = b ≡ []
-IsNextExactly b after text (next.Item size) = IsFrontExactly b size text ×
-    (after ≡ Some (drop size b))
+IsNextExactly b after text (next.Item size) = IsFrontExactly b size text × (after ≡ Some (drop size b))
 IsNextExactly b after text (next.NoItem why) = (0 < length b) × IsNoItem b why

@@ -1,11 +1,9 @@
 -- Files by name: which bytes their names stand for, and what is written for them, one after the
 -- other.
-use Rattle.std.specs.Prelude.{◌≡◌, ℕ, ◌==◌, ◌&&◌, Bool, true, List, [], ◌∷◌, ◌++◌, length, get_or}
-use Rattle.std.specs.Prelude.{if◌then◌else◌, Option, Some, None, codes}
-use Rattle.cbor.specs.declared.command.Command.{Command}
-use Rattle.cbor.specs.declared.command.Command.TheVariants.{Show, ShowExactly, Dump}
-use Rattle.cbor.specs.ExactStreams.{IsShownExactly}
-use Rattle.cbor.specs.Streams.{IsDumpedBehind, IsStreamShown}
+use Rattle.std.specs.Prelude.{◌≡◌, ℕ, ◌==◌, ◌&&◌, Bool, true, List, [], ◌∷◌, ◌++◌, length, get_or, if◌then◌else◌}
+use Rattle.std.specs.Prelude.{Option, Some, None, codes}
+use Rattle.cbor.specs.{declared.command.Command.Command, declared.command.Command.TheVariants.{Show, ShowExactly, Dump}}
+use Rattle.cbor.specs.{ExactStreams.IsShownExactly, Streams.{IsDumpedBehind, IsStreamShown}}
 
 -- a name, and the bytes that it stands for
 abbrev pub Input : Type 0
@@ -27,13 +25,11 @@ left_by input name = if is_input name then None else input
 -- in order, the names stand for these bytes
 abbrev pub AreInputs : (List ℕ → Option (List ℕ)) → Option (List ℕ) → List Input → Type 0
 AreInputs held input [] = Unit {0}
-AreInputs held input (i ∷ inputs) = (given_by held input i.0 ≡ Some i.1) ×
-    AreInputs held (left_by input i.0) inputs
+AreInputs held input (i ∷ inputs) = (given_by held input i.0 ≡ Some i.1) × AreInputs held (left_by input i.0) inputs
 
 -- what is written for an input by a command that takes files
 abbrev pub IsInputShown : Command → Input → List ℕ → Bool → Option (List ℕ) → Type 0
-IsInputShown (Show showing limit) i w all after =
-    IsStreamShown (i.0 ++ codes ": ") showing i.1 limit w all after
+IsInputShown (Show showing limit) i w all after = IsStreamShown (i.0 ++ codes ": ") showing i.1 limit w all after
 IsInputShown ShowExactly i w all after = IsShownExactly (i.0 ++ codes ": ") i.1 w all after
 IsInputShown Dump i w all after = IsDumpedBehind i.1 w all after
 IsInputShown other i w all after = ⊥
@@ -44,8 +40,7 @@ pub data AreInputsShown (command : Command) (w : List ℕ) : List Input → Bool
   where
     none : AreInputsShown command w [] true w
     next : (inputs : List Input) (i : Input) (all one : Bool) (before after : List ℕ) →
-        AreInputsShown command w inputs all before →
-        IsInputShown command i before one (Some after) →
+        AreInputsShown command w inputs all before → IsInputShown command i before one (Some after) →
         AreInputsShown command w (inputs ++ (i ∷ [])) (all && one) after
 
 -- so are those of these names, where their bytes are known, and nothing else is written

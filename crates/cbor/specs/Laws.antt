@@ -1,19 +1,12 @@
 -- What holds of the answers to lines.
-use Rattle.std.specs.Prelude.{◌≡◌, ◌≢◌, ℕ, List, [], ◌++◌}
-use Rattle.std.specs.List.{flat_map}
+use Rattle.std.specs.{Prelude.{◌≡◌, ◌≢◌, ℕ, List, [], ◌++◌}, List.flat_map}
 use Rattle.hex.specs.Hex.{encode_lower}
 use Rattle.ciborium_ll.specs.declared.levels.Level.{Level}
-use Rattle.ciborium_value.specs.Tree.{Tree}
-use Rattle.ciborium_value.specs.declared.key_order.KeyOrder.{KeyOrder}
-use Rattle.cbor.specs.declared.answer.LineRefusal.{LineRefusal}
-use Rattle.cbor.specs.declared.answer.LineRefusal.TheVariants.{Memory}
-use Rattle.cbor.specs.declared.reading.Layout.{Layout}
-use Rattle.cbor.specs.declared.reading.Spelling.{Spelling}
-use Rattle.cbor.specs.Answer.{IsRefused, IsMeant, refused_text}
-use Rattle.cbor.specs.Dumped.{AreHeads, Entry, IsWholeDump, entry_bytes, hex_column}
-use Rattle.cbor.specs.Forms.{IsFormAnswer}
-use Rattle.cbor.specs.Line.{IsLineAnswer, tree_text}
-use Rattle.cbor.specs.Sequence.{IsSequenceAnswer}
+use Rattle.ciborium_value.specs.{Tree.Tree, declared.key_order.KeyOrder.KeyOrder}
+use Rattle.cbor.specs.{declared.answer.LineRefusal.LineRefusal, declared.answer.LineRefusal.TheVariants.Memory}
+use Rattle.cbor.specs.{declared.reading.Layout.Layout, declared.reading.Spelling.Spelling, Answer.{IsRefused, IsMeant}}
+use Rattle.cbor.specs.{Answer.refused_text, Dumped.{AreHeads, Entry, IsWholeDump, entry_bytes, hex_column}}
+use Rattle.cbor.specs.{Forms.IsFormAnswer, Line.{IsLineAnswer, tree_text}, Sequence.IsSequenceAnswer}
 use Rattle.cbor.specs.Shown.{IsNotationAnswer}
 
 -- each line has an answer, however items may be spelled, within any number of levels
@@ -23,10 +16,8 @@ IsAnswered = (spelling : Spelling) (line : List ℕ) (limit : ℕ) → (answer :
 
 -- and no other
 abbrev pub OneAnswerToLine : Type 0
-OneAnswerToLine =
-    (spelling : Spelling) (line : List ℕ) (limit : ℕ) (a b : List ℕ) →
-    IsLineAnswer spelling line limit a → IsLineAnswer spelling line limit b →
-    a ≡ b
+OneAnswerToLine = (spelling : Spelling) (line : List ℕ) (limit : ℕ) (a b : List ℕ) →
+    IsLineAnswer spelling line limit a → IsLineAnswer spelling line limit b → a ≡ b
 
 -- a line that means a tree is answered by the text of the tree
 abbrev pub ItemIsAnswered : Type 0
@@ -35,22 +26,17 @@ ItemIsAnswered = (spelling : Spelling) (line : List ℕ) (limit : ℕ) (v : Tree
 
 -- a line that is refused, but not for memory, is answered by the text of the refusal
 abbrev pub RefusalIsAnswered : Type 0
-RefusalIsAnswered =
-    (spelling : Spelling) (line : List ℕ) (limit : ℕ) (e : LineRefusal) → e ≢ Memory →
-    IsRefused spelling line limit e →
-    IsLineAnswer spelling line limit (refused_text e)
+RefusalIsAnswered = (spelling : Spelling) (line : List ℕ) (limit : ℕ) (e : LineRefusal) →
+    e ≢ Memory → IsRefused spelling line limit e → IsLineAnswer spelling line limit (refused_text e)
 
 -- and means no tree
 abbrev pub RefusedMeansNothing : Type 0
-RefusedMeansNothing =
-    (spelling : Spelling) (line : List ℕ) (limit : ℕ) (e : LineRefusal) (v : Tree) → e ≢ Memory →
-    IsRefused spelling line limit e →
-    ¬ IsMeant spelling line limit v
+RefusedMeansNothing = (spelling : Spelling) (line : List ℕ) (limit : ℕ) (e : LineRefusal) (v : Tree) →
+    e ≢ Memory → IsRefused spelling line limit e → ¬ IsMeant spelling line limit v
 
 -- each line that is read as a sequence has an answer, within any number of levels
 abbrev pub IsSequenceAnswered : Type 0
-IsSequenceAnswered = (line : List ℕ) (limit : ℕ) → (answer : List ℕ) ×
-    IsSequenceAnswer line limit answer
+IsSequenceAnswered = (line : List ℕ) (limit : ℕ) → (answer : List ℕ) × IsSequenceAnswer line limit answer
 
 -- and no other
 abbrev pub OneSequenceAnswer : Type 0
@@ -65,8 +51,7 @@ IsFormAnswered = (order : KeyOrder) (line : List ℕ) (limit : ℕ) → (answer 
 
 -- and no other
 abbrev pub OneFormAnswer : Type 0
-OneFormAnswer =
-    (order : KeyOrder) (line : List ℕ) (limit : ℕ) (a b : List ℕ) →
+OneFormAnswer = (order : KeyOrder) (line : List ℕ) (limit : ℕ) (a b : List ℕ) →
     IsFormAnswer order line limit a → IsFormAnswer order line limit b → a ≡ b
 
 -- each line has an answer by the notation of its item, in either layout and within any number of
@@ -77,21 +62,17 @@ IsNotationAnswered = (layout : Layout) (line : List ℕ) (limit : ℕ) → (answ
 
 -- and no other
 abbrev pub OneNotationAnswer : Type 0
-OneNotationAnswer =
-    (layout : Layout) (line : List ℕ) (limit : ℕ) (a b : List ℕ) →
-    IsNotationAnswer layout line limit a → IsNotationAnswer layout line limit b →
-    a ≡ b
+OneNotationAnswer = (layout : Layout) (line : List ℕ) (limit : ℕ) (a b : List ℕ) →
+    IsNotationAnswer layout line limit a → IsNotationAnswer layout line limit b → a ≡ b
 
 -- the bytes of the heads and payloads of a dump, and what is left behind them, are the bytes
 abbrev pub DumpKeepsBytes : Type 0
-DumpKeepsBytes =
-    (b : List ℕ) (es : List Entry) (levels : List Level) (rest : List ℕ) →
+DumpKeepsBytes = (b : List ℕ) (es : List Entry) (levels : List Level) (rest : List ℕ) →
     AreHeads b es levels rest → flat_map entry_bytes es ++ rest ≡ b
 
 -- the hex columns of the dump of an item are its hex
 abbrev pub DumpKeepsHex : Type 0
-DumpKeepsHex = (b : List ℕ) (es : List Entry) → AreHeads b es [] [] →
-    flat_map hex_column es ≡ encode_lower b
+DumpKeepsHex = (b : List ℕ) (es : List Entry) → AreHeads b es [] [] → flat_map hex_column es ≡ encode_lower b
 
 -- an item has one dump
 abbrev pub OneDumpOfItem : Type 0

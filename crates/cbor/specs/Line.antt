@@ -1,13 +1,10 @@
 -- What the program answers to a line of hex. Texts are lists of bytes.
 use Rattle.std.specs.Prelude.{◌≡◌, ℕ, ◌<◌, List, ◌++◌, length, MatchResult, codes, decimal}
 use Rattle.hex.specs.Hex.{decode_of, encode_lower}
-use Rattle.ciborium_ll.specs.Refusal.{SemanticKind, Float, Simple, Break, TooLarge, NotShortest}
-use Rattle.ciborium_ll.specs.Refusal.{NotFolded, KeyOrder, Refusal, io, syntax, too_long, semantic}
-use Rattle.ciborium_ll.specs.Refusal.{Open, recursion_limit_exceeded}
-use Rattle.ciborium_value.specs.Encoding.{encoding}
-use Rattle.ciborium_value.specs.Tree.{Tree}
-use Rattle.cbor.specs.declared.reading.Spelling.{Spelling}
-use Rattle.cbor.specs.Spellings.{HasItemBefore, IsItem, RefusesItem}
+use Rattle.ciborium_ll.specs.Refusal.{SemanticKind, Float, Simple, Break, TooLarge, NotShortest, NotFolded, KeyOrder}
+use Rattle.ciborium_ll.specs.Refusal.{Refusal, io, syntax, too_long, semantic, Open, recursion_limit_exceeded}
+use Rattle.ciborium_value.specs.{Encoding.encoding, Tree.Tree}
+use Rattle.cbor.specs.{declared.reading.Spelling.Spelling, Spellings.{HasItemBefore, IsItem, RefusesItem}}
 
 -- why an item has no meaning, in a word
 abbrev pub kind_text : SemanticKind → List ℕ
@@ -44,15 +41,12 @@ hex_text = codes "hex"
 -- section 5.3)
 pub data HasAnswer (spelling : Spelling) (b : List ℕ) (limit : ℕ) (answer : List ℕ) : Type 0 where
   -- all of b is an item
-  good : (v : Tree) → IsItem spelling b limit v → answer ≡ tree_text v →
-      HasAnswer spelling b limit answer
+  good : (v : Tree) → IsItem spelling b limit v → answer ≡ tree_text v → HasAnswer spelling b limit answer
   -- an item is at the front, and more bytes follow it
-  trailing : (v : Tree) (left : List ℕ) → HasItemBefore spelling b limit v left → 0 < length left →
-      answer ≡ trailing_text (length left) →
-      HasAnswer spelling b limit answer
+  trailing : (v : Tree) (left : List ℕ) → HasItemBefore spelling b limit v left →
+      0 < length left → answer ≡ trailing_text (length left) → HasAnswer spelling b limit answer
   -- b is refused
-  refused : (e : Refusal) → RefusesItem spelling b limit e → answer ≡ refusal_text e →
-      HasAnswer spelling b limit answer
+  refused : (e : Refusal) → RefusesItem spelling b limit e → answer ≡ refusal_text e → HasAnswer spelling b limit answer
 
 -- the text answers a line: its bytes, or `hex` where it is not an even number of hex digits
 abbrev pub IsLineAnswer : Spelling → List ℕ → ℕ → List ℕ → Type 0

@@ -1,24 +1,15 @@
 -- Lines of the input, and what is written where each is an item, a sequence, or an item that has a
 -- form.
-use Rattle.std.specs.Prelude.{◌≡◌, ◌⊎◌, ℕ, ◌<◌, ◌==◌, Bool, false, List, [], ◌∷◌, ◌++◌, length}
-use Rattle.std.specs.Prelude.{codes, Option, Some}
-use Rattle.std.specs.Bool.{MatchBool}
-use Rattle.std.specs.List.{flat_map, list_all, list_any}
-use Rattle.std.specs.Io.BufRead.{first_piece, drop_through, strip_last}
+use Rattle.std.specs.Prelude.{◌≡◌, ◌⊎◌, ℕ, ◌<◌, ◌==◌, Bool, false, List, [], ◌∷◌, ◌++◌, length, codes, Option, Some}
+use Rattle.std.specs.{Bool.MatchBool, List.{flat_map, list_all, list_any}, Io.BufRead.{first_piece, drop_through}}
+use Rattle.std.specs.Io.BufRead.{strip_last}
 use Rattle.ciborium_value.specs.Tree.{Tree}
-use Rattle.cbor.specs.declared.reading.Reading.{Reading}
-use Rattle.cbor.specs.declared.reading.Reading.TheVariants.{Item, Sequence, Form, Notation}
-use Rattle.cbor.specs.declared.reading.Reading.TheVariants.{Dump, Encode, Exact}
-use Rattle.cbor.specs.declared.reading.Spelling.{Spelling}
-use Rattle.cbor.specs.declared.reading.Spelling.TheVariants.{Any}
-use Rattle.cbor.specs.Answer.{IsMeant, TellsRefusal}
-use Rattle.cbor.specs.Dumped.{IsDumpText, TellsNoDump}
-use Rattle.cbor.specs.Encoded.{IsEncodingText, TellsNoTree}
-use Rattle.cbor.specs.Exact.{IsExactText, TellsNotExact}
-use Rattle.cbor.specs.Forms.{IsFormText, TellsNoForm}
-use Rattle.cbor.specs.Line.{tree_text}
-use Rattle.cbor.specs.Sequence.{IsSequenceText, TellsNoSequence}
-use Rattle.cbor.specs.Shown.{IsNotationText}
+use Rattle.cbor.specs.{declared.reading.Reading.Reading, declared.reading.Reading.TheVariants.{Item, Sequence, Form}}
+use Rattle.cbor.specs.declared.reading.Reading.TheVariants.{Notation, Dump, Encode, Exact}
+use Rattle.cbor.specs.{declared.reading.Spelling.Spelling, declared.reading.Spelling.TheVariants.Any, Answer.IsMeant}
+use Rattle.cbor.specs.{Answer.TellsRefusal, Dumped.{IsDumpText, TellsNoDump}, Encoded.{IsEncodingText, TellsNoTree}}
+use Rattle.cbor.specs.{Exact.{IsExactText, TellsNotExact}, Forms.{IsFormText, TellsNoForm}, Line.tree_text}
+use Rattle.cbor.specs.{Sequence.{IsSequenceText, TellsNoSequence}, Shown.IsNotationText}
 
 -- the first line of b: what stands before the first line feed, or all of b, without one carriage
 -- return at its end
@@ -31,20 +22,17 @@ pub data AreLines {V : Type 0} (Is : List ℕ → V → Type 0) (b : List ℕ) :
     Type 0 where
   none : AreLines Is b b []
   next : (rest : List ℕ) (values : List V) (value : V) → AreLines Is b rest values →
-      0 < length rest → Is (first_line rest) value →
-      AreLines Is b (drop_through 10 rest) (values ++ (value ∷ []))
+      0 < length rest → Is (first_line rest) value → AreLines Is b (drop_through 10 rest) (values ++ (value ∷ []))
 
 -- of the input b the rest is left: each line before it is an item, spelled so and within so many
 -- levels, and they mean these trees, in order
 abbrev pub AreMeant : Spelling → List ℕ → ℕ → List ℕ → List Tree → Type 0
-AreMeant spelling b limit rest trees = AreLines (λ line tree. IsMeant spelling line limit tree) b
-    rest trees
+AreMeant spelling b limit rest trees = AreLines (λ line tree. IsMeant spelling line limit tree) b rest trees
 
 -- a line is an item, a sequence, an item that has a form, or notation, as it is read, and the text
 -- is the answer that says so
 abbrev pub IsOkText : Reading → List ℕ → List ℕ → Type 0
-IsOkText (Item spelling limit) line text = (v : Tree) × IsMeant spelling line limit v ×
-    (text ≡ tree_text v)
+IsOkText (Item spelling limit) line text = (v : Tree) × IsMeant spelling line limit v × (text ≡ tree_text v)
 IsOkText Sequence line text = IsSequenceText line 256 text
 IsOkText (Form order limit) line text = IsFormText order line limit text
 IsOkText (Notation layout limit) line text = IsNotationText layout line limit text
@@ -64,8 +52,7 @@ IsRefusedText (Encode limit) line text = TellsNoTree limit line text
 
 -- the text answers a line that is read so, and says whether it is as it is asked for
 abbrev pub AnswersLine : Reading → List ℕ → Bool → List ℕ → Type 0
-AnswersLine reading line is_ok text =
-    MatchBool is_ok (IsOkText reading line text) (IsRefusedText reading line text)
+AnswersLine reading line is_ok text = MatchBool is_ok (IsOkText reading line text) (IsRefusedText reading line text)
 
 -- a text, and a line feed
 abbrev pub text_line : List ℕ → List ℕ
@@ -77,14 +64,12 @@ memory_text = codes "memory"
 
 -- the text answers a line that is read so, or says that memory was refused for it
 abbrev pub MayBeAnswer : Reading → List ℕ → Bool → List ℕ → Type 0
-MayBeAnswer reading line is_ok text = AnswersLine reading line is_ok text ⊎
-    ((is_ok ≡ false) × (text ≡ memory_text))
+MayBeAnswer reading line is_ok text = AnswersLine reading line is_ok text ⊎ ((is_ok ≡ false) × (text ≡ memory_text))
 
 -- so is each line of b up to the rest, in order, by these texts, each with whether its line is as
 -- it is asked for
 abbrev pub AreAnsweredBy : Reading → List ℕ → List ℕ → List (Bool × List ℕ) → Type 0
-AreAnsweredBy reading b rest answers =
-    AreLines (λ line a. MayBeAnswer reading line a.0 a.1) b rest answers
+AreAnsweredBy reading b rest answers = AreLines (λ line a. MayBeAnswer reading line a.0 a.1) b rest answers
 
 -- whether each line is as it is asked for, and the texts, a line each
 abbrev pub all_ok : List (Bool × List ℕ) → Bool
@@ -97,8 +82,7 @@ answer_lines answers = flat_map (λ a. text_line a.1) answers
 -- is asked for
 abbrev pub AreAnswered : Reading → List ℕ → List ℕ → Bool → Option (List ℕ) → Type 0
 AreAnswered reading b w all after = (answers : List (Bool × List ℕ)) ×
-    AreAnsweredBy reading b [] answers × (all ≡ all_ok answers) ×
-    (after ≡ Some (w ++ answer_lines answers))
+    AreAnsweredBy reading b [] answers × (all ≡ all_ok answers) × (after ≡ Some (w ++ answer_lines answers))
 
 -- a line feed stands in b
 abbrev pub holds_line : List ℕ → Bool

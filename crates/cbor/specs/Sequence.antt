@@ -1,17 +1,13 @@
 -- CBOR sequences (RFC 8742, section 2): items one after the other, with nothing between them. And
 -- what the program answers to a line of
 -- hex that is read as one. Texts are lists of bytes.
-use Rattle.std.specs.Prelude.{◌≡◌, ◌⊎◌, ℕ, ◌+◌, ◌<◌, List, [], ◌∷◌, ◌++◌, length, MatchResult}
-use Rattle.std.specs.Prelude.{codes, decimal}
+use Rattle.std.specs.Prelude.{◌≡◌, ◌⊎◌, ℕ, ◌+◌, ◌<◌, List, [], ◌∷◌, ◌++◌, length, MatchResult, codes, decimal}
 use Rattle.std.specs.List.{flat_map}
 use Rattle.hex.specs.Hex.{decode_of, encode_lower}
 use Rattle.ciborium_ll.specs.Refusal.{Refusal}
-use Rattle.ciborium_value.specs.Encoding.{encoding}
-use Rattle.ciborium_value.specs.Tree.{Tree}
-use Rattle.cbor.specs.declared.reading.Spelling.{Spelling}
-use Rattle.cbor.specs.declared.reading.Spelling.TheVariants.{Any}
-use Rattle.cbor.specs.Line.{hex_text, refusal_text}
-use Rattle.cbor.specs.Spellings.{HasItemBefore, RefusesItem}
+use Rattle.ciborium_value.specs.{Encoding.encoding, Tree.Tree}
+use Rattle.cbor.specs.{declared.reading.Spelling.Spelling, declared.reading.Spelling.TheVariants.Any, Line.hex_text}
+use Rattle.cbor.specs.{Line.refusal_text, Spellings.{HasItemBefore, RefusesItem}}
 
 -- b begins with items one after the other, which mean these trees, and rest is left: each is
 -- spelled so and good within so many levels, and offsets are counted from its own first byte
@@ -34,15 +30,13 @@ refused_item_text n reason = codes "item " ++ (decimal n ++ (codes ": " ++ reaso
 
 -- all of b is a sequence, and the text is the answer that says so
 abbrev pub AreSequence : List ℕ → ℕ → List ℕ → Type 0
-AreSequence b limit text = (trees : List Tree) × AreItemsBefore Any b limit trees [] ×
-    (text ≡ sequence_text trees)
+AreSequence b limit text = (trees : List Tree) × AreItemsBefore Any b limit trees [] × (text ≡ sequence_text trees)
 
 -- behind items one after the other more bytes follow, and are refused, and the text says so
 abbrev pub AreNoSequence : List ℕ → ℕ → List ℕ → Type 0
 AreNoSequence b limit text =
     (trees : List Tree) × (rest : List ℕ) × (e : Refusal) × AreItemsBefore Any b limit trees rest ×
-    (0 < length rest) × RefusesItem Any rest limit e ×
-    (text ≡ refused_item_text (length trees + 1) (refusal_text e))
+    (0 < length rest) × RefusesItem Any rest limit e × (text ≡ refused_item_text (length trees + 1) (refusal_text e))
 
 -- the bytes b, read as a sequence, have this answer
 abbrev pub HasSequenceAnswer : List ℕ → ℕ → List ℕ → Type 0
@@ -56,9 +50,7 @@ IsSequenceAnswer line limit text = MatchResult (decode_of line)
 
 -- the same where the line is a sequence, and where it is none
 abbrev pub IsSequenceText : List ℕ → ℕ → List ℕ → Type 0
-IsSequenceText line limit text = MatchResult (decode_of line) (λ b. AreSequence b limit text)
-    (λ _. ⊥)
+IsSequenceText line limit text = MatchResult (decode_of line) (λ b. AreSequence b limit text) (λ _. ⊥)
 
 abbrev pub TellsNoSequence : List ℕ → ℕ → List ℕ → Type 0
-TellsNoSequence line limit text = MatchResult (decode_of line) (λ b. AreNoSequence b limit text)
-    (λ _. text ≡ hex_text)
+TellsNoSequence line limit text = MatchResult (decode_of line) (λ b. AreNoSequence b limit text) (λ _. text ≡ hex_text)

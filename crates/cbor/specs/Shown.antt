@@ -1,18 +1,12 @@
 -- How items are shown. Texts are lists of bytes.
 use Rattle.std.specs.Prelude.{◌≡◌, ◌⊎◌, ℕ, List}
 use Rattle.hex.specs.Hex.{encode_lower}
-use Rattle.ciborium_value.specs.DeterministicForms.{deterministic_form}
-use Rattle.ciborium_value.specs.Encoding.{encoding}
-use Rattle.ciborium_value.specs.Notation.{indented_notation, notation}
-use Rattle.ciborium_value.specs.Given.{Outcome, gives}
-use Rattle.ciborium_value.specs.Tree.{Tree}
-use Rattle.cbor.specs.declared.reading.Layout.{Layout}
-use Rattle.cbor.specs.declared.reading.Layout.TheVariants.{OneLine, Indented}
-use Rattle.cbor.specs.declared.reading.Showing.{Showing}
-use Rattle.cbor.specs.declared.reading.Showing.TheVariants.{Encoding, Form, Notation}
-use Rattle.cbor.specs.declared.reading.Spelling.{Spelling}
-use Rattle.cbor.specs.declared.reading.Spelling.TheVariants.{Any}
-use Rattle.cbor.specs.Answer.{IsMeant, TellsRefusal}
+use Rattle.ciborium_value.specs.{DeterministicForms.deterministic_form, Encoding.encoding, Notation.indented_notation}
+use Rattle.ciborium_value.specs.{Notation.notation, Given.{Outcome, gives}, Tree.Tree}
+use Rattle.cbor.specs.{declared.reading.Layout.Layout, declared.reading.Layout.TheVariants.{OneLine, Indented}}
+use Rattle.cbor.specs.{declared.reading.Showing.Showing, declared.reading.Showing.TheVariants.{Encoding, Form}}
+use Rattle.cbor.specs.{declared.reading.Showing.TheVariants.Notation, declared.reading.Spelling.Spelling}
+use Rattle.cbor.specs.{declared.reading.Spelling.TheVariants.Any, Answer.{IsMeant, TellsRefusal}}
 
 -- the diagnostic notation of a tree, laid out so (RFC 8949, section 8)
 abbrev pub notation_text : Layout → Tree → List ℕ
@@ -40,10 +34,8 @@ shown_text (Form order) v = encode_lower (encoding v)
 
 -- a line is an item in any spelling, within so many levels, and the text is its notation
 abbrev pub IsNotationText : Layout → List ℕ → ℕ → List ℕ → Type 0
-IsNotationText layout line limit text = (v : Tree) × IsMeant Any line limit v ×
-    (text ≡ notation_text layout v)
+IsNotationText layout line limit text = (v : Tree) × IsMeant Any line limit v × (text ≡ notation_text layout v)
 
 -- the text answers a line
 abbrev pub IsNotationAnswer : Layout → List ℕ → ℕ → List ℕ → Type 0
-IsNotationAnswer layout line limit text = IsNotationText layout line limit text ⊎
-    TellsRefusal Any line limit text
+IsNotationAnswer layout line limit text = IsNotationText layout line limit text ⊎ TellsRefusal Any line limit text

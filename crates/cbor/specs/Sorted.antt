@@ -1,9 +1,7 @@
 -- Trees in one of the two orders of their encodings.
 use Rattle.std.specs.Prelude.{◌≢◌, ℕ, ◌<◌, ◌≤◌, List, length, slice_index_or}
 use Rattle.std.specs.declared.cmp.Ordering.TheVariants.{Greater}
-use Rattle.ciborium_value.specs.Canonical.{key_order}
-use Rattle.ciborium_value.specs.Tree.{Tree}
-use Rattle.ciborium_value.specs.declared.key_order.KeyOrder.{KeyOrder}
+use Rattle.ciborium_value.specs.{Canonical.key_order, Tree.Tree, declared.key_order.KeyOrder.KeyOrder}
 
 -- no tree comes in this order after one that stands behind it
 abbrev pub AreSorted : KeyOrder → List Tree → Type 0

@@ -1,19 +1,11 @@
 -- What is written for the lines of an input that are sorted.
-use Rattle.std.specs.Prelude.{◌≡◌, ℕ, ◌+◌, ◌<◌, Bool, List, [], ◌∷◌, ◌++◌, length, Option, Some}
-use Rattle.std.specs.Prelude.{IsPermutation, codes, decimal}
-use Rattle.std.specs.Bool.{MatchBool}
-use Rattle.std.specs.List.{flat_map}
+use Rattle.std.specs.Prelude.{◌≡◌, ℕ, ◌+◌, ◌<◌, Bool, List, [], ◌∷◌, ◌++◌, length, Option, Some, IsPermutation, codes}
+use Rattle.std.specs.{Prelude.decimal, Bool.MatchBool, List.flat_map}
 use Rattle.hex.specs.Hex.{encode_lower}
-use Rattle.ciborium_value.specs.Encoding.{encoding}
-use Rattle.ciborium_value.specs.Tree.{Tree}
-use Rattle.ciborium_value.specs.declared.key_order.KeyOrder.{KeyOrder}
-use Rattle.cbor.specs.declared.answer.LineRefusal.{LineRefusal}
-use Rattle.cbor.specs.declared.reading.Spelling.TheVariants.{Any}
-use Rattle.cbor.specs.declared.sorting.Unsorted.{Unsorted}
-use Rattle.cbor.specs.declared.sorting.Unsorted.TheVariants.{Line, Unread}
-use Rattle.cbor.specs.Answer.{IsRefused, refused_text}
-use Rattle.cbor.specs.Lines.{AreMeant, first_line, text_line}
-use Rattle.cbor.specs.Sorted.{AreSorted}
+use Rattle.ciborium_value.specs.{Encoding.encoding, Tree.Tree, declared.key_order.KeyOrder.KeyOrder}
+use Rattle.cbor.specs.{declared.answer.LineRefusal.LineRefusal, declared.reading.Spelling.TheVariants.Any}
+use Rattle.cbor.specs.{declared.sorting.Unsorted.Unsorted, declared.sorting.Unsorted.TheVariants.{Line, Unread}}
+use Rattle.cbor.specs.{Answer.{IsRefused, refused_text}, Lines.{AreMeant, first_line, text_line}, Sorted.AreSorted}
 
 -- the encoding of a tree in lower-case hex, and a line feed (RFC 8949, section 4.1)
 abbrev pub hex_line : Tree → List ℕ
@@ -22,9 +14,8 @@ hex_line v = encode_lower (encoding v) ++ (10 ∷ [])
 -- each line of b is an item; what they mean is put behind w in this order, each tree as often as it
 -- came
 abbrev pub AreSortedLines : KeyOrder → List ℕ → ℕ → List ℕ → Option (List ℕ) → Type 0
-AreSortedLines order b limit w after = (came : List Tree) × (sorted : List Tree) ×
-    AreMeant Any b limit [] came × IsPermutation came sorted × AreSorted order sorted ×
-    (after ≡ Some (w ++ flat_map hex_line sorted))
+AreSortedLines order b limit w after = (came : List Tree) × (sorted : List Tree) × AreMeant Any b limit [] came ×
+    IsPermutation came sorted × AreSorted order sorted × (after ≡ Some (w ++ flat_map hex_line sorted))
 
 -- the line of this number, counted from 1, is the first that is no item, and why
 abbrev pub refused_line_text : ℕ → List ℕ → List ℕ

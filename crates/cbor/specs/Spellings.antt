@@ -2,12 +2,9 @@
 -- 4.2).
 use Rattle.std.specs.Prelude.{◌≡◌, ℕ, List, ◌++◌, Some}
 use Rattle.ciborium_ll.specs.Refusal.{Refusal}
-use Rattle.ciborium_value.specs.Refuses.{Refuses}
+use Rattle.ciborium_value.specs.{Refuses.Refuses, Spelling.{any, deterministic, IsReadAs}, Tree.Tree}
+use Rattle.cbor.specs.{declared.reading.Spelling.Spelling, declared.reading.Spelling.TheVariants.{Any, Deterministic}}
 use Rattle.ciborium_value.specs.Spelling as reading
-use Rattle.ciborium_value.specs.Spelling.{any, deterministic, IsReadAs}
-use Rattle.ciborium_value.specs.Tree.{Tree}
-use Rattle.cbor.specs.declared.reading.Spelling.{Spelling}
-use Rattle.cbor.specs.declared.reading.Spelling.TheVariants.{Any, Deterministic}
 
 -- the spelling that is asked for
 abbrev pub spelling_of : Spelling → reading.Spelling

@@ -1,22 +1,16 @@
 -- Which words the program is run with, and what they ask for.
-use Rattle.std.specs.Prelude.{◌≡◌, ◌⊎◌, ℕ, ◌^◌, ◌<◌, List, [], ◌∷◌, Option, Some, None, MatchOption}
-use Rattle.std.specs.Prelude.{Bool, true, false, IsTrue, zero, suc, ◌-◌, ◌==◌, ◌&&◌, codes, get_or}
-use Rattle.std.specs.Prelude.{if◌then◌else◌, length, nat_le, take}
-use Rattle.std.specs.Char.{is_ascii_digit}
-use Rattle.std.specs.List.{list_all}
-use Rattle.std.specs.Str.Parse.{IsNumeral, digits_value}
+use Rattle.std.specs.Prelude.{◌≡◌, ◌⊎◌, ℕ, ◌^◌, ◌<◌, List, [], ◌∷◌, Option, Some, None, MatchOption, Bool, true, false}
+use Rattle.std.specs.Prelude.{IsTrue, zero, suc, ◌-◌, ◌==◌, ◌&&◌, codes, get_or, if◌then◌else◌, length, nat_le, take}
+use Rattle.std.specs.{Char.is_ascii_digit, List.list_all, Str.Parse.{IsNumeral, digits_value}}
 use Rattle.ciborium_value.specs.declared.key_order.KeyOrder.{KeyOrder}
 use Rattle.ciborium_value.specs.declared.key_order.KeyOrder.TheVariants.{LengthFirst, Bytewise}
-use Rattle.cbor.specs.declared.command.Command.{Command}
-use Rattle.cbor.specs.declared.command.Command.TheVariants.{Answer, Sort, Show, ShowExactly, Dump}
-use Rattle.cbor.specs.declared.command.Command.TheVariants.{Encode, Tell}
-use Rattle.cbor.specs.declared.command.Topic.TheVariants.{Help, Version}
-use Rattle.cbor.specs.declared.reading.Layout.{Layout}
-use Rattle.cbor.specs.declared.reading.Layout.TheVariants.{OneLine, Indented}
+use Rattle.cbor.specs.{declared.command.Command.Command, declared.command.Command.TheVariants.{Answer, Sort, Show}}
+use Rattle.cbor.specs.declared.command.Command.TheVariants.{ShowExactly, Dump, Encode, Tell}
+use Rattle.cbor.specs.{declared.command.Topic.TheVariants.{Help, Version}, declared.reading.Layout.Layout}
+use Rattle.cbor.specs.{declared.reading.Layout.TheVariants.{OneLine, Indented}, declared.reading.Spelling.Spelling}
+use Rattle.cbor.specs.declared.reading.Spelling.TheVariants.{Any, Deterministic}
 use Rattle.cbor.specs.declared.reading.Reading.TheVariants as readings
 use Rattle.cbor.specs.declared.reading.Showing.TheVariants as showings
-use Rattle.cbor.specs.declared.reading.Spelling.{Spelling}
-use Rattle.cbor.specs.declared.reading.Spelling.TheVariants.{Any, Deterministic}
 
 -- one digit or more, and their number fits a `usize`
 abbrev pub IsLimit : List ℕ → Type 0
@@ -91,8 +85,7 @@ command_limit (Tell topic) = None
 
 -- the words are those for a command, and a limit behind them where it takes one
 abbrev pub AreWordsFor : List (List ℕ) → Command → Type 0
-AreWordsFor words command =
-    MatchOption (command_limit command) (words ≡ command_words command)
+AreWordsFor words command = MatchOption (command_limit command) (words ≡ command_words command)
     (λ n. NameLimitBehind (command_words command) words n)
 
 -- the only word is `-h`, which asks for what `--help` does
@@ -150,5 +143,4 @@ AskForFiles words command names = AskForNothing words × AskFor (words_before wo
 
 -- the words ask for nothing that the program does, with files or without
 abbrev pub AreWrong : List (List ℕ) → Type 0
-AreWrong words = AskForNothing words ×
-    ((command : Command) (names : List (List ℕ)) → ¬ AskForFiles words command names)
+AreWrong words = AskForNothing words × ((command : Command) (names : List (List ℕ)) → ¬ AskForFiles words command names)

@@ -1,12 +1,8 @@
 -- What a literal of two pairs makes, and what it refuses.
 use Rattle.std.proofs.Common.{◌≡◌, ◌∷◌, [], Ok, Err, List, Result, IfErr, true, refl}
-use Rattle.ciborium_value.specs.Places.{dictionary}
-use Rattle.ciborium_value.specs.Sinks.{Named, container_of, IsOwed}
-use Rattle.ciborium_value.specs.Tree.{Tree}
-use Rattle.ciborium_value.specs.TreeAnswers.{tree_cause}
-use Rattle.ciborium_value.specs.declared.error.Error.{Error}
-use Rattle.ciborium_value.specs.declared.error.Error.TheVariants.{Custom}
-use Rattle.ciborium_value.specs.declared.tree.Value.{Value}
+use Rattle.ciborium_value.specs.{Places.dictionary, Sinks.{Named, container_of, IsOwed}, Tree.Tree}
+use Rattle.ciborium_value.specs.{TreeAnswers.tree_cause, declared.error.Error.Error}
+use Rattle.ciborium_value.specs.{declared.error.Error.TheVariants.Custom, declared.tree.Value.Value}
 use Rattle.ciborium.specs.Literals.{and_pair, both_trees, had_memory, map_tree, named_tree, part_tree}
 
 -- unless memory was lacking, a refusal is the one that is named

@@ -1,14 +1,10 @@
 -- What the errors of reading stand for, to the contract of `Source` and to private functions.
 use Rattle.std.specs.Prelude.{ℕ, Bool, List, [], ◌∷◌, Option, Some, None}
-use Rattle.ciborium_ll.specs.declared.header.Error.{Error as LlError}
+use Rattle.ciborium_ll.specs.{declared.header.Error.Error as LlError, Accesses.IsUsedUp}
+use Rattle.ciborium_value.specs.Sources.{Fault, of_device, of_end, of_kind, of_length, of_memory, of_nesting, of_syntax}
+use Rattle.ciborium.specs.{declared.de.error.Error.Error, declared.de.error.Error.TheVariants.{Io, Syntax, Semantic}}
+use Rattle.ciborium.specs.declared.de.error.Error.TheVariants.{RecursionLimitExceeded, Memory, TooLong}
 use Rattle.ciborium_ll.specs.declared.header.Error.TheVariants as ll
-use Rattle.ciborium_ll.specs.Accesses.{IsUsedUp}
-use Rattle.ciborium_value.specs.Sources.{Fault, of_device, of_end, of_kind, of_length}
-use Rattle.ciborium_value.specs.Sources.{of_memory, of_nesting, of_syntax}
-use Rattle.ciborium.specs.declared.de.error.Error.{Error}
-use Rattle.ciborium.specs.declared.de.error.Error.TheVariants.{Io, Syntax, Semantic}
-use Rattle.ciborium.specs.declared.de.error.Error.TheVariants.{RecursionLimitExceeded, Memory}
-use Rattle.ciborium.specs.declared.de.error.Error.TheVariants.{TooLong}
 
 -- what an error of the lowest layer becomes
 abbrev pub from_ll : {E : Type 0} → LlError E → Error E

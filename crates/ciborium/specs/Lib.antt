@@ -79,7 +79,6 @@ pub use Rattle.ciborium_value.specs.Deterministic
 pub use Rattle.ciborium_value.specs.DeterministicTrees
 pub use Rattle.ciborium_value.specs.DeterministicForms
 pub use Rattle.ciborium_value.specs.SameContents
-pub use Rattle.ciborium_value.specs.FormsReadBack
 pub use Rattle.ciborium_value.specs.Described
 pub use Rattle.ciborium_value.specs.Notation
 pub use Rattle.ciborium_value.specs.Tokens

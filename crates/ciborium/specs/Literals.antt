@@ -1,14 +1,10 @@
 -- What a literal puts together, unless an allocation failed.
 use Rattle.std.specs.Prelude.{Bool, true, false, List, [], ◌∷◌, ◌++◌, map, Result, Ok, Err, Vec}
-use Rattle.ciborium_value.specs.Encoding.{written_tree}
-use Rattle.ciborium_value.specs.Sinks.{Named}
-use Rattle.ciborium_value.specs.Tree as trees
-use Rattle.ciborium_value.specs.Tree.{Tree}
-use Rattle.ciborium_value.specs.View.{tree_of, trees_from, tree_pairs_from, pair_trees, read_as}
-use Rattle.ciborium_value.specs.declared.error.Error.{Error}
-use Rattle.ciborium_value.specs.declared.error.Error.TheVariants.{Custom, Memory}
-use Rattle.ciborium_value.specs.declared.tree.Value.{Value}
 use Rattle.std.specs.declared.alloc.Global.{Global}
+use Rattle.ciborium_value.specs.{Encoding.written_tree, Sinks.Named, Tree.Tree, View.{tree_of, trees_from}}
+use Rattle.ciborium_value.specs.{View.{tree_pairs_from, pair_trees, read_as}, declared.error.Error.Error}
+use Rattle.ciborium_value.specs.{declared.error.Error.TheVariants.{Custom, Memory}, declared.tree.Value.Value}
+use Rattle.ciborium_value.specs.Tree as trees
 
 -- no allocation failed
 abbrev pub had_memory : {A : Type 0} → Result A Error → Bool
@@ -25,8 +21,7 @@ abbrev pub item_trees : Result (Vec Value Global) Error → Result (List Tree) E
 item_trees = read_as (λ vs. map tree_of vs.items)
 
 -- the trees of pairs
-abbrev pub trees_in_pairs : Result (Vec (Value × Value) Global) Error →
-    Result (List (Tree × Tree)) Error
+abbrev pub trees_in_pairs : Result (Vec (Value × Value) Global) Error → Result (List (Tree × Tree)) Error
 trees_in_pairs = read_as (λ ps. map pair_trees ps.items)
 
 -- the tree of the item that is named
@@ -47,8 +42,7 @@ both_trees (Ok k) (Err e) = Err e
 both_trees (Ok k) (Ok v) = Ok (k, v)
 
 -- a pair behind others, or the first refusal
-abbrev pub and_pair : Result (List (Tree × Tree)) Error → Result (Tree × Tree) Error →
-    Result (List (Tree × Tree)) Error
+abbrev pub and_pair : Result (List (Tree × Tree)) Error → Result (Tree × Tree) Error → Result (List (Tree × Tree)) Error
 and_pair (Err e) p = Err e
 and_pair (Ok ps) (Err e) = Err e
 and_pair (Ok ps) (Ok p) = Ok (ps ++ p ∷ [])

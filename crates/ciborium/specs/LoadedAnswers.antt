@@ -1,23 +1,14 @@
 -- What loading promises: all of the bytes are the one deterministic encoding of what they give (RFC
 -- 8949, section 4.2), or they are refused, and why. This is this library's own.
-use Rattle.std.specs.Prelude.{◌≡◌, ◌≢◌, ℕ, suc, ◌⊎◌, List, take, Some, None, Result, Ok, Err, IfErr}
-use Rattle.std.specs.Prelude.{IfOk}
-use Rattle.ciborium_ll.specs.Refusal as refusal
-use Rattle.ciborium_value.specs.Encoding.{encoding}
-use Rattle.ciborium_value.specs.Readings.{Reading}
-use Rattle.ciborium_value.specs.Refuses.{Refuses}
-use Rattle.ciborium_value.specs.Sinks.{Named}
-use Rattle.ciborium_value.specs.Spelling.{deterministic}
-use Rattle.ciborium_value.specs.Given.{gives, refuses}
-use Rattle.ciborium_value.specs.Tree.{Tree}
-use Rattle.ciborium_value.specs.declared.key_order.KeyOrder.{KeyOrder}
-use Rattle.ciborium_value.specs.declared.kind.Kind.{Kind}
+use Rattle.std.specs.Prelude.{◌≡◌, ◌≢◌, ℕ, suc, ◌⊎◌, List, take, Some, None, Result, Ok, Err, IfErr, IfOk}
+use Rattle.ciborium_value.specs.{Encoding.encoding, Readings.Reading, Refuses.Refuses, Sinks.Named}
+use Rattle.ciborium_value.specs.{Spelling.deterministic, Given.{gives, refuses}, Tree.Tree}
+use Rattle.ciborium_value.specs.{declared.key_order.KeyOrder.KeyOrder, declared.kind.Kind.Kind}
 use Rattle.ciborium_value.specs.declared.kind.Kind.TheVariants.{NotDeterministic}
-use Rattle.ciborium.specs.DeterministicWrites.{HasForm, named_form}
-use Rattle.ciborium.specs.SliceAnswers.{ReadsAll}
-use Rattle.ciborium.specs.ValueAnswers.{refusal_kind_of}
-use Rattle.ciborium.specs.declared.de.error.Error.{Error}
+use Rattle.ciborium.specs.{DeterministicWrites.{HasForm, named_form}, SliceAnswers.ReadsAll}
+use Rattle.ciborium.specs.{ValueAnswers.refusal_kind_of, declared.de.error.Error.Error}
 use Rattle.ciborium.specs.declared.de.error.Error.TheVariants.{Memory, Semantic}
+use Rattle.ciborium_ll.specs.Refusal as refusal
 
 -- the bytes are the encoding of the deterministic form of what a value names
 abbrev pub AreFormOf : KeyOrder → List ℕ → Named → Type 0
@@ -40,8 +31,7 @@ pub data RefusesSpelling {E : Type 0} (o : KeyOrder) (l : ℕ) (b : List ℕ) (k
 -- of the form; or memory was refused
 pub data RefusesOther {E : Type 0} (o : KeyOrder) (l : ℕ) (b : List ℕ) (named : Named) :
     Error E → Type 0 where
-  no_form : (kind : Kind) → named_form o named ≡ refuses kind →
-      RefusesOther o l b named (Semantic None kind)
+  no_form : (kind : Kind) → named_form o named ≡ refuses kind → RefusesOther o l b named (Semantic None kind)
   other : {e : Error E} (t : Tree) (k : ℕ) → named_form o named ≡ gives t →
       DifferAt b (encoding t) k → RefusesSpelling o l b k e → RefusesOther o l b named e
   no_memory : RefusesOther o l b named Memory

@@ -1,12 +1,10 @@
 -- What `{}` prints of an error of reading, and of one of writing.
-use Rattle.std.specs.Prelude.{ℕ, List, ◌++◌, Option, Some, None, codes}
-use Rattle.std.specs.Fmt.{◌++?◌}
-use Rattle.ciborium_ll.specs.HeadMessages.{at_byte, syntax_message, too_long_message}
-use Rattle.ciborium_ll.specs.HeadMessages.{memory_message, read_failure_message}
+use Rattle.std.specs.{Prelude.{ℕ, List, ◌++◌, Option, Some, None, codes}, Fmt.◌++?◌}
+use Rattle.ciborium_ll.specs.HeadMessages.{at_byte, syntax_message, too_long_message, memory_message}
+use Rattle.ciborium_ll.specs.HeadMessages.{read_failure_message}
 use Rattle.ciborium_value.specs.RefusalMessages.{kind_message}
-use Rattle.ciborium.specs.declared.de.error.Error.{Error as ReadError}
+use Rattle.ciborium.specs.{declared.de.error.Error.Error as ReadError, declared.ser.error.Error.Error as WriteError}
 use Rattle.ciborium.specs.declared.de.error.Error.TheVariants as read
-use Rattle.ciborium.specs.declared.ser.error.Error.{Error as WriteError}
 use Rattle.ciborium.specs.declared.ser.error.Error.TheVariants as write
 
 -- the message of an error of reading, where `output` is what `{}` prints of the reader's errors
@@ -20,9 +18,7 @@ read_error_message output read.Memory = Some memory_message
 read_error_message output read.TooLong = Some too_long_message
 
 -- the message of an error of writing, where `output` is what `{}` prints of the writer's errors
-abbrev pub write_error_message : {E : Type 0} → (E → Option (List ℕ)) → WriteError E →
-    Option (List ℕ)
+abbrev pub write_error_message : {E : Type 0} → (E → Option (List ℕ)) → WriteError E → Option (List ℕ)
 write_error_message output (write.Io e) = Some (codes "writing failed: ") ++? output e
-write_error_message output (write.Value k) = Some
-    (codes "the value cannot be written: " ++ kind_message k)
+write_error_message output (write.Value k) = Some (codes "the value cannot be written: " ++ kind_message k)
 write_error_message output write.Memory = Some memory_message

@@ -1,27 +1,15 @@
 -- Reading the items of a sequence one after the other (RFC 8742, section 2): the next item, or the
 -- end where none follows.
-use Rattle.std.specs.Prelude.{◌≡◌, ◌<◌, ℕ, ◌+◌, Bool, true, List, [], length, Option, Some, None}
-use Rattle.std.specs.Prelude.{Result, Ok, Err, IfErr, IfOk, IfSome, OnOk}
-use Rattle.std.specs.Io.KnownBytes.{Consumes, IsAtEnd}
-use Rattle.ciborium_ll.specs.declared.header.Header.{Header}
-use Rattle.ciborium_ll.specs.Accesses.{left_at_failure}
-use Rattle.ciborium_ll.specs.Bytes.{greatest_offset}
-use Rattle.ciborium_value.specs.Readings.{Reading}
-use Rattle.ciborium_value.specs.Sources.{IsGrantedFault, RefusesAhead, TakesAhead, TakesItem}
-use Rattle.ciborium_value.specs.Sources.{TakesOnly}
-use Rattle.ciborium_value.specs.Tree.{Tree}
-use Rattle.ciborium_value.specs.View.{read_as}
-use Rattle.ciborium.specs.declared.de.byte_source.ByteSource.{ByteSource}
-use Rattle.ciborium.specs.declared.de.error.Error.{Error}
-use Rattle.ciborium.specs.declared.de.error.Error.TheVariants.{Io, Syntax, Semantic}
-use Rattle.ciborium.specs.declared.de.error.Error.TheVariants.{RecursionLimitExceeded, Memory}
-use Rattle.ciborium.specs.declared.de.error.Error.TheVariants.{TooLong}
-use Rattle.ciborium.specs.inner.ByteSources.{HasTakenSince, IsUnread, ReadsValue, StandsBefore}
-use Rattle.ciborium.specs.inner.ByteSources.{fault_at}
-use Rattle.ciborium.specs.Errors.{fault_of}
-use Rattle.ciborium_value.specs.Spelling.{any}
-use Rattle.ciborium.specs.TypedAnswers.{RefusesGiven, TakesBeginning, TakesGiven}
-use Rattle.ciborium.specs.ValueAnswers.{TakesBytes}
+use Rattle.std.specs.Prelude.{◌≡◌, ◌<◌, ℕ, ◌+◌, Bool, true, List, [], length, Option, Some, None, Result, Ok, Err}
+use Rattle.std.specs.{Prelude.{IfErr, IfOk, IfSome, OnOk}, Io.KnownBytes.{Consumes, IsAtEnd}}
+use Rattle.ciborium_ll.specs.{declared.header.Header.Header, Accesses.left_at_failure, Bytes.greatest_offset}
+use Rattle.ciborium_value.specs.{Readings.Reading, Sources.{IsGrantedFault, RefusesAhead, TakesAhead, TakesItem}}
+use Rattle.ciborium_value.specs.{Sources.TakesOnly, Tree.Tree, View.read_as, Spelling.any}
+use Rattle.ciborium.specs.{declared.de.byte_source.ByteSource.ByteSource, declared.de.error.Error.Error}
+use Rattle.ciborium.specs.declared.de.error.Error.TheVariants.{Io, Syntax, Semantic, RecursionLimitExceeded, Memory}
+use Rattle.ciborium.specs.{declared.de.error.Error.TheVariants.TooLong, inner.ByteSources.{HasTakenSince, IsUnread}}
+use Rattle.ciborium.specs.{inner.ByteSources.{ReadsValue, StandsBefore, fault_at}, Errors.fault_of}
+use Rattle.ciborium.specs.{TypedAnswers.{RefusesGiven, TakesBeginning, TakesGiven}, ValueAnswers.TakesBytes}
 use Rattle.ciborium.specs.ValueClauses.{ReadsWhole}
 
 -- ---- the clauses of a call that reads the next item: what the reader held before it, what it is
@@ -45,15 +33,13 @@ IsReadIo TooLong = ⊥
 -- the end is answered where nothing is taken and, if the bytes are known, none are left; where none
 -- are left no item is answered, and
 -- the error of a reader that fails there is `Io`
-abbrev pub TellsEnd : {A E : Type 0} → Option (List ℕ) → Option (List ℕ) →
-    Result (Option A) (Error E) → Type 0
+abbrev pub TellsEnd : {A E : Type 0} → Option (List ℕ) → Option (List ℕ) → Result (Option A) (Error E) → Type 0
 TellsEnd before after (Ok None) = Consumes before after [] × IsAtEnd after
 TellsEnd before after (Ok (Some v)) = ¬ (before ≡ Some [])
 TellsEnd before after (Err e) = before ≡ Some [] → IsReadIo e
 
 -- the same where an item would begin at offset p. At the greatest offset none does
-abbrev pub TellsEndAt : {A E : Type 0} → ℕ → Option (List ℕ) → Option (List ℕ) →
-    Result (Option A) (Error E) → Type 0
+abbrev pub TellsEndAt : {A E : Type 0} → ℕ → Option (List ℕ) → Option (List ℕ) → Result (Option A) (Error E) → Type 0
 TellsEndAt p before after (Ok None) = Consumes before after [] × IsAtEnd after
 TellsEndAt p before after (Ok (Some v)) = ¬ (before ≡ Some [])
 TellsEndAt p before after (Err e) = before ≡ Some [] → p < greatest_offset → IsReadIo e
@@ -69,15 +55,12 @@ pub record ReadsNextFrom {T A E : Type 0} (can_fail : Bool) (p l : ℕ) (reading
     (before after : Option (List ℕ)) (End : Type 0) (P : Result Tree (Error E) → Type 0)
     (r : Result (Option T) (Error E)) : Type 0 where
   pub end : End
-  pub ok : Otherwise r (λ q. TakesGiven (Some l) reading.taken before after
-      (read_as reading.content q))
+  pub ok : Otherwise r (λ q. TakesGiven (Some l) reading.taken before after (read_as reading.content q))
   pub refused : Otherwise r (λ q. RefusesGiven p (Some l) reading.taken before
       (left_at_failure can_fail after) (read_as reading.content q))
-  pub memory : IfErr r (λ e. IsGrantedFault (fault_of (left_at_failure can_fail after) e)
-      reading.needs_memory)
+  pub memory : IfErr r (λ e. IsGrantedFault (fault_of (left_at_failure can_fail after) e) reading.needs_memory)
   pub taken : TakesBeginning before after
-  pub value : Otherwise r (λ q. IfSome reading.whole (λ tree. P
-      (read_as (λ v. tree (reading.content v)) q)))
+  pub value : Otherwise r (λ q. IfSome reading.whole (λ tree. P (read_as (λ v. tree (reading.content v)) q)))
 
 -- the bytes begin at offset 0
 abbrev pub ReadsNextAsTypeFrom : {T A E : Type 0} → Bool → ℕ → Reading T A → Option (List ℕ) →
@@ -114,8 +97,7 @@ TakesTo p q before after = (s : List ℕ) × Consumes before after s × (q ≡ p
 
 -- the offset of what comes next was p, and is q: behind an item it has moved by the bytes that were
 -- taken, and otherwise it stays
-abbrev pub MovesOffset : {A E : Type 0} → ℕ → ℕ → Option (List ℕ) → Option (List ℕ) →
-    Result (Option A) E → Type 0
+abbrev pub MovesOffset : {A E : Type 0} → ℕ → ℕ → Option (List ℕ) → Option (List ℕ) → Result (Option A) E → Type 0
 MovesOffset p q before after r = MatchItem r (TakesTo p q before after) (q ≡ p)
 
 -- ---- how it is read

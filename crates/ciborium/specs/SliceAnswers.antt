@@ -1,27 +1,17 @@
 -- What reading answers where all of the bytes are at hand, and have to be one item.
-use Rattle.std.specs.Prelude.{◌≡◌, ◌≢◌, ℕ, ◌⊎◌, List, [], ◌++◌, length, Some, Result, Ok, Err}
-use Rattle.std.specs.Prelude.{IfErr, IfOk, IfSome}
-use Rattle.ciborium_ll.specs.Item.{Item}
-use Rattle.ciborium_ll.specs.Spells.{Spells}
-use Rattle.ciborium_value.specs.Readings.{Reading}
-use Rattle.ciborium_value.specs.Sources.{IsFaultOf, IsGrantedFault}
-use Rattle.ciborium_value.specs.View.{read_as}
-use Rattle.ciborium_value.specs.Given.{Given, gives, outcome}
-use Rattle.ciborium_value.specs.Tree.{Tree}
-use Rattle.ciborium_value.specs.declared.kind.Kind.TheVariants.{TrailingData}
-use Rattle.ciborium.specs.Errors.{fault_of}
-use Rattle.ciborium.specs.ValueAnswers.{IsRefusedBy}
-use Rattle.ciborium_value.specs.Spelling.{any, IsReadAs}
-use Rattle.ciborium_value.specs.Refuses.{Refuses}
-use Rattle.ciborium.specs.declared.de.error.Error.{Error}
+use Rattle.std.specs.Prelude.{◌≡◌, ◌≢◌, ℕ, ◌⊎◌, List, [], ◌++◌, length, Some, Result, Ok, Err, IfErr, IfOk, IfSome}
+use Rattle.ciborium_ll.specs.{Item.Item, Spells.Spells}
+use Rattle.ciborium_value.specs.{Readings.Reading, Sources.{IsFaultOf, IsGrantedFault}, View.read_as, Given.Given}
+use Rattle.ciborium_value.specs.{Given.{gives, outcome}, Tree.Tree, declared.kind.Kind.TheVariants.TrailingData}
+use Rattle.ciborium_value.specs.{Spelling.{any, IsReadAs}, Refuses.Refuses}
+use Rattle.ciborium.specs.{Errors.fault_of, ValueAnswers.IsRefusedBy, declared.de.error.Error.Error}
 use Rattle.ciborium.specs.declared.de.error.Error.TheVariants.{Memory, Semantic}
 
 -- ---- by what an item gives
 
 -- at Ok all of the bytes are one item, which gives the answer
 abbrev pub IsAllTaken : {A E : Type 0} → ℕ → Given A → List ℕ → Result A (Error E) → Type 0
-IsAllTaken l taken b r = IfOk r (λ v. (i : Item) × Spells b i ×
-    (outcome (Some l) (taken i) ≡ gives v))
+IsAllTaken l taken b r = IfOk r (λ v. (i : Item) × Spells b i × (outcome (Some l) (taken i) ≡ gives v))
 
 -- bytes that are one item, which gives a value, answer it, unless memory was refused
 abbrev pub GivesAll : {A E : Type 0} → ℕ → Given A → List ℕ → Result A (Error E) → Type 0
@@ -33,8 +23,7 @@ GivesAll {A} l taken b r = (i : Item) (v : A) → Spells b i → outcome (Some l
 abbrev pub RefusesAll : {A E : Type 0} → ℕ → Given A → List ℕ → Result A (Error E) → Type 0
 RefusesAll {A} l taken b r = IfErr r (λ e. (i : Item) (s left : List ℕ) → Spells s i →
     b ≡ s ++ left → IsFaultOf (length s) (fault_of (Some []) e) (outcome (Some l) (taken i)) ⊎
-    ((left ≢ []) × ((v : A) × (outcome (Some l) (taken i) ≡ gives v)) ×
-    (e ≡ Semantic (Some (length s)) TrailingData)))
+    ((left ≢ []) × ((v : A) × (outcome (Some l) (taken i) ≡ gives v)) × (e ≡ Semantic (Some (length s)) TrailingData)))
 
 -- ---- by the tree of a value
 
@@ -64,7 +53,5 @@ pub record ReadsAll {T A E : Type 0} (l : ℕ) (reading : Reading T A) (b : List
   pub refused : RefusesAll l reading.taken b (read_as reading.content r)
   pub memory : IfErr r (λ e. IsGrantedFault (fault_of (Some []) e) reading.needs_memory)
   -- where reading is one call of `value`
-  pub value : IfSome reading.whole (λ tree. AreAllRead l b
-      (read_as (λ v. tree (reading.content v)) r))
-  pub whole : IfSome reading.whole (λ tree. AnswersAll l b
-      (read_as (λ v. tree (reading.content v)) r))
+  pub value : IfSome reading.whole (λ tree. AreAllRead l b (read_as (λ v. tree (reading.content v)) r))
+  pub whole : IfSome reading.whole (λ tree. AnswersAll l b (read_as (λ v. tree (reading.content v)) r))

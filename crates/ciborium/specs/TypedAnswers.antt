@@ -1,26 +1,14 @@
 -- What reading a value of any type answers, from bytes and from a tree.
-use Rattle.std.specs.Prelude.{◌≡◌, ℕ, ◌+◌, Bool, true, List, ◌++◌, length, Option, Some, None}
-use Rattle.std.specs.Prelude.{Result, Ok, Err, IfOk, IfErr, IfSome}
-use Rattle.std.specs.Io.KnownBytes.{Consumes}
-use Rattle.std.specs.declared.io.Error.{Error as IoError}
-use Rattle.ciborium_ll.specs.Accesses.{left_at_failure}
-use Rattle.ciborium_ll.specs.Item.{Item}
-use Rattle.ciborium_ll.specs.Spells.{Spells}
-use Rattle.ciborium_value.specs.Encoding.{encoding, item_of}
-use Rattle.ciborium_value.specs.Nesting.{Limit}
-use Rattle.ciborium_value.specs.ProperTrees.{IsProperTree}
-use Rattle.ciborium_value.specs.Readings.{Reading}
-use Rattle.ciborium_value.specs.Sources.{Fault, of_kind, of_nesting, of_syntax, of_memory}
-use Rattle.ciborium_value.specs.Sources.{of_device, of_end, of_length, IsFaultOf, IsGrantedFault}
-use Rattle.ciborium_value.specs.View.{read_as}
-use Rattle.ciborium_value.specs.Given.{Given, gives, outcome}
-use Rattle.ciborium_value.specs.Tree.{Tree}
-use Rattle.ciborium_value.specs.TreeAnswers.{IsErrorOf}
-use Rattle.ciborium_value.specs.declared.kind.Kind.{Kind}
-use Rattle.ciborium_value.specs.declared.error.Error.{Error as TreeError}
+use Rattle.std.specs.Prelude.{◌≡◌, ℕ, ◌+◌, Bool, true, List, ◌++◌, length, Option, Some, None, Result, Ok, Err, IfOk}
+use Rattle.std.specs.{Prelude.{IfErr, IfSome}, Io.KnownBytes.Consumes, declared.io.Error.Error as IoError}
+use Rattle.ciborium_ll.specs.{Accesses.left_at_failure, Item.Item, Spells.Spells}
+use Rattle.ciborium_value.specs.{Encoding.{encoding, item_of}, Nesting.Limit, ProperTrees.IsProperTree}
+use Rattle.ciborium_value.specs.{Readings.Reading, Sources.{Fault, of_kind, of_nesting, of_syntax, of_memory}}
+use Rattle.ciborium_value.specs.{Sources.{of_device, of_end, of_length, IsFaultOf, IsGrantedFault}, View.read_as}
+use Rattle.ciborium_value.specs.{Given.{Given, gives, outcome}, Tree.Tree, TreeAnswers.IsErrorOf}
+use Rattle.ciborium_value.specs.{declared.kind.Kind.Kind, declared.error.Error.Error as TreeError}
+use Rattle.ciborium.specs.{Errors.fault_of, declared.de.error.Error.Error}
 use Rattle.ciborium_value.specs.declared.error.Error.TheVariants as of_tree
-use Rattle.ciborium.specs.Errors.{fault_of}
-use Rattle.ciborium.specs.declared.de.error.Error.{Error}
 
 -- ---- from bytes: what the reader held before, what it is left with, and the answer
 
@@ -38,8 +26,7 @@ IsFaultAhead p l taken b fault = (i : Item) (s left : List ℕ) → Spells s i �
 -- at Ok just an item was taken, and the answer is what it gives
 abbrev pub TakesGiven : {A E : Type 0} → Limit → Given A → Option (List ℕ) → Option (List ℕ) →
     Result A (Error E) → Type 0
-TakesGiven l taken before after r = (b : List ℕ) → before ≡ Some b →
-    IfOk r (λ v. TakesGiving l taken b v after)
+TakesGiven l taken before after r = (b : List ℕ) → before ≡ Some b → IfOk r (λ v. TakesGiving l taken b v after)
 
 -- an item at the front, at offset p, is refused only as it is, and with `Io` only where the device
 -- failed, not at the reader's end
@@ -61,10 +48,8 @@ pub record ReadsAsTypeFrom {T A E : Type 0} (can_fail : Bool) (p : ℕ) (l : Lim
   -- where an item stands at the front: just it was taken, and the answer is what it gives; or it is
   -- refused as the item is
   pub ok : TakesGiven l reading.taken before after (read_as reading.content r)
-  pub refused : RefusesGiven p l reading.taken before (left_at_failure can_fail after)
-      (read_as reading.content r)
-  pub memory : IfErr r (λ e. IsGrantedFault (fault_of (left_at_failure can_fail after) e)
-      reading.needs_memory)
+  pub refused : RefusesGiven p l reading.taken before (left_at_failure can_fail after) (read_as reading.content r)
+  pub memory : IfErr r (λ e. IsGrantedFault (fault_of (left_at_failure can_fail after) e) reading.needs_memory)
   -- refused or not
   pub taken : TakesBeginning before after
   pub value : IfSome reading.whole (λ tree. P (read_as (λ v. tree (reading.content v)) r))
@@ -82,8 +67,7 @@ AnswersTree taken i (Ok v) = outcome None (taken i) ≡ gives v
 AnswersTree taken i (Err e) = IsErrorOf e (outcome None (taken i))
 
 -- the answer of a reader over these bytes within a limit
-abbrev pub AnswersBytes : {A E : Type 0} → Given A → ℕ → List ℕ → Option (List ℕ) →
-    Result A (Error E) → Type 0
+abbrev pub AnswersBytes : {A E : Type 0} → Given A → ℕ → List ℕ → Option (List ℕ) → Result A (Error E) → Type 0
 AnswersBytes taken l b after r = TakesGiven (Some l) taken (Some b) after r ×
     RefusesGiven 0 (Some l) taken (Some b) after r
 
@@ -109,8 +93,7 @@ IsSameKind k of_length = Unit {0}
 
 -- the same value, or both are refused with the same kind; the second, which leaves this of its
 -- reader, may be refused for nesting, and either for want of memory
-abbrev pub AreOneAnswer : {A E : Type 0} → Option (List ℕ) → Result A TreeError →
-    Result A (Error E) → Type 0
+abbrev pub AreOneAnswer : {A E : Type 0} → Option (List ℕ) → Result A TreeError → Result A (Error E) → Type 0
 AreOneAnswer after (Ok v) (Ok w) = v ≡ w
 AreOneAnswer after (Ok v) (Err e) = IsExcused (fault_of after e)
 AreOneAnswer after (Err (of_tree.Custom k)) (Ok w) = ⊥
@@ -119,8 +102,6 @@ AreOneAnswer after (Err of_tree.Memory) r = Unit {0}
 
 -- what a tree gives, and what its encoding gives within a limit, are one answer
 abbrev pub SourcesAgree : {A : Type 0} → Given A → Type 0
-SourcesAgree {A} taken =
-    (v : Tree) (l : ℕ) (after : Option (List ℕ)) (r : Result A TreeError)
-    (q : Result A (Error IoError)) →
-    IsProperTree v → AnswersTree taken (item_of v) r → AnswersBytes taken l (encoding v) after q →
-    AreOneAnswer after r q
+SourcesAgree {A} taken = (v : Tree) (l : ℕ) (after : Option (List ℕ)) (r : Result A TreeError)
+    (q : Result A (Error IoError)) → IsProperTree v →
+    AnswersTree taken (item_of v) r → AnswersBytes taken l (encoding v) after q → AreOneAnswer after r q

@@ -1,19 +1,13 @@
 -- What reading a value promises: what was taken is one item that means the answer, or is refused
 -- so, whatever follows it; and an item at the front is read.
-use Rattle.std.specs.Prelude.{◌≡◌, ℕ, ◌+◌, ◌≤◌, List, [], ◌++◌, length, Option, Some}
-use Rattle.std.specs.Prelude.{None, Result, Ok, Err}
+use Rattle.std.specs.Prelude.{◌≡◌, ℕ, ◌+◌, ◌≤◌, List, [], ◌++◌, length, Option, Some, None, Result, Ok, Err}
 use Rattle.std.specs.Io.KnownBytes.{Consumes}
-use Rattle.ciborium_ll.specs.Bytes.{AreBytes, greatest_offset}
+use Rattle.ciborium_ll.specs.{Bytes.{AreBytes, greatest_offset}, Refusal.Refusal}
+use Rattle.ciborium_value.specs.{Refuses.Refuses, Spelling.{Spelling, IsReadAs}, Tree.Tree, declared.kind.Kind.Kind}
+use Rattle.ciborium.specs.{declared.de.error.Error.Error, declared.de.error.Error.TheVariants.{Io, Syntax, Semantic}}
+use Rattle.ciborium.specs.declared.de.error.Error.TheVariants.{Memory, RecursionLimitExceeded, TooLong}
 use Rattle.ciborium_ll.specs.Refusal as refusal
-use Rattle.ciborium_ll.specs.Refusal.{Refusal}
-use Rattle.ciborium_value.specs.Refuses.{Refuses}
-use Rattle.ciborium_value.specs.Spelling.{Spelling, IsReadAs}
-use Rattle.ciborium_value.specs.Tree.{Tree}
-use Rattle.ciborium_value.specs.declared.kind.Kind.{Kind}
 use Rattle.ciborium_value.specs.declared.kind.Kind.TheVariants as kinds
-use Rattle.ciborium.specs.declared.de.error.Error.{Error}
-use Rattle.ciborium.specs.declared.de.error.Error.TheVariants.{Io, Syntax, Semantic, Memory}
-use Rattle.ciborium.specs.declared.de.error.Error.TheVariants.{RecursionLimitExceeded, TooLong}
 
 -- ---- refusals
 
@@ -54,16 +48,14 @@ IsRefusedBy left TooLong P = P refusal.too_long
 -- it; or refused so, whatever follows them
 abbrev pub IsTakenFrom : {E : Type 0} → Spelling → ℕ → List ℕ → ℕ → Result Tree (Error E) → Type 0
 IsTakenFrom spelling p s l (Ok v) = IsReadAs spelling s p (Some l) v
-IsTakenFrom spelling p s l (Err e) = (c : List ℕ) →
-    IsRefusedBy (Some c) e (Refuses spelling (s ++ c) p (Some l))
+IsTakenFrom spelling p s l (Err e) = (c : List ℕ) → IsRefusedBy (Some c) e (Refuses spelling (s ++ c) p (Some l))
 
 -- from offset p on some bytes were taken, a beginning of those that are known, and to the greatest
 -- offset at most; and so they are
 abbrev pub TakesBytes : {E : Type 0} → Spelling → ℕ → Option (List ℕ) → ℕ → Option (List ℕ) →
     Result Tree (Error E) → Type 0
-TakesBytes spelling p before l after r =
-    (s : List ℕ) × Consumes before after s × (p + length s ≤ greatest_offset) ×
-    IsTakenFrom spelling p s l r × AreBytes s
+TakesBytes spelling p before l after r = (s : List ℕ) ×
+    Consumes before after s × (p + length s ≤ greatest_offset) × IsTakenFrom spelling p s l r × AreBytes s
 
 -- the reader failed before its end, or memory was refused: at its end `Io` is a refusal of the
 -- definitions
@@ -74,15 +66,12 @@ IsFailed left _ = ⊥
 
 -- bytes that are read as v stood at the front, and left followed: they were taken, and v is the
 -- answer, or the call failed
-abbrev pub GivesTree : {E : Type 0} → Tree → List ℕ → Option (List ℕ) → Result Tree (Error E) →
-    Type 0
+abbrev pub GivesTree : {E : Type 0} → Tree → List ℕ → Option (List ℕ) → Result Tree (Error E) → Type 0
 GivesTree v left after (Ok w) = (v ≡ w) × (after ≡ Some left)
 GivesTree v left after (Err e) = IsFailed after e
 
 -- an item at the front that is accepted is taken and its tree answered, unless the call failed
 abbrev pub AnswersGoodItem : {E : Type 0} → Spelling → Option (List ℕ) → ℕ → Option (List ℕ) →
     Result Tree (Error E) → Type 0
-AnswersGoodItem spelling before l after r =
-    (b s left : List ℕ) (v : Tree) → before ≡ Some b → IsReadAs spelling s 0 (Some l) v →
-    b ≡ s ++ left →
-    GivesTree v left after r
+AnswersGoodItem spelling before l after r = (b s left : List ℕ) (v : Tree) →
+    before ≡ Some b → IsReadAs spelling s 0 (Some l) v → b ≡ s ++ left → GivesTree v left after r

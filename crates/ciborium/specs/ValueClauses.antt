@@ -1,26 +1,19 @@
 -- What callers may use of a call that reads one value: its promise, and what follows from that.
-use Rattle.std.specs.Prelude.{◌≡◌, ℕ, ◌+◌, ◌≤◌, List, ◌++◌, length, Option, Some, Result}
-use Rattle.std.specs.Prelude.{IfErr, IfOk}
+use Rattle.std.specs.Prelude.{◌≡◌, ℕ, ◌+◌, ◌≤◌, List, ◌++◌, length, Option, Some, Result, IfErr, IfOk}
 use Rattle.ciborium_ll.specs.Bytes.{greatest_offset}
-use Rattle.ciborium_value.specs.Counts.{node_count, payload_size}
-use Rattle.ciborium_value.specs.ProperTrees.{IsProperTree}
-use Rattle.ciborium_value.specs.Refuses.{Refuses}
-use Rattle.ciborium_value.specs.Spelling.{Spelling, IsReadAs}
-use Rattle.ciborium_value.specs.Tree.{Tree}
-use Rattle.ciborium.specs.declared.de.error.Error.{Error}
-use Rattle.ciborium.specs.ValueAnswers.{IsRefusedBy, TakesBytes, AnswersGoodItem}
+use Rattle.ciborium_value.specs.{Counts.{node_count, payload_size}, ProperTrees.IsProperTree, Refuses.Refuses}
+use Rattle.ciborium_value.specs.{Spelling.{Spelling, IsReadAs}, Tree.Tree}
+use Rattle.ciborium.specs.{declared.de.error.Error.Error, ValueAnswers.{IsRefusedBy, TakesBytes, AnswersGoodItem}}
 
 -- of the bytes b just those of one item within l levels were taken, which means v
 abbrev pub TakesValue : Spelling → List ℕ → ℕ → Tree → Option (List ℕ) → Type 0
-TakesValue spelling b l v after = (s : List ℕ) × (left : List ℕ) ×
-    IsReadAs spelling s 0 (Some l) v ×
-    (b ≡ s ++ left) × (after ≡ Some left)
+TakesValue spelling b l v after = (s : List ℕ) ×
+    (left : List ℕ) × IsReadAs spelling s 0 (Some l) v × (b ≡ s ++ left) × (after ≡ Some left)
 
 -- at Ok just the bytes of one item were taken, which are read as the answer
 abbrev pub TakesJustItem : {E : Type 0} → Spelling → Option (List ℕ) → ℕ → Option (List ℕ) →
     Result Tree (Error E) → Type 0
-TakesJustItem spelling before l after r = (b : List ℕ) → before ≡ Some b →
-    IfOk r (λ v. TakesValue spelling b l v after)
+TakesJustItem spelling before l after r = (b : List ℕ) → before ≡ Some b → IfOk r (λ v. TakesValue spelling b l v after)
 
 -- an error is the refusal of what the reader held
 abbrev pub RefusesBytes : {E : Type 0} → Spelling → Option (List ℕ) → ℕ → Option (List ℕ) →
@@ -29,11 +22,9 @@ RefusesBytes spelling before l after r = (b : List ℕ) → before ≡ Some b �
     IfErr r (λ e. IsRefusedBy after e (Refuses spelling b 0 (Some l)))
 
 -- the values and payload bytes of the answer are no more than the bytes taken
-abbrev pub HoldsNoMore : {E : Type 0} → Option (List ℕ) → Option (List ℕ) → Result Tree (Error E) →
-    Type 0
-HoldsNoMore before after r =
-    (b left : List ℕ) → before ≡ Some b → after ≡ Some left →
-    IfOk r (λ v. node_count v + payload_size v + length left ≤ length b)
+abbrev pub HoldsNoMore : {E : Type 0} → Option (List ℕ) → Option (List ℕ) → Result Tree (Error E) → Type 0
+HoldsNoMore before after r = (b left : List ℕ) →
+    before ≡ Some b → after ≡ Some left → IfOk r (λ v. node_count v + payload_size v + length left ≤ length b)
 
 -- the answer is a tree that memory can hold
 abbrev pub AnswersProper : {E : Type 0} → Result Tree (Error E) → Type 0

@@ -1,13 +1,9 @@
 -- What writing answers, and where the sink over a writer stands.
-use Rattle.std.specs.Prelude.{◌≡◌, ℕ, List, Option, Some, None, Result, Ok, Err, IsErr}
-use Rattle.std.specs.Borrow.{GName}
+use Rattle.std.specs.{Prelude.{◌≡◌, ℕ, List, Option, Some, None, Result, Ok, Err, IsErr}, Borrow.GName}
 use Rattle.ciborium_ll.specs.Writing.{Writes}
-use Rattle.ciborium_value.specs.Encoding.{written_bytes}
-use Rattle.ciborium_value.specs.Places.{Place, Out, IsOutAt, IsWrittenPlace}
-use Rattle.ciborium_value.specs.Sinks.{Named, Cause, value, memory, device}
-use Rattle.ciborium_value.specs.WrittenItems.{IsWritten}
-use Rattle.ciborium.specs.declared.ser.error.Error.{Error}
-use Rattle.ciborium.specs.declared.ser.error.Error.TheVariants.{Io, Value, Memory}
+use Rattle.ciborium_value.specs.{Encoding.written_bytes, Places.{Place, Out, IsOutAt, IsWrittenPlace}, Sinks.Named}
+use Rattle.ciborium_value.specs.{Sinks.{Cause, value, memory, device}, WrittenItems.IsWritten}
+use Rattle.ciborium.specs.{declared.ser.error.Error.Error, declared.ser.error.Error.TheVariants.{Io, Value, Memory}}
 use Rattle.ciborium.specs.declared.ser.byte_sink.ByteSink.{ByteSink}
 use Rattle.ciborium.specs.declared.ser.byte_sink.BareWriteError.{BareWriteError}
 use Rattle.ciborium.specs.declared.ser.byte_sink.BareWriteError.TheVariants as refusal
@@ -27,8 +23,7 @@ cause_of Memory = memory
 -- the bytes of the item that a value names: all at `Ok`, a proper beginning of them at `Err`, and
 -- nothing else. A value that names
 -- none is never written
-abbrev pub WritesNamed : {E : Type 0} → Option (List ℕ) → Option (List ℕ) → Result (Unit {0}) E →
-    Named → Type 0
+abbrev pub WritesNamed : {E : Type 0} → Option (List ℕ) → Option (List ℕ) → Result (Unit {0}) E → Named → Type 0
 WritesNamed old new result (Ok i) = Writes old new result (written_bytes i)
 WritesNamed old new result (Err kind) = IsErr result
 
@@ -61,8 +56,7 @@ out_of contents s = named_out s.writer.ghost_name (contents s.writer.now)
 -- the bytes go out: all at `Ok`, and at `Err` a proper beginning of them
 abbrev pub PutsOut : {W E : Type 0} → (W → Option (List ℕ)) → ByteSink W → ByteSink W →
     Result (Unit {0}) E → List ℕ → Type 0
-PutsOut contents old new result bytes = Writes (contents old.writer.now) (contents new.writer.now)
-    result bytes
+PutsOut contents old new result bytes = Writes (contents old.writer.now) (contents new.writer.now) result bytes
 
 -- just the bytes of the place are out, and they can be written
 abbrev pub IsOutFor : {W : Type 0} → (W → Option (List ℕ)) → ByteSink W → Place → Type 0

@@ -1,12 +1,14 @@
 -- Lemmas that ghost members of traits need: what is written under tags is read back.
 pub mod ReadsBackTags
-pub mod FormsReadBackTags
 pub mod WrittenTags
 pub mod TagDescriptions
 pub use Rattle.ciborium_value.specs.lemmas.KeyOrders
 pub use Rattle.ciborium_value.specs.lemmas.DerivedOrder
 pub use Rattle.ciborium_value.specs.lemmas.ItemsOfTrees
 pub use Rattle.ciborium_value.specs.lemmas.GivenOutcomes
+pub use Rattle.ciborium_value.specs.lemmas.Reordered
+pub use Rattle.ciborium_value.specs.lemmas.MetItems
+pub use Rattle.ciborium_value.specs.lemmas.PutEntries
 pub use Rattle.ciborium_value.specs.lemmas.ReadsBackBignums
 pub use Rattle.ciborium_value.specs.lemmas.ReadsBackNumbers
 pub use Rattle.ciborium_value.specs.lemmas.ReadsBackOptions
@@ -15,12 +17,6 @@ pub use Rattle.ciborium_value.specs.lemmas.ReadsBackStructs
 pub use Rattle.ciborium_value.specs.lemmas.ReadsBackVariants
 pub use Rattle.ciborium_value.specs.lemmas.ReadsBackMaps
 pub use Rattle.ciborium_value.specs.lemmas.ReadsBackValues
-pub use Rattle.ciborium_value.specs.lemmas.FormsReadBackNumbers
-pub use Rattle.ciborium_value.specs.lemmas.FormsReadBackParts
-pub use Rattle.ciborium_value.specs.lemmas.FormsReadBackMaps
-pub use Rattle.ciborium_value.specs.lemmas.FormsReadBackOptions
-pub use Rattle.ciborium_value.specs.lemmas.FormsReadBackStructs
-pub use Rattle.ciborium_value.specs.lemmas.FormsReadBackVariants
 pub use Rattle.ciborium_value.specs.lemmas.Descriptions
 pub use Rattle.ciborium_value.specs.lemmas.ItemDescriptions
 pub use Rattle.ciborium_value.specs.lemmas.VariantDescriptions

@@ -1,15 +1,14 @@
 //! Tags around a value (RFC 8949, section 3.4).
 
-ghost use Rattle.std.specs.Prelude.{◌≡◌, Option, refl, suc, ℕ};
+ghost use Rattle.std.specs.Prelude.{◌≡◌, Option, Some, refl, suc, ℕ};
 ghost use Rattle.ciborium_value.specs.lemmas.KeyOrders.{ordering_then-same};
 ghost use Rattle.ciborium_value.specs.Sinks.{tag_of};
 ghost use Rattle.ciborium_value.specs.TagReadings.{is_no_other_tag, is_tag, tag_accepted};
 ghost use Rattle.ciborium_value.specs.TagReadings.{tag_required, with_tag};
-ghost use Rattle.ciborium.specs.lemmas.FormsReadBackTags.{accepted-form, captured-form};
-ghost use Rattle.ciborium.specs.lemmas.FormsReadBackTags.{not_bytes, required-form};
-ghost use Rattle.ciborium.specs.lemmas.FormsReadBackTags.{whatever_tag};
+ghost use Rattle.ciborium_value.specs.ReadsBack.{by_form};
 ghost use Rattle.ciborium.specs.lemmas.ReadsBackTags.{IsToldApart, accepted-back, captured-back};
-ghost use Rattle.ciborium.specs.lemmas.ReadsBackTags.{captured-never, required-back, tag-never};
+ghost use Rattle.ciborium.specs.lemmas.ReadsBackTags.{captured-never, not_bytes};
+ghost use Rattle.ciborium.specs.lemmas.ReadsBackTags.{plain-unfolded, required-back, tag-never};
 ghost use Rattle.ciborium.specs.lemmas.TagDescriptions.{under_any_tag, under_tag};
 ghost use Rattle.ciborium.specs.lemmas.TagDescriptions.{under_tag_or_none};
 ghost use Rattle.ciborium.specs.Tags.{captured_of};
@@ -157,7 +156,9 @@ impl<V: ReadsBack> ReadsBack for Captured<V> {
 
     ghost levels = { λ c. suc (V.levels c.1) };
 
-    ghost reads_back = { λ c valid. captured-back c.0 valid.0 (V.reads_back c.1 valid.1) };
+    ghost reads_back = { λ way plain c valid. captured-back
+        c.0 valid.0 (plain-unfolded way plain c.0 (V.written c.1))
+        (V.reads_back way plain c.1 valid.1) };
 }
 
 /// The tag always uses one level.
@@ -166,7 +167,9 @@ impl<V: ReadsBack, const TAG: u64> ReadsBack for Required<V, TAG> {
 
     ghost levels = { λ r. suc (V.levels r.0) };
 
-    ghost reads_back = { λ r valid. required-back TAG (V.reads_back r.0 valid) };
+    ghost reads_back = { λ way plain r valid. required-back
+        TAG (plain-unfolded way plain (Some TAG) (V.written r.0))
+        (V.reads_back way plain r.0 valid) };
 }
 
 /// The tag always uses one level.
@@ -175,27 +178,30 @@ impl<V: ReadsBack, const TAG: u64> ReadsBack for Accepted<V, TAG> {
 
     ghost levels = { λ a. suc (V.levels a.0) };
 
-    ghost reads_back = { λ a valid. accepted-back TAG (V.reads_back a.0 valid) };
+    ghost reads_back = { λ way plain a valid. accepted-back
+        TAG (plain-unfolded way plain (Some TAG) (V.written a.0))
+        (V.reads_back way plain a.0 valid) };
 }
 
 /// For a content that no tag makes a bignum of.
 impl<V: FormReadsBack + NeverWrites<ByteString>> FormReadsBack for Captured<V> {
-    ghost form_reads_back = { λ o c valid. captured-form o
-        c.0 valid.0 (whatever_tag (V.never c.1) c.0) (V.form_reads_back o c.1 valid.1) };
+    ghost form_reads_back = { λ o c valid. captured-back
+        c.0 valid.0 (not_bytes (by_form o) c.0 (V.never c.1))
+        (V.form_reads_back o c.1 valid.1) };
 }
 
 /// For a content that no tag makes a bignum of.
 impl<V: FormReadsBack + NeverWrites<ByteString>, const TAG: u64> FormReadsBack
     for Required<V, TAG> {
-    ghost form_reads_back = { λ o r valid. required-form o
-        TAG (not_bytes (V.never r.0) TAG) (V.form_reads_back o r.0 valid) };
+    ghost form_reads_back = { λ o r valid. required-back
+        TAG (not_bytes (by_form o) (Some TAG) (V.never r.0)) (V.form_reads_back o r.0 valid) };
 }
 
 /// For a content that no tag makes a bignum of.
 impl<V: FormReadsBack + NeverWrites<ByteString>, const TAG: u64> FormReadsBack
     for Accepted<V, TAG> {
-    ghost form_reads_back = { λ o a valid. accepted-form o
-        TAG (not_bytes (V.never a.0) TAG) (V.form_reads_back o a.0 valid) };
+    ghost form_reads_back = { λ o a valid. accepted-back
+        TAG (not_bytes (by_form o) (Some TAG) (V.never a.0)) (V.form_reads_back o a.0 valid) };
 }
 
 impl<V: Described> Described for Captured<V> {

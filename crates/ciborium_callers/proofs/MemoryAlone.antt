@@ -1,15 +1,8 @@
 -- A call that answers what stands there, or refuses for want of memory, refuses for nothing else.
 use Rattle.std.proofs.Common.{◌≡◌, ◌⊎◌, inl, inr, refl, sym, subst, ℕ, ◌≤◌, List, Some, Result, Ok, Err, IfErr, IfOk}
-use Rattle.ciborium.specs.ReadsBack.{IsNameRead, by_bytes}
-use Rattle.ciborium.specs.Sinks.{Named}
-use Rattle.ciborium.specs.SliceAnswers.{GivesAll}
-use Rattle.ciborium.specs.View.{read_as}
-use Rattle.ciborium.specs.Spells.{Spells}
-use Rattle.ciborium.specs.Given.{Given}
-use Rattle.ciborium.specs.Writes.{IsWrittenAs}
-use Rattle.ciborium.specs.WrittenItems.{WrittenSpells}
-use Rattle.ciborium.specs.declared.de.error.Error.{Error}
-use Rattle.ciborium.specs.declared.de.error.Error.TheVariants.{Memory}
+use Rattle.ciborium.specs.{ReadsBack.{IsNameRead, by_bytes}, Sinks.Named, SliceAnswers.GivesAll, View.read_as}
+use Rattle.ciborium.specs.{Spells.Spells, Given.Given, Writes.IsWrittenAs, WrittenItems.WrittenSpells}
+use Rattle.ciborium.specs.{declared.de.error.Error.Error, declared.de.error.Error.TheVariants.Memory}
 
 -- the call answers v, or refuses for want of memory
 abbrev pub Answers : {E A : Type 0} → A → Result A (Error E) → Type 0
@@ -39,9 +32,9 @@ content f v (Ok a) h = same (f a) v (read_as f (Ok a)) refl h
 content f v (Err e) h = tt
 
 -- the bytes that a value is written as give its content
-pub of_written :
-    {E A : Type 0} (named : Named) (taken : Given A) (c : A) (n : ℕ) (b : List ℕ) (r : Result A (Error E)) →
-    WrittenSpells → IsNameRead named taken c n → n ≤ 256 → IsWrittenAs b named → GivesAll 256 taken b r → Answers c r
+pub of_written : {E A : Type 0} (named : Named)
+    (taken : Given A) (c : A) (n : ℕ) (b : List ℕ) (r : Result A (Error E)) → WrittenSpells →
+    IsNameRead by_bytes named taken c n → n ≤ 256 → IsWrittenAs b named → GivesAll 256 taken b r → Answers c r
 of_written (Ok i) taken c n b r spells back fits (is, written) answers =
-    answers i c (subst (λ x. Spells x i) (sym is) (spells i written)) (back.back by_bytes i refl (Some 256) fits)
+    answers i c (subst (λ x. Spells x i) (sym is) (spells i written)) (back.back i refl i refl (Some 256) fits)
 of_written (Err kind) taken c n b r spells back fits written answers = absurd written

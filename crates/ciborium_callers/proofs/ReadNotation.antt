@@ -1,10 +1,7 @@
 -- What is printed of a value is read as that value.
 use Rattle.std.proofs.Common.{◌≡◌, ℕ, List, IfErr, IfOk, Ok, Err, Result, sym}
-use Rattle.ciborium.specs.Denotes.{Denotes, DenotesWithin, MayRefuse}
-use Rattle.ciborium.specs.Tree.{Tree}
-use Rattle.ciborium.specs.View.{tree_of}
-use Rattle.ciborium_value.specs.declared.from_notation.error.NotationError.{NotationError}
-use Rattle.ciborium_value.specs.declared.tree.Value.{Value}
+use Rattle.ciborium.specs.{Denotes.{Denotes, DenotesWithin, MayRefuse}, Tree.Tree, View.tree_of}
+use Rattle.ciborium_value.specs.{declared.from_notation.error.NotationError.NotationError, declared.tree.Value.Value}
 
 pub same_read : (r : Result Value NotationError) (t : List ℕ) (v : Tree) → Denotes t v →
     IfOk r (λ x. (w : Tree) → Denotes t w → w ≡ tree_of x) → IfOk r (λ x. tree_of x ≡ v)

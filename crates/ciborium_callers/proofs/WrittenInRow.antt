@@ -1,20 +1,16 @@
 -- Two values that are written in a row are a sequence of their items.
 use Rattle.std.proofs.Common.{◌≡◌, ℕ, List, [], ◌++◌, Option, Ok, Err, refl, sym, subst, append-nil}
-use Rattle.std.specs.Io.KnownBytes.{Appends}
 use Rattle.std.proofs.KnownBytes.{Appends-trans}
-use Rattle.ciborium.specs.Item as items
-use Rattle.ciborium.specs.Item.{Item}
-use Rattle.ciborium.specs.Sinks.{Named}
-use Rattle.ciborium.specs.Encoding.{written_bytes}
-use Rattle.ciborium_value.proofs.Writing.ReadBack.{written_spells_item}
-use Rattle.ciborium.specs.ItemSequences.{IsSequence}
+use Rattle.std.specs.Io.KnownBytes.{Appends}
+use Rattle.ciborium.specs.{Item.Item, Sinks.Named, Encoding.written_bytes, ItemSequences.IsSequence}
 use Rattle.ciborium.specs.Writes.{IsNamedWritten, WritesNamed}
+use Rattle.ciborium_value.proofs.Writing.ReadBack.{written_spells_item}
+use Rattle.ciborium.specs.Item as items
 
-pub both-written : (old mid new : Option (List ℕ)) (m n : Named) → IsNamedWritten m → IsNamedWritten n →
-    ((i : Item) → m ≡ Ok i → Appends old mid (written_bytes i)) →
-    ((i : Item) → n ≡ Ok i → Appends mid new (written_bytes i)) →
-    (b : List ℕ) × (i : Item) × (j : Item) × (m ≡ Ok i) × (n ≡ Ok j) ×
-    IsSequence b (items.item i (items.item j items.no_items)) × Appends old new b
+pub both-written : (old mid new : Option (List ℕ)) (m n : Named) →
+    IsNamedWritten m → IsNamedWritten n → ((i : Item) → m ≡ Ok i → Appends old mid (written_bytes i)) →
+    ((i : Item) → n ≡ Ok i → Appends mid new (written_bytes i)) → (b : List ℕ) × (i : Item) ×
+    (j : Item) × (m ≡ Ok i) × (n ≡ Ok j) × IsSequence b (items.item i (items.item j items.no_items)) × Appends old new b
 both-written old mid new (Ok i) (Ok j) w v first second = (
   written_bytes i ++ written_bytes j,
   i,

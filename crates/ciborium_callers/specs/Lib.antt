@@ -1,1 +1,3 @@
 pub mod NumberTrees
+pub mod Notices
+pub mod Letters

@@ -1,20 +1,17 @@
 -- A type that holds itself: what its values are as trees, and which trees they are.
 use Rattle.std.proofs.Common.{ap, ◌∙◌}
-use Rattle.std.specs.Prelude.{◌≡◌, pos, negsuc, Bool, true, false, ◌&&◌, nat_lt, Some, option_map}
-use Rattle.std.specs.Prelude.{refl}
-use Rattle.ciborium.specs.DeterministicForms.{deterministic_form, deterministic_forms, one_more}
-use Rattle.ciborium.specs.Encoding.{item_of, items_of, written_tree, written_trees}
-use Rattle.ciborium.specs.Folded.{folded, trees_folded}
-use Rattle.ciborium.specs.Meaning.{trees_more}
-use Rattle.ciborium.specs.Number.{number_tree}
-use Rattle.ciborium.specs.Given.{gives, outcome_map}
-use Rattle.ciborium.specs.Tree as trees
-use Rattle.ciborium.specs.Tree.{Tree, Trees}
-use Rattle.ciborium.specs.View.{trees_from}
-use Rattle.ciborium_value.specs.declared.key_order.KeyOrder.{KeyOrder}
+use Rattle.std.specs.Prelude.{◌≡◌, pos, negsuc, Bool, true, false, ◌&&◌, nat_lt, Some, option_map, refl}
+use Rattle.ciborium.specs.{DeterministicForms.{deterministic_form, deterministic_forms, one_more}, Encoding.item_of}
+use Rattle.ciborium.specs.{Encoding.{items_of, written_tree, written_trees}, Folded.{folded, trees_folded}}
+use Rattle.ciborium.specs.{Meaning.trees_more, Number.number_tree, Given.{chosen, give, given_value, gives}}
+use Rattle.ciborium.specs.{Given.{outcome_map, refuse}, GivenParts.given_then, Nesting.nesting, ReadsBack.IsNameRead}
+use Rattle.ciborium.specs.{ReadsBack.{Way, met-itself, named}, Tree.{Tree, Trees}, View.trees_from}
+use Rattle.ciborium.specs.{lemmas.Descriptions.both, lemmas.ItemsOfTrees.tree_is_written_as_itself}
+use Rattle.ciborium.specs.{lemmas.ReadsBackParts.such_that_back, lemmas.ReadsBackValues.value-back}
+use Rattle.ciborium_value.specs.{declared.key_order.KeyOrder.KeyOrder, declared.kind.Kind.TheVariants.Other}
 use Rattle.ciborium_callers.specs.declared.tree_types.NumberTree.{NumberTree, fold-NumberTree}
 use Rattle.ciborium_callers.specs.declared.tree_types.NumberTree.TheOpen.{NumberTree-F}
-use Rattle.ciborium.specs.lemmas.Descriptions.{both}
+use Rattle.ciborium.specs.Tree as trees
 
 -- one level, where each value inside is its tree already
 abbrev pub number_level_tree : NumberTree-F Tree → Tree
@@ -43,7 +40,7 @@ abbrev mutual
   are_number_trees (trees.tree v vs) = is_number_tree v && are_number_trees vs
 
 mutual
-  pub folded-number_tree : (t : Tree) → is_number_tree t ≡ true → folded t ≡ Some t
+  folded-number_tree : (t : Tree) → is_number_tree t ≡ true → folded t ≡ Some t
   folded-number_tree (trees.integer z) h = refl
   folded-number_tree (trees.array vs) h = ap (option_map trees.array) (folded-number_trees vs h)
   folded-number_tree _ h = cc
@@ -57,13 +54,13 @@ mutual
 
 -- no map stands in such a tree, so it is its own form
 mutual
-  pub own-number_tree : (o : KeyOrder) (t : Tree) → is_number_tree t ≡ true →
+  own-number_tree : (o : KeyOrder) (t : Tree) → is_number_tree t ≡ true →
       deterministic_form o (written_tree (item_of t)) ≡ gives (written_tree (item_of t))
   own-number_tree o (trees.integer (pos n)) h = refl
   own-number_tree o (trees.array vs) h = ap (outcome_map trees.array) (own-number_trees o vs h)
   own-number_tree o _ h = cc
 
-  pub own-number_trees : (o : KeyOrder) (vs : Trees) → are_number_trees vs ≡ true →
+  own-number_trees : (o : KeyOrder) (vs : Trees) → are_number_trees vs ≡ true →
       deterministic_forms o (written_trees (items_of vs)) ≡ gives (written_trees (items_of vs))
   own-number_trees o trees.no_trees h = refl
   own-number_trees o (trees.tree v vs) h =
@@ -71,3 +68,10 @@ mutual
       ap (λ r. one_more r (deterministic_forms o (written_trees (items_of vs))))
       (own-number_tree o v parts.0) ∙
       ap (one_more (gives (written_tree (item_of v)))) (own-number_trees o vs parts.1)
+
+-- such a tree is read back, and no other one
+pub number_tree-back : (way : Way) (t : Tree) → is_number_tree t ≡ true → IsNameRead way (named (item_of t))
+    (given_then given_value (λ v. chosen (is_number_tree v) (give v) (refuse Other))) t (nesting (item_of t))
+number_tree-back way t h = such_that_back is_number_tree Other
+    (value-back t (met-itself (item_of t) (ap item_of (tree_is_written_as_itself t))
+    (λ o. own-number_tree o t h) way) (folded-number_tree t h)) h

@@ -18,7 +18,8 @@ pub fn described_come_back()
     ensures records { TreeReadBack ⟦<Record as ReadsBack>⟧.is_valid ⟦<Record as Serialize>⟧.written
         ⟦<Record as Deserialize>⟧.reading }
     ensures headers { SavedIsLoaded ⟦<KeyHeader as ReadsBack>⟧.is_valid
-        ⟦<KeyHeader as Serialize>⟧.written ⟦<KeyHeader as Deserialize>⟧.reading }
+        ⟦<KeyHeader as Serialize>⟧.written ⟦<KeyHeader as Deserialize>⟧.reading
+        ⟦<KeyHeader as ReadsBack>⟧.levels }
     ensures lists { OneEncoding ⟦<Vec<Option<KeyHeader>> as Serialize>⟧.written
         ⟦<Vec<Option<KeyHeader>> as Deserialize>⟧.reading }
 {

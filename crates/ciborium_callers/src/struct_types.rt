@@ -1,21 +1,11 @@
 //! Structs that are written and read by the names of their fields.
-ghost use Rattle.std.specs.Prelude.{◌∷◌, List, None, Ok, [], string_bytes};
-ghost use Rattle.std.specs.Prelude.{Bool, false, if◌then◌else◌, true, ℕ};
-ghost use Rattle.ciborium.specs.Encoding.{boolean_item};
-ghost use Rattle.ciborium.specs.Labels.{fields_of};
-ghost use Rattle.ciborium.specs.ReadsBack.{boolean-back, string_back};
-ghost use Rattle.ciborium.specs.FormsReadBack.{boolean-form, string-form};
+ghost use Rattle.std.specs.Prelude.{Bool, List, None, string_bytes, true, ℕ};
+ghost use Rattle.ciborium.specs.ReadsBack.{boolean-back, by_form, string_back};
 ghost use Rattle.ciborium.specs.OwnTypes.{described, label, refl, struct_description, then_field};
 ghost use Rattle.ciborium.specs.OwnTypes.{then_field_or, then_no_field};
-ghost use Rattle.ciborium.specs.lemmas.FormsReadBackStructs.{either_form, field_form};
-ghost use Rattle.ciborium.specs.lemmas.FormsReadBackStructs.{field_or_form, fields_form};
-ghost use Rattle.ciborium.specs.lemmas.FormsReadBackStructs.{left_out_form, no_field_form};
-ghost use Rattle.ciborium.specs.lemmas.ReadsBackParts.{either_back};
-ghost use Rattle.ciborium.specs.lemmas.ReadsBackStructs.{field_back, field_or_back};
-ghost use Rattle.ciborium.specs.lemmas.ReadsBackStructs.{fields_read_back, left_out_back};
-ghost use Rattle.ciborium.specs.lemmas.ReadsBackStructs.{no_field_back};
 ghost use Rattle.ciborium.specs.Sinks.{named_text};
-ghost use Rattle.ciborium.specs.StructReadings.{field, field_or, no_field, struct_of};
+ghost use Rattle.ciborium.specs.StructReadings.{struct_of};
+ghost use Rattle.ciborium_callers.specs.Notices.{notice_back, notice_fields, notice_named};
 
 use ciborium::de::{Deserialize, Source, Wanted, found_or, read_fields, required};
 use ciborium::described::{AsDescribed, Described};
@@ -145,10 +135,7 @@ pub struct Notice {
 }
 
 impl Serialize for Notice {
-    ghost written = { λ n. if n.urgent
-        then fields_of ((label "title", named_text (string_bytes n.title)) ∷
-        (label "urgent", Ok (boolean_item true)) ∷ [])
-        else fields_of ((label "title", named_text (string_bytes n.title)) ∷ []) };
+    ghost written = { λ n. notice_named (named_text (string_bytes n.title)) n.urgent };
 
     ghost takes_memory = { ⊥ };
 
@@ -165,8 +152,7 @@ impl Deserialize for Notice {
     ghost Content = { List ℕ × (Bool × Unit {0}) };
 
     ghost reading = { struct_of (λ n. (string_bytes n.title, (n.urgent, tt)))
-        (field (label "title") ⟦<String as Deserialize>⟧.reading
-        (field_or (label "urgent") ⟦<bool as Deserialize>⟧.reading false no_field)) };
+        (notice_fields ⟦<String as Deserialize>⟧.reading ⟦<bool as Deserialize>⟧.reading) };
 
     fn deserialize<S: Source>(alloc: Global, source: &mut S) -> Result<Notice, S::Error> {
         let mut fields = Wanted("title", None, Wanted("urgent", None, NoField));
@@ -184,29 +170,13 @@ impl ReadsBack for Notice {
 
     ghost levels = { λ n. 1 };
 
-    ghost reads_back = { λ n valid. either_back
-        (λ urgent. (string_bytes n.title, (urgent, tt))) n.urgent
-        (fields_read_back
-        (field_back (label "title") ⟦<String as Deserialize>⟧.reading (string_back n.title tt)
-        (field_or_back (label "urgent") ⟦<bool as Deserialize>⟧.reading false
-        (boolean-back true tt) no_field_back)) refl)
-        (fields_read_back
-        (field_back (label "title") ⟦<String as Deserialize>⟧.reading (string_back n.title tt)
-        (left_out_back (label "urgent") ⟦<bool as Deserialize>⟧.reading false refl
-        no_field_back)) refl) };
+    ghost reads_back = { λ way plain n valid. notice_back
+        ⟦<String as Deserialize>⟧.reading ⟦<bool as Deserialize>⟧.reading n.urgent
+        (string_back way n.title tt) (boolean-back way true tt) };
 }
 
 impl FormReadsBack for Notice {
-    ghost form_reads_back = { λ order n valid. either_form order
-        (λ urgent. (string_bytes n.title, (urgent, tt))) n.urgent
-        (fields_form order
-        (field_form order (label "title") ⟦<String as Deserialize>⟧.reading
-        (string-form order n.title tt)
-        (field_or_form order (label "urgent") ⟦<bool as Deserialize>⟧.reading false
-        (boolean-form order true tt) (no_field_form order))) refl)
-        (fields_form order
-        (field_form order (label "title") ⟦<String as Deserialize>⟧.reading
-        (string-form order n.title tt)
-        (left_out_form order (label "urgent") ⟦<bool as Deserialize>⟧.reading false refl
-        (no_field_form order))) refl) };
+    ghost form_reads_back = { λ order n valid. notice_back
+        ⟦<String as Deserialize>⟧.reading ⟦<bool as Deserialize>⟧.reading n.urgent
+        (string_back (by_form order) n.title tt) (boolean-back (by_form order) true tt) };
 }

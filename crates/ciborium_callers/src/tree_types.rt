@@ -1,18 +1,16 @@
 //! A type that holds itself. It is read as a `Value`, of which it is made.
 ghost use Rattle.std.specs.Prelude.{◌≡◌, ◌⊎◌, IfErr, IfOk, Ok, false, map, true};
 ghost use Rattle.ciborium.specs.Encoding.{item_of};
-ghost use Rattle.ciborium.specs.FormsReadBack.{own-form_read};
 ghost use Rattle.ciborium.specs.Nesting.{nesting};
 ghost use Rattle.ciborium.specs.Readings.{such_that};
-ghost use Rattle.ciborium.specs.lemmas.ReadsBackParts.{such_that_back};
-ghost use Rattle.ciborium.specs.lemmas.ReadsBackValues.{value-back};
+ghost use Rattle.ciborium.specs.ReadsBack.{by_form};
 ghost use Rattle.ciborium.specs.Tree as trees;
 ghost use Rattle.ciborium.specs.View.{tree_of, trees_of};
 ghost use Rattle.ciborium.specs.WrittenContents.{from_content};
 ghost use Rattle.ciborium_value.specs.declared.kind.Kind.TheVariants.{Other};
 ghost use Rattle.ciborium_value.specs.declared.error.Error.TheVariants.{Custom, Memory};
-ghost use Rattle.ciborium_callers.specs.NumberTrees.{are_number_trees, folded-number_tree};
-ghost use Rattle.ciborium_callers.specs.NumberTrees.{is_number_tree, own-number_tree, shape_of};
+ghost use Rattle.ciborium_callers.specs.NumberTrees.{are_number_trees, is_number_tree};
+ghost use Rattle.ciborium_callers.specs.NumberTrees.{number_tree-back, shape_of};
 
 use ciborium::de::{Deserialize, Source};
 use ciborium::laws::{FormReadsBack, ReadsBack, WritesContent};
@@ -62,16 +60,13 @@ impl ReadsBack for NumberTree {
 
     ghost levels = { λ t. nesting (item_of (shape_of t)) };
 
-    ghost reads_back = { λ t valid. such_that_back is_number_tree Other
-        (value-back (shape_of t) (folded-number_tree (shape_of t) valid)) valid };
+    ghost reads_back = { λ way plain t valid. number_tree-back way (shape_of t) valid };
 }
 
 // It has no map and no bignum, so it is its own form.
 impl FormReadsBack for NumberTree {
-    ghost form_reads_back = { λ order. own-form_read order
-        (λ t valid. such_that_back is_number_tree Other
-        (value-back (shape_of t) (folded-number_tree (shape_of t) valid)) valid)
-        (λ t valid. own-number_tree order (shape_of t) valid) };
+    ghost form_reads_back = { λ order t valid.
+        number_tree-back (by_form order) (shape_of t) valid };
 }
 
 impl WritesContent for NumberTree {

@@ -1,20 +1,13 @@
 //! Enums that are written and read by the names of their variants.
-ghost use Rattle.std.specs.Prelude.{◌∷◌, ◌<◌, ◌^◌, Ok, [], pos};
-ghost use Rattle.ciborium.specs.Labels.{fields_of};
-ghost use Rattle.ciborium.specs.OwnTypes.{codes, described, enum_description, inl, inr, label};
+ghost use Rattle.ciborium.specs.OwnTypes.{codes, described, enum_description, inl, inr};
 ghost use Rattle.ciborium.specs.OwnTypes.{no_variant, refl, then_unit_variant, then_variant};
-ghost use Rattle.ciborium.specs.Readings.{below, ordered_by};
-ghost use Rattle.ciborium.specs.lemmas.FormsReadBackNumbers.{u8_form};
-ghost use Rattle.ciborium.specs.lemmas.FormsReadBackVariants.{data_variant_form};
-ghost use Rattle.ciborium.specs.lemmas.FormsReadBackVariants.{unit_variant_form};
-ghost use Rattle.ciborium.specs.lemmas.ReadsBackNumbers.{u8_back};
-ghost use Rattle.ciborium.specs.lemmas.ReadsBackVariants.{data_variant_back, unit_variant_back};
-ghost use Rattle.ciborium.specs.Sinks.{named_text, number_item};
-ghost use Rattle.ciborium.specs.VariantReadings.{data_variant, enum_of, unit_variant};
+ghost use Rattle.ciborium.specs.Readings.{ordered_by};
+ghost use Rattle.ciborium.specs.ReadsBack.{by_form};
+ghost use Rattle.ciborium.specs.VariantReadings.{enum_of};
 ghost use Rattle.ciborium.specs.WrittenContents.{from_content};
+ghost use Rattle.ciborium_callers.specs.Letters.{IsLetterValid, letter_back, letter_named, letters};
 ghost use Rattle.ciborium_callers.specs.declared.variant_types.Form.TheVariants as form;
 ghost use Rattle.ciborium_callers.specs.declared.variant_types.Letter.{Letter};
-ghost use Rattle.ciborium_callers.specs.declared.variant_types.Letter.TheVariants.{A, B};
 ghost use Rattle.ciborium_callers.specs.declared.variant_types.Remark.TheVariants.{Silent};
 ghost use Rattle.ciborium_callers.specs.declared.variant_types.Remark.TheVariants.{Spoken};
 
@@ -36,10 +29,7 @@ pub enum Letter {
 }
 
 impl Serialize for Letter {
-    ghost written = { elim [
-      | A ↦ named_text (codes "A")
-      | B n ↦ fields_of ((label "B", Ok (number_item (pos n))) ∷ [])
-    ] };
+    ghost written = { letter_named };
 
     ghost takes_memory = { ⊥ };
 
@@ -54,8 +44,7 @@ impl Serialize for Letter {
 impl Deserialize for Letter {
     ghost Content = { Letter };
 
-    ghost reading = { ordered_by ⟦<Letter as Ord>⟧.cmp (enum_of (λ l. l)
-        (unit_variant (codes "A") A ∷ data_variant (codes "B") B (below 256) ∷ [])) };
+    ghost reading = { ordered_by ⟦<Letter as Ord>⟧.cmp (enum_of (λ l. l) letters) };
 
     fn deserialize<S: Source>(alloc: Global, source: &mut S) -> Result<Letter, S::Error> {
         let (name, level) = source.begin_variant(alloc)?;
@@ -74,25 +63,15 @@ impl Deserialize for Letter {
 }
 
 impl ReadsBack for Letter {
-    ghost is_valid = { elim [ A ↦ Unit {0} | B n ↦ n < 2 ^ 8 ] };
+    ghost is_valid = { IsLetterValid };
 
     ghost levels = { λ l. 1 };
 
-    ghost reads_back = { let variants = unit_variant (codes "A") A
-        ∷ data_variant (codes "B") B (below 256) ∷ [] in elim [
-          | A ↦ λ valid. unit_variant_back variants (codes "A") (λ l. refl)
-          | B n ↦ λ valid. data_variant_back variants (codes "B") B (below 256)
-              (λ l i. refl) (u8_back n valid)
-        ] };
+    ghost reads_back = { λ way plain. letter_back way };
 }
 
 impl FormReadsBack for Letter {
-    ghost form_reads_back = { λ order. let variants = unit_variant (codes "A") A
-        ∷ data_variant (codes "B") B (below 256) ∷ [] in elim [
-          | A ↦ λ valid. unit_variant_form order variants (codes "A") refl
-          | B n ↦ λ valid. data_variant_form order variants (codes "B") B (below 256)
-              (λ i. refl) (u8_form order n valid)
-        ] };
+    ghost form_reads_back = { λ order. letter_back (by_form order) };
 }
 
 impl WritesContent for Letter {

@@ -1,16 +1,13 @@
 -- What is read of a sequence of few items, part by part, from any source.
 use Rattle.std.proofs.Common.{◌≡◌, ℕ, zero, suc, List, [], ◌∷◌, ◌++◌, refl, sym, ◌∙◌, ap, append_assoc, append-nil}
 use Rattle.ciborium_ll.specs.Item.{Item}
-use Rattle.ciborium_value.specs.Ahead.{Ahead, Rest}
-use Rattle.ciborium_value.specs.Nesting.{Limit}
-use Rattle.ciborium_value.specs.Sources.{Fault, of_kind, TakesAhead, RefusesAhead, GoesOn, Leaves}
-use Rattle.ciborium_value.specs.lemmas.GivenOutcomes.{and_take}
-use Rattle.ciborium_value.specs.Given.{Outcome, Steps, Given, gives, mapped, nests, outcome, outcome_map}
-use Rattle.ciborium_value.specs.Given.{refuses}
-use Rattle.ciborium_value.specs.declared.kind.Kind.TheVariants as kinds
+use Rattle.ciborium_value.specs.{Ahead.{Ahead, Rest}, Nesting.Limit, Sources.{Fault, of_kind, TakesAhead, RefusesAhead}}
+use Rattle.ciborium_value.specs.{Sources.{GoesOn, Leaves}, lemmas.GivenOutcomes.and_take, Given.{Outcome, Steps, Given}}
+use Rattle.ciborium_value.specs.Given.{gives, mapped, nests, outcome, outcome_map, refuses}
 use Rattle.ciborium_value.proofs.Sources.Sequences.{so, Follows, IsPast, IsInside, IsBlamed, goes_on, reads}
 use Rattle.ciborium_value.proofs.Sources.Sequences.{blames_part, leaves, fault_map, fault_then}
 use Rattle.ciborium_tests.specs.Few.{few_items}
+use Rattle.ciborium_value.specs.declared.kind.Kind.TheVariants as kinds
 
 -- what such a sequence becomes of which these items were read, and n more have room
 abbrev pub few_from : {A : Type 0} → Given A → ℕ → List A → List Item → Steps (List A)

@@ -1,8 +1,7 @@
 -- What a sequence of few items gives.
 use Rattle.std.specs.Prelude.{ℕ, zero, suc, List, [], ◌∷◌}
 use Rattle.ciborium_ll.specs.Item.{Item}
-use Rattle.ciborium_value.specs.Given.{Steps, Given, give, mapped, refuse, then_read}
-use Rattle.ciborium_value.specs.GivenParts.{after_seq}
+use Rattle.ciborium_value.specs.{Given.{Steps, Given, give, mapped, refuse, then_read}, GivenParts.after_seq}
 use Rattle.ciborium_value.specs.declared.kind.Kind.TheVariants as kinds
 
 -- one more, where there is room for it; else a refusal, whatever it is

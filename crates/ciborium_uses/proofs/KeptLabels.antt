@@ -1,122 +1,110 @@
--- Labels that were read are written as they are read, and nest no deeper than the map they were read from.
-use Rattle.std.proofs.Common.{◌≡◌, ◌≤◌, ℕ, IsTrue, true, false, List, [], ◌∷◌, map, Some, None, refl, sym, subst, ◌∙◌}
-use Rattle.std.proofs.Common.{ap, arith, Bool, ◌&&◌}
-use Rattle.std.proofs.lemmas.List.Elements.{All-from_recursion}
-use Rattle.std.specs.BTreeMap.{BTreeMap, IsOrdered, insert_entry}
-use Rattle.std.specs.List.{AllByRecursion}
-use Rattle.std.specs.Ordering.{match_ordering}
-use Rattle.std.specs.declared.cmp.Ordering.{Ordering}
-use Rattle.std.specs.declared.cmp.Ordering.TheVariants.{Less, Equal, Greater}
-use Rattle.ciborium.specs.Derived.{value_cmp}
-use Rattle.ciborium.specs.Encoding.{item_of, pairs_of}
-use Rattle.ciborium.specs.Folded.{folded}
-use Rattle.ciborium.specs.Nesting.{nesting, pairs_nesting}
-use Rattle.ciborium.specs.Order.{tree_cmp}
-use Rattle.ciborium.specs.Given.{gives, outcome, given_value, then_take, unpack_pairs}
-use Rattle.ciborium.specs.GivenParts.{put_each, given_map}
+-- Labels are written as they are read, and read again.
+use Rattle.std.proofs.Common.{◌≡◌, ◌≤◌, ◌&&◌, inl, refl, sym, ap, subst, ◌∙◌, arith, IsTrue, ℕ, List, [], ◌∷◌, Bool, Ok}
+use Rattle.std.proofs.{Common.{Option, Some, None, length, option_map, ◌==◌}, lemmas.Bool.Decides.nat_tests}
+use Rattle.ciborium_ll.proofs.UniqueSpelling.{none_begins_another, one_item}
+use Rattle.ciborium.proofs.ReadBack.RoundTrips.{one-content}
+use Rattle.ciborium.specs.{Encoding.item_of, Folded.{folded, tree_pairs_folded}, Given.{Outcome, given_value, gives}}
+use Rattle.ciborium.specs.{Given.{of_meaning, outcome}, Item.Item, Meaning.tree_pairs_more, Nesting.nesting}
+use Rattle.ciborium.specs.{Spells.Spells, Tree.{Tree, TreePairs}, TreeAnswers.IsErrorOf, View.tree_pairs_of}
+use Rattle.ciborium.specs.Writes.{IsWrittenAs}
+use Rattle.ciborium_value.proofs.{FoldedTrees.FoldedCopies.given-folded, FoldedTrees.Folding.folds_once}
+use Rattle.ciborium_value.proofs.Writing.ReadBack.{written_spells_item}
+use Rattle.ciborium_value.specs.{ReadsBack.by_bytes, declared.error.Error.Error, declared.tree.Value.Value}
+use Rattle.ciborium_value.specs.{lemmas.GivenOutcomes.meaning_given, lemmas.ReadsBackValues.value-back}
+use Rattle.ciborium_uses.specs.Envelopes.{AreLabelBytes, AreLabels, IsAllOf, IsHeader, IsKept, are_labels, is_label}
+use Rattle.ciborium_uses.specs.Envelopes.{is_empty, is_label_map}
+use Rattle.ciborium.specs.Item as item
 use Rattle.ciborium.specs.Tree as trees
-use Rattle.ciborium.specs.Tree.{Tree, TreePairs}
-use Rattle.ciborium.specs.View.{pair_trees, tree_pairs_from}
-use Rattle.ciborium_value.proofs.FoldedTrees.FoldedCopies.{given-folded}
-use Rattle.ciborium_value.proofs.FoldedTrees.Folding.{folds_once}
+use Rattle.ciborium_value.specs.declared.error.Error.TheVariants as errors
 use Rattle.ciborium_value.specs.declared.kind.Kind.TheVariants as kinds
-use Rattle.ciborium_value.specs.declared.tree.Value.{Value}
-use Rattle.ciborium_value.specs.lemmas.GivenOutcomes.{meaning_given, then_gives}
-use Rattle.ciborium_uses.proofs.ReadLevels.{value-fits}
-use Rattle.ciborium_uses.specs.Envelopes.{AreKept, AreLabels, IsAsRead, are_labels, entry_trees, is_label, labels_tree}
 
--- a tree that is written as it is read, within so many levels
-abbrev IsKeptTree : ℕ → Tree → Type 0
-IsKeptTree n t = (folded t ≡ Some t) × (nesting (item_of t) ≤ n)
+-- ---- folding keeps labels
 
-abbrev IsKeptEntry : ℕ → Tree × Tree → Type 0
-IsKeptEntry n e = (IsTrue (is_label e.0) × IsKeptTree n e.0) × IsKeptTree n e.1
+abbrev AreStillLabels : Option TreePairs → Type 0
+AreStillLabels None = Unit {0}
+AreStillLabels (Some ps) = IsTrue (are_labels ps)
 
--- what a tree is folded to
-folds-to : (t w : Tree) → outcome None (given_value (item_of t)) ≡ gives w → folded t ≡ Some w
-folds-to t w h = meaning_given kinds.TooLarge (folded t) w (sym (given-folded t) ∙ h)
+abbrev IsStillMap : Option Tree → Type 0
+IsStillMap None = Unit {0}
+IsStillMap (Some m) = IsTrue (is_label_map m)
 
-kept-tree : (n : ℕ) (t w : Tree) → nesting (item_of t) ≤ n → outcome None (given_value (item_of t)) ≡ gives w →
-    IsKeptTree n w
-kept-tree n t w fits h =
-    let fewer = value-fits (item_of t) None w h in
-    (folds_once t w (folds-to t w h), omega (arith, fits, fewer.0))
+one-more : (k : Tree) (o : Option Tree) (r : Option TreePairs) → IsTrue (is_label k) → AreStillLabels r →
+    AreStillLabels (tree_pairs_more (Some k) o r)
+one-more k (Some v) (Some ps) is h = ap (λ b. b && are_labels ps) is ∙ h
+one-more k u v is h = tt
 
--- a label folds to itself
-kept-label : (t w : Tree) → IsTrue (is_label t) → folded t ≡ Some w → IsTrue (is_label w)
-kept-label (trees.integer z) w is h = let same : trees.integer z ≡ w = cc in subst (λ t. IsTrue (is_label t)) same is
-kept-label (trees.text b) w is h = let same : trees.text b ≡ w = cc in subst (λ t. IsTrue (is_label t)) same is
-kept-label _ w is h = absurd cc
+still-labels : (ps : TreePairs) → IsTrue (are_labels ps) → AreStillLabels (tree_pairs_folded ps)
+still-labels trees.no_tree_pairs h = refl
+still-labels (trees.tree_pair (trees.integer z) v ps) h =
+    one-more (trees.integer z) (folded v) (tree_pairs_folded ps) refl (still-labels ps h)
+still-labels (trees.tree_pair (trees.text b) v ps) h =
+    one-more (trees.text b) (folded v) (tree_pairs_folded ps) refl (still-labels ps h)
+still-labels (trees.tree_pair k v ps) h = absurd cc
 
-both : (a b : Bool) → IsTrue (a && b) → IsTrue a × IsTrue b
-both true b h = (refl, h)
-both false b h = absurd cc
-
-insert-kept : (n : ℕ) (es : List (Tree × Tree)) (e : Tree × Tree) → IsKeptEntry n e →
-    AllByRecursion (IsKeptEntry n) es → AllByRecursion (IsKeptEntry n) (insert_entry tree_cmp es e.0 e.1)
-insert-kept n [] e one all = (one, tt)
-insert-kept n (d ∷ es) e one all = by (tree_cmp e.0 d.0) (insert-kept n es e one all.1)
+still-map : (t : Tree) → IsTrue (is_label_map t) → IsStillMap (folded t)
+still-map (trees.map ps) h = by (tree_pairs_folded ps) (still-labels ps h)
   where
-    by : (o : Ordering) → AllByRecursion (IsKeptEntry n) (insert_entry tree_cmp es e.0 e.1) →
-        AllByRecursion (IsKeptEntry n) (match_ordering o ((e.0, e.1) ∷ d ∷ es) ((d.0, e.1) ∷ es)
-        (d ∷ insert_entry tree_cmp es e.0 e.1))
-    by Less rest = (one, all)
-    by Equal rest = ((all.0.0, one.1), all.1)
-    by Greater rest = (all.0, rest)
+    by : (o : Option TreePairs) → AreStillLabels o → IsStillMap (option_map trees.map o)
+    by None h = tt
+    by (Some qs) h = h
+still-map t h = absurd cc
 
-put-kept : (n : ℕ) (ps : TreePairs) (es rs : List (Tree × Tree)) → IsTrue (are_labels ps) →
-    pairs_nesting (pairs_of ps) ≤ n → AllByRecursion (IsKeptEntry n) es →
-    outcome None (put_each false tree_cmp given_value given_value es (unpack_pairs (pairs_of ps))) ≡ gives rs →
-    AllByRecursion (IsKeptEntry n) rs
-put-kept n trees.no_tree_pairs es rs labels fits all h =
-    let same : es ≡ rs = cc in subst (AllByRecursion (IsKeptEntry n)) same all
-put-kept n (trees.tree_pair k v ps) es rs labels fits all h =
-    let (is, others) = both (is_label k) (are_labels ps) labels in
-    let put = λ (x y : Tree). outcome None (put_each false tree_cmp given_value given_value
-    (insert_entry tree_cmp es x y) (unpack_pairs (pairs_of ps))) in
-    let (x, key, behind) = then_gives (outcome None (given_value (item_of k)))
-    (λ x. then_take (outcome None (given_value (item_of v))) (put x)) rs h in
-    let (y, value, rest) = then_gives (outcome None (given_value (item_of v))) (put x) rs behind in
-    let one : IsKeptEntry n (x, y) = (
-      (kept-label k x is (folds-to k x key), kept-tree n k x (omega (arith, fits)) key),
-      kept-tree n v y (omega (arith, fits)) value,
-    ) in
-    put-kept n ps (insert_entry tree_cmp es x y) rs others (omega (arith, fits)) (insert-kept n es (x, y) one all) rest
+pub kept : (t m : Tree) → AreLabels t m → IsKept m
+kept t m h = record {
+  labels = subst IsStillMap h.folds (still-map t h.labels);
+  folds = folds_once t m h.folds;
+  once = h.once;
+}
 
--- ---- of the entries of a map
+-- ---- maps that are copied folded
 
-each-as-read : (n : ℕ) (es : List (Value × Value)) → AllByRecursion (IsKeptEntry n) (map pair_trees es) →
-    AllByRecursion (λ e. IsAsRead e.0 × IsAsRead e.1) es
-each-as-read n [] all = tt
-each-as-read n (e ∷ es) all = ((all.0.0.1.0, all.0.1.0), each-as-read n es all.1)
+pub folds-to : (t m : Tree) → outcome None (given_value (item_of t)) ≡ gives m → folded t ≡ Some m
+folds-to t m h = meaning_given kinds.TooLarge (folded t) m (sym (given-folded t) ∙ h)
 
-each-label : (n : ℕ) (es : List (Tree × Tree)) → AllByRecursion (IsKeptEntry n) es →
-    IsTrue (are_labels (tree_pairs_from es))
-each-label n [] all = refl
-each-label n (e ∷ es) all = ap (λ b. b && are_labels (tree_pairs_from es)) all.0.0.0 ∙ each-label n es all.1
+pub gives-folded : (t m : Tree) → folded t ≡ Some m → outcome None (given_value (item_of t)) ≡ gives m
+gives-folded t m h = given-folded t ∙ ap (of_meaning kinds.TooLarge) h
 
-each-nests : (n : ℕ) (es : List (Tree × Tree)) → AllByRecursion (IsKeptEntry n) es →
-    pairs_nesting (pairs_of (tree_pairs_from es)) ≤ n
-each-nests n [] all = omega arith
-each-nests n (e ∷ es) all = omega (arith, all.0.0.1.1, all.0.1.1, each-nests n es all.1)
+pub for-memory : {A : Type 0} (e : Error) (o : Outcome A) (v : A) → IsErrorOf e o → o ≡ gives v → e ≡ errors.Memory
+for-memory errors.Memory o v h is = refl
+for-memory (errors.Custom k) o v h is = absurd cc
 
-module _ (t : Tree) (m : BTreeMap Value Value) (h : AreLabels t (entry_trees m)) where
-  entries-kept : AllByRecursion (IsKeptEntry (pairs_nesting (pairs_of h.0.0))) (entry_trees m)
-  entries-kept = put-kept (pairs_nesting (pairs_of h.0.0)) h.0.0 [] (entry_trees m) h.0.2 (omega arith) tt
-      (subst (λ t. outcome None (given_map false tree_cmp given_value given_value (item_of t)) ≡ gives (entry_trees m))
-      h.0.1 h.1)
+pub empty-by : (t : Tree) (ps : List (Value × Value)) (b : Bool) → t ≡ trees.map (tree_pairs_of ps) →
+    b ≡ (length ps == 0) → b ≡ is_empty t
+empty-by t [] b is h = rw is h
+empty-by t (p ∷ ps) b is h = rw is (h ∙ grind (arith, nat_tests))
 
-  -- they are written as they are read
-  pub read-kept : IsOrdered value_cmp m → AreKept m
-  read-kept ordered = record {
-    valid = (
-      ordered,
-      All-from_recursion (λ e. IsAsRead e.0 × IsAsRead e.1) m.entries (each-as-read _ m.entries entries-kept),
-    );
-    labels = each-label _ (entry_trees m) entries-kept;
-  }
+-- ---- what is spelled of a tree that is folded
 
-  -- and take no more levels
-  pub read-nests : nesting (item_of (labels_tree m)) ≤ nesting (item_of t)
-  read-nests = subst (λ t. nesting (item_of (labels_tree m)) ≤ nesting (item_of t)) (sym h.0.1)
-      (let inside = each-nests _ (entry_trees m) entries-kept in omega (arith, inside))
+pub read-back : (bs : List ℕ) (t : Tree) → folded t ≡ Some t → nesting (item_of t) ≤ 256 → Spells bs (item_of t) →
+    IsAllOf bs t
+read-back bs t folds nests s = (item_of t, s, (value-back t folds).back by_bytes (item_of t) refl (Some 256) nests)
+
+pub spelled : (bs : List ℕ) (i : Item) → IsWrittenAs bs (Ok i) → Spells bs i
+spelled bs i h = subst (λ c. Spells c i) (sym h.0) (written_spells_item i h.1)
+
+no-item : (i : Item) → Spells [] i → ⊥
+no-item i h =
+    let apart : (x : ℕ) → x ∷ [] ≡ [] → ⊥ = λ x e. cc in
+    apart 224 (none_begins_another [] (224 ∷ []) i (item.simple 0) h (inl (omega arith, refl)))
+
+-- a header is read as it is written
+pub header-again : (bs : List ℕ) (m : Tree) → IsKept m → nesting (item_of m) ≤ 256 → Spells bs (item_of m) →
+    IsHeader bs m
+header-again [] m h nests s = absurd (no-item (item_of m) s)
+header-again (b ∷ bs) m h nests s = record { tree = m; item = read-back (b ∷ bs) m h.folds nests s; labels = h }
+
+-- ---- no bytes are two
+
+pub one-value : (bs : List ℕ) (t u : Tree) → IsAllOf bs t → IsAllOf bs u → t ≡ u
+one-value bs t u a b = one-content (outcome (Some 256) (given_value b.0)) u t b.2
+    (ap (λ i. outcome (Some 256) (given_value i)) (one_item bs b.0 a.0 b.1 a.1) ∙ a.2)
+
+pub one-map : (bs : List ℕ) (m n : Tree) → AreLabelBytes bs m → AreLabelBytes bs n → m ≡ n
+one-map bs m n a b =
+    let same = one-value bs a.tree b.tree a.item b.item in
+    let folds = a.labels.folds in
+    let others = b.labels.folds in cc
+
+pub one-header : (bs : List ℕ) (m n : Tree) → IsHeader bs m → IsHeader bs n → m ≡ n
+one-header [] m n a b = a ∙ sym b
+one-header (b ∷ bs) m n h k = one-map (b ∷ bs) m n h k

@@ -1,11 +1,7 @@
 mod CriticalLabels
 mod Exits
 mod KeptLabels
-mod LabelMaps
-mod ReadAgain
-mod ReadLevels
-mod Tagged
+mod Nests
 mod WholeItems
 mod WholeMessages
-mod WrittenMessages
 mod LogEnds

@@ -1,16 +1,11 @@
 -- A log is read reading by reading: how far, and where it ends.
 use Rattle.std.proofs.Common.{◌≡◌, ℕ, ◌+◌, List, [], ◌∷◌, ◌++◌, Option, Some, Ok, Err, refl, ap, arith, length}
-use Rattle.std.proofs.Common.{length-append, subst, sym, ◌∙◌}
-use Rattle.std.specs.Io.KnownBytes.{Consumes, IsAtEnd}
-use Rattle.std.specs.declared.io.Error.{Error as IoError}
-use Rattle.std.proofs.KnownBytes.{Consumes-nil, Consumes-trans}
+use Rattle.std.proofs.{Common.{length-append, subst, sym, ◌∙◌}, KnownBytes.{Consumes-nil, Consumes-trans}}
+use Rattle.std.specs.{Io.KnownBytes.{Consumes, IsAtEnd}, declared.io.Error.Error as IoError}
 use Rattle.ciborium_ll.proofs.Unread.{rest-of}
 use Rattle.ciborium_value.proofs.GoodItems.Spelled.{spells-pos}
-use Rattle.ciborium.specs.CutItems.{IsEndError}
-use Rattle.ciborium.specs.NextItems.{TakesTo}
-use Rattle.ciborium.specs.Given.{Given}
-use Rattle.ciborium.specs.TypedAnswers.{RefusesGiven, TakesBeginning, TakesGiven}
-use Rattle.ciborium.specs.declared.de.error.Error.{Error}
+use Rattle.ciborium.specs.{CutItems.IsEndError, NextItems.TakesTo, Given.Given, TypedAnswers.RefusesGiven}
+use Rattle.ciborium.specs.{TypedAnswers.{TakesBeginning, TakesGiven}, declared.de.error.Error.Error}
 use Rattle.ciborium.specs.declared.de.error.Error.TheVariants.{Io, Syntax, Semantic, RecursionLimitExceeded, Memory}
 use Rattle.ciborium.specs.declared.de.error.Error.TheVariants.{TooLong}
 use Rattle.ciborium.proofs.Readers.ReadSequences.{HasRead, none-read, one-more-read}
@@ -70,10 +65,9 @@ module _ {A : Type 0} (taken : Given A) (before : Option (List ℕ)) where
   cut-there Memory u p end refused = absurd end
   cut-there TooLong u p end refused = absurd end
 
-  pub ends-cut : (mid after : Option (List ℕ)) (p q : ℕ) (e : Error IoError) → q ≡ p → HasReadTo mid p →
-      RefusesGiven {E = IoError} p (Some 256) taken mid after (Err e) → TakesBeginning mid after →
-      ((r : List ℕ) → after ≡ Some r → IsEndError e × (r ≡ [])) →
-      (b : List ℕ) → before ≡ Some b → IsEndOfLog taken b q
+  pub ends-cut : (mid after : Option (List ℕ)) (p q : ℕ) (e : Error IoError) → q ≡ p →
+      HasReadTo mid p → RefusesGiven {E = IoError} p (Some 256) taken mid after (Err e) → TakesBeginning mid after →
+      ((r : List ℕ) → after ≡ Some r → IsEndError e × (r ≡ [])) → (b : List ℕ) → before ≡ Some b → IsEndOfLog taken b q
   ends-cut mid after p q e stays read refused (x, consumes) cut = ends-before mid p q stays read
       (λ u known. let (r, left, split) = rest-of mid after u x known consumes in
       let (end, none) = cut r left in

@@ -1,47 +1,31 @@
 -- Signed messages of COSE (RFC 9052) that hold a CBOR Web Token (RFC 8392): which bytes they are,
 -- and what their
 -- signatures sign.
-use Rattle.std.specs.Prelude.{◌≡◌, ◌≤◌, ℕ, ℤ, pos, List, [], ◌∷◌, codes, length, map}
-use Rattle.std.specs.Prelude.{Bool, IsTrue, true, false, not, nat_le, ◌&&◌}
-use Rattle.std.specs.Prelude.{Option, Some, None, option_map, String, string_bytes}
-use Rattle.std.specs.declared.alloc.Global.{Global}
-use Rattle.std.specs.BTreeMap.{BTreeMap, is_at}
-use Rattle.std.specs.List.{list_all}
-use Rattle.std.specs.Map.{lookup}
-use Rattle.ciborium.specs.Item as item
-use Rattle.ciborium.specs.Item.{Item}
-use Rattle.ciborium.specs.Spells.{Spells}
-use Rattle.ciborium.specs.Derived.{value_cmp}
-use Rattle.ciborium.specs.Encoding.{encoding, item_of, written_bytes}
-use Rattle.ciborium.specs.Folded.{folded}
-use Rattle.ciborium.specs.Nesting.{nesting}
-use Rattle.ciborium.specs.Order.{tree_cmp}
-use Rattle.ciborium.specs.TagReadings.{if_tag, is_tag, given_with_tag}
-use Rattle.ciborium.specs.Given.{Given, gives, outcome, given_value}
-use Rattle.ciborium.specs.GivenParts.{has_key, given_map, given_then}
-use Rattle.ciborium.specs.Tree as trees
-use Rattle.ciborium.specs.Tree.{Tree, TreePairs, Trees, tree_pairs_count}
-use Rattle.ciborium.specs.View.{pair_trees, tree_of, tree_pairs_from}
-use Rattle.ciborium_value.specs.lemmas.ReadsBackMaps.{IsMapValid}
-use Rattle.ciborium_value.specs.declared.byte_buf.ByteBuf.{ByteBuf}
-use Rattle.ciborium_value.specs.declared.tree.Value.{Value}
-use Rattle.ciborium_uses.specs.declared.envelopes.Envelope.{Envelope}
-use Rattle.ciborium_uses.specs.declared.envelopes.claims.Claims.{Claims}
+use Rattle.std.specs.Prelude.{◌≡◌, ◌≤◌, ℕ, ℤ, pos, List, [], ◌∷◌, codes, if◌then◌else◌, Bool, IsTrue, true, false, not}
+use Rattle.std.specs.Prelude.{nat_le, ◌&&◌, Option, Some, None, map, option_map, String, string_bytes}
+use Rattle.std.specs.{declared.alloc.Global.Global, BTreeMap.BTreeMap, List.list_all}
+use Rattle.ciborium.specs.{Item.Item, Spells.Spells, Encoding.{encoding, item_of}, Folded.folded, Nesting.nesting}
+use Rattle.ciborium.specs.{Order.tree_cmp, Given.{Outcome, gives, outcome, given_value}, GivenParts.has_key}
+use Rattle.ciborium.specs.{GivenParts.given_map, Labels.numbered, Lookups.tree_under, Tree.{Tree, TreePairs, Trees}}
+use Rattle.ciborium.specs.View.{pair_trees, tree_of}
+use Rattle.ciborium_value.specs.{declared.byte_buf.ByteBuf.ByteBuf, declared.tree.Value.Value}
+use Rattle.ciborium_uses.specs.{declared.envelopes.Envelope.Envelope, declared.envelopes.claims.Claims.Claims}
 use Rattle.ciborium_uses.specs.declared.envelopes.error.EnvelopeError.{EnvelopeError}
-use Rattle.ciborium_uses.specs.declared.envelopes.error.EnvelopeError.TheVariants as errors
 use Rattle.ciborium_uses.specs.declared.envelopes.error.Part.{Part}
-use Rattle.ciborium_uses.specs.declared.envelopes.error.Part.TheVariants as parts
 use Rattle.ciborium_uses.specs.declared.envelopes.wrapping.OtherMessage.{OtherMessage}
-use Rattle.ciborium_uses.specs.declared.envelopes.wrapping.OtherMessage.TheVariants as others
 use Rattle.ciborium_uses.specs.declared.envelopes.wrapping.Wrapping.{Wrapping}
-use Rattle.ciborium_uses.specs.declared.envelopes.wrapping.Wrapping.TheVariants.{Bare, Signed}
-use Rattle.ciborium_uses.specs.declared.envelopes.wrapping.Wrapping.TheVariants.{Token}
+use Rattle.ciborium_uses.specs.declared.envelopes.wrapping.Wrapping.TheVariants.{Bare, Signed, Token}
+use Rattle.ciborium.specs.Item as item
+use Rattle.ciborium.specs.Tree as trees
+use Rattle.ciborium_uses.specs.declared.envelopes.error.EnvelopeError.TheVariants as errors
+use Rattle.ciborium_uses.specs.declared.envelopes.error.Part.TheVariants as parts
+use Rattle.ciborium_uses.specs.declared.envelopes.wrapping.OtherMessage.TheVariants as others
 
 -- ---- items
 
--- all of the bytes are one item, which gives v within 256 levels
-abbrev pub IsAllOf : {A : Type 0} → Given A → List ℕ → A → Type 0
-IsAllOf taken bs v = (i : Item) × Spells bs i × (outcome (Some 256) (taken i) ≡ gives v)
+-- all of the bytes are one item, which gives the tree within 256 levels
+abbrev pub IsAllOf : List ℕ → Tree → Type 0
+IsAllOf bs t = (i : Item) × Spells bs i × (outcome (Some 256) (given_value i) ≡ gives t)
 
 -- no bytes are to blame: memory was refused
 abbrev pub IsOutside : EnvelopeError → Type 0
@@ -49,14 +33,6 @@ IsOutside errors.Memory = Unit {0}
 IsOutside _ = ⊥
 
 -- ---- maps of labels
-
--- the entries of such a map, by their trees, in the order of labels
-abbrev pub entry_trees : BTreeMap Value Value → List (Tree × Tree)
-entry_trees m = map pair_trees m.entries
-
-abbrev pub pair_count : Tree → ℕ
-pair_count (trees.map ps) = tree_pairs_count ps
-pair_count _ = 0
 
 -- a label is an integer, which may be a folded bignum, or a text (RFC 9052, section 1.4; of claims
 -- RFC 8392, section 9.1)
@@ -70,29 +46,45 @@ are_labels trees.no_tree_pairs = true
 are_labels (trees.tree_pair k v ps) = is_label k && are_labels ps
 
 -- a map whose keys are labels
-abbrev pub IsLabelMap : Tree → Type 0
-IsLabelMap t = (ps : TreePairs) × (t ≡ trees.map ps) × IsTrue (are_labels ps)
+abbrev pub is_label_map : Tree → Bool
+is_label_map (trees.map ps) = are_labels ps
+is_label_map _ = false
 
--- the same where no label stands twice: it has as many entries as pairs (RFC 9052, section 3)
-abbrev pub AreLabels : Tree → List (Tree × Tree) → Type 0
-AreLabels t es = IsLabelMap t × (outcome None (given_map false tree_cmp given_value given_value
-    (item_of t)) ≡ gives es) ×
-    (length es ≡ pair_count t)
+-- what a map gives whose keys are all different: its entries, in the order of keys
+abbrev pub once_each : Tree → Outcome (List (Tree × Tree))
+once_each t = outcome None (given_map true tree_cmp given_value given_value (item_of t))
+
+abbrev pub entries_in : Outcome (List (Tree × Tree)) → List (Tree × Tree)
+entries_in (gives es) = es
+entries_in _ = []
+
+abbrev pub entries_of : Tree → List (Tree × Tree)
+entries_of t = entries_in (once_each t)
+
+-- the entries of a map in memory, by their trees
+abbrev pub entry_trees : BTreeMap Value Value → List (Tree × Tree)
+entry_trees m = map pair_trees m.entries
+
+-- a map of labels, none of which stands twice (RFC 9052, section 3): its bignums folded it is m
+pub record AreLabels (t m : Tree) : Type 0 where
+  pub labels : IsTrue (is_label_map t)
+  pub folds : folded t ≡ Some m
+  pub once : once_each m ≡ gives (entries_of m)
 
 -- the bytes are one item, such a map
-pub record AreLabelBytes (bs : List ℕ) (es : List (Tree × Tree)) : Type 0 where
+pub record AreLabelBytes (bs : List ℕ) (m : Tree) : Type 0 where
   pub tree : Tree
-  pub item : IsAllOf given_value bs tree
-  pub labels : AreLabels tree es
+  pub item : IsAllOf bs tree
+  pub labels : AreLabels tree m
 
 -- a protected header: no bytes, or those of such a map (RFC 9052, section 3)
-abbrev pub IsHeader : List ℕ → List (Tree × Tree) → Type 0
-IsHeader [] es = es ≡ []
-IsHeader (b ∷ bs) es = AreLabelBytes (b ∷ bs) es
+abbrev pub IsHeader : List ℕ → Tree → Type 0
+IsHeader [] m = m ≡ trees.map trees.no_tree_pairs
+IsHeader (b ∷ bs) m = AreLabelBytes (b ∷ bs) m
 
 -- the value at a label that is a number
-abbrev pub value_at : ℕ → List (Tree × Tree) → Option Tree
-value_at n es = lookup (is_at (tree_cmp (trees.integer (pos n)))) es
+abbrev pub value_at : ℕ → Tree → Option Tree
+value_at n m = tree_under (numbered (pos n)) m
 
 -- ---- headers
 
@@ -120,9 +112,9 @@ is_crit es (Some _) = false
 
 -- the headers go together: no label stands in both, `crit` is right, and stands in the protected
 -- one alone (RFC 9052, sections 3 and 3.1)
-pub record AreHeaders (protected unprotected : List (Tree × Tree)) : Type 0 where
-  pub apart : IsTrue (are_apart protected unprotected)
-  pub crit : IsTrue (is_crit protected (value_at 2 protected))
+pub record AreHeaders (protected unprotected : Tree) : Type 0 where
+  pub apart : IsTrue (are_apart (entries_of protected) (entries_of unprotected))
+  pub crit : IsTrue (is_crit (entries_of protected) (value_at 2 protected))
   pub crit_protected : value_at 2 unprotected ≡ None
 
 -- ---- claims
@@ -137,23 +129,22 @@ number_claim c = option_map trees.integer c
 abbrev pub bytes_claim : Option ByteBuf → Option Tree
 bytes_claim c = option_map (λ b. trees.bytes b.0.items) c
 
--- of these labels the claims of a token are those at its keys, and all of them (RFC 8392, section
--- 4)
-pub record AreClaims (es : List (Tree × Tree)) (claims : Claims) : Type 0 where
-  pub issuer : value_at 1 es ≡ text_claim claims.issuer
-  pub subject : value_at 2 es ≡ text_claim claims.subject
-  pub audience : value_at 3 es ≡ text_claim claims.audience
-  pub expires : value_at 4 es ≡ number_claim claims.expires
-  pub not_before : value_at 5 es ≡ number_claim claims.not_before
-  pub issued : value_at 6 es ≡ number_claim claims.issued
-  pub id : value_at 7 es ≡ bytes_claim claims.id
-  pub every : entry_trees claims.every ≡ es
+-- of this map the claims of a token are those at its keys, and all of them (RFC 8392, section 4)
+pub record AreClaims (m : Tree) (claims : Claims) : Type 0 where
+  pub issuer : value_at 1 m ≡ text_claim claims.issuer
+  pub subject : value_at 2 m ≡ text_claim claims.subject
+  pub audience : value_at 3 m ≡ text_claim claims.audience
+  pub expires : value_at 4 m ≡ number_claim claims.expires
+  pub not_before : value_at 5 m ≡ number_claim claims.not_before
+  pub issued : value_at 6 m ≡ number_claim claims.issued
+  pub id : value_at 7 m ≡ bytes_claim claims.id
+  pub every : tree_of claims.every ≡ m
 
 -- the bytes are one item, a map of these claims
 pub record AreClaimBytes (bs : List ℕ) (claims : Claims) : Type 0 where
-  pub entries : List (Tree × Tree)
-  pub labels : AreLabelBytes bs entries
-  pub claims_at : AreClaims entries claims
+  pub map : Tree
+  pub labels : AreLabelBytes bs map
+  pub claims_at : AreClaims map claims
 
 -- ---- messages
 
@@ -167,39 +158,11 @@ message_tree protected unprotected payload signature =
 -- the message is this envelope: its parts, and what its headers and its payload hold
 pub record IsMessage (t : Tree) (e : Envelope) : Type 0 where
   pub unprotected_tree : Tree
-  pub parts : t ≡ message_tree e.protected.0.items unprotected_tree e.payload.0.items
-      e.signature.0.items
-  pub unprotected : AreLabels unprotected_tree (entry_trees e.unprotected)
-  pub header : IsHeader e.protected.0.items (entry_trees e.header)
-  pub headers : AreHeaders (entry_trees e.header) (entry_trees e.unprotected)
+  pub parts : t ≡ message_tree e.protected.0.items unprotected_tree e.payload.0.items e.signature.0.items
+  pub unprotected : AreLabels unprotected_tree (tree_of e.unprotected)
+  pub header : IsHeader e.protected.0.items (tree_of e.header)
+  pub headers : AreHeaders (tree_of e.header) (tree_of e.unprotected)
   pub claims : AreClaimBytes e.payload.0.items e.claims
-
--- the bytes are such a message under tag 18 (RFC 9052, section 4.2)
-pub record IsEnvelope (bs : List ℕ) (e : Envelope) : Type 0 where
-  pub tree : Tree
-  pub item : IsAllOf (given_then (given_with_tag given_value) (if_tag (is_tag 18))) bs tree
-  pub message : IsMessage tree e
-
--- the tags around a message, the outer one first: none, that of a signed message, or that one under
--- the tag of a token
--- (RFC 8392, section 6)
-abbrev pub tags_of : Wrapping → Option ℕ × Option ℕ
-tags_of Bare = (None, None)
-tags_of Signed = (Some 18, None)
-tags_of Token = (Some 61, Some 18)
-
--- under a tag, if there is one
-abbrev pub under : Option ℕ → Tree → Tree
-under None t = t
-under (Some n) t = trees.tag n t
-
--- a message under the tags around it
-abbrev pub wrapped_tree : Wrapping → Tree → Tree
-wrapped_tree w t = under (tags_of w).0 (under (tags_of w).1 t)
-
--- a header as it is written: the map of its labels, in their order
-abbrev pub labels_tree : BTreeMap Value Value → Tree
-labels_tree m = trees.map (tree_pairs_from (entry_trees m))
 
 -- the tags of the other messages (RFC 9052, section 2, table 1)
 abbrev pub other_tag : OtherMessage → ℕ
@@ -209,61 +172,60 @@ other_tag others.Encrypt = 96
 other_tag others.Mac = 97
 other_tag others.Sign = 98
 
+-- a message under its tags: none, that of a signed message (RFC 9052, section 4.2), or that one
+-- under the tag of a token (RFC 8392, section 6)
+abbrev pub wrapped_tree : Wrapping → Tree → Tree
+wrapped_tree Bare t = t
+wrapped_tree Signed t = trees.tag 18 t
+wrapped_tree Token t = trees.tag 61 (trees.tag 18 t)
+
 -- the bytes are a message under these tags and no others
 pub record IsWrapped (bs : List ℕ) (w : Wrapping) (e : Envelope) : Type 0 where
   pub tree : Tree
-  pub item : IsAllOf (given_with_tag (given_with_tag given_value)) bs
-      ((tags_of w).0, ((tags_of w).1, tree))
+  pub item : IsAllOf bs (wrapped_tree w tree)
   pub message : IsMessage tree e
+
+-- the bytes are a message under tag 18
+abbrev pub IsEnvelope : List ℕ → Envelope → Type 0
+IsEnvelope bs e = IsWrapped bs Signed e
 
 -- ---- what is written and read again
 
+-- a map of labels, none of which stands twice, that is written as it is read
+abbrev pub IsKept : Tree → Type 0
+IsKept m = AreLabels m m
+
+abbrev pub is_empty : Tree → Bool
+is_empty (trees.map trees.no_tree_pairs) = true
+is_empty _ = false
+
 -- a protected header as it is written: no bytes where it is empty, else those of its map (RFC 9052,
 -- section 3)
-abbrev pub header_bytes : List (Tree × Tree) → List ℕ
-header_bytes [] = []
-header_bytes (e ∷ es) = encoding (trees.map (tree_pairs_from (e ∷ es)))
-
--- a value that is written as it is read: no tag in it folds over a byte string
-abbrev pub IsAsRead : Value → Type 0
-IsAsRead v = folded (tree_of v) ≡ Some (tree_of v)
-
--- labels in their order, each written as it is read
-pub record AreKept (m : BTreeMap Value Value) : Type 0 where
-  pub valid : IsMapValid value_cmp IsAsRead IsAsRead m
-  pub labels : IsTrue (are_labels (tree_pairs_from (entry_trees m)))
+abbrev pub header_bytes : Tree → List ℕ
+header_bytes m = if is_empty m then [] else encoding m
 
 -- the message that is written of an envelope
 abbrev pub message_of : Envelope → Tree
-message_of e = message_tree e.protected.0.items (labels_tree e.unprotected) e.payload.0.items
-    e.signature.0.items
+message_of e = message_tree e.protected.0.items (tree_of e.unprotected) e.payload.0.items e.signature.0.items
 
--- an envelope that is read as it is written: its headers and claims are those of its bytes, and go
--- together (RFC 9052, sections 3 and 3.1), and its message takes no more than so many levels
-pub record IsWholeWithin (levels : ℕ) (e : Envelope) : Type 0 where
-  pub unprotected : AreKept e.unprotected
-  pub header : IsHeader e.protected.0.items (entry_trees e.header)
-  pub headers : AreHeaders (entry_trees e.header) (entry_trees e.unprotected)
-  pub claims : AreClaimBytes e.payload.0.items e.claims
-  pub nests : nesting (item_of (message_of e)) ≤ levels
+-- an envelope that is read as it is written: its message is this envelope, and takes no more than
+-- 256 levels under its tags
+pub record IsWhole (w : Wrapping) (e : Envelope) : Type 0 where
+  pub message : IsMessage (message_of e) e
+  pub nests : nesting (item_of (wrapped_tree w (message_of e))) ≤ 256
 
--- the same where two levels of the 256 are left for tags, there or not
-abbrev pub IsWhole : Envelope → Type 0
-IsWhole e = IsWholeWithin 254 e
-
--- the same bytes in each part, and equal labels in the headers and the claims
+-- the same bytes in each part, and equal headers and claims
 pub record AreAlike (e f : Envelope) : Type 0 where
   pub protected : e.protected.0.items ≡ f.protected.0.items
-  pub unprotected : entry_trees e.unprotected ≡ entry_trees f.unprotected
+  pub unprotected : tree_of e.unprotected ≡ tree_of f.unprotected
   pub payload : e.payload.0.items ≡ f.payload.0.items
   pub signature : e.signature.0.items ≡ f.signature.0.items
-  pub header : entry_trees e.header ≡ entry_trees f.header
-  pub claims : entry_trees e.claims.every ≡ entry_trees f.claims.every
+  pub header : tree_of e.header ≡ tree_of f.header
+  pub claims : tree_of e.claims.every ≡ tree_of f.claims.every
 
--- the shortest bytes of an envelope under its tags, the labels of its unprotected header in their
--- order
+-- the shortest bytes of an envelope under its tags
 abbrev pub shortest_bytes : Wrapping → Envelope → List ℕ
-shortest_bytes w e = written_bytes (item_of (wrapped_tree w (message_of e)))
+shortest_bytes w e = encoding (wrapped_tree w (message_of e))
 
 -- the bytes are an envelope, and these are the same one under the same tags
 pub record IsWrittenAgain (bs again : List ℕ) : Type 0 where
@@ -272,13 +234,10 @@ pub record IsWrittenAgain (bs again : List ℕ) : Type 0 where
   pub read : IsWrapped bs wrapping envelope
   pub same : IsWrapped again wrapping envelope
 
--- what is spelled of an envelope that is whole is read as that envelope: under tag 18 where one
--- level is left, under any of the tags where two are
-pub record SpelledIsRead : Type 0 where
-  pub envelope : (bs : List ℕ) (e : Envelope) → IsWholeWithin 255 e →
-      Spells bs (item_of (wrapped_tree Signed (message_of e))) → IsEnvelope bs e
-  pub wrapped : (bs : List ℕ) (w : Wrapping) (e : Envelope) → IsWhole e →
-      Spells bs (item_of (wrapped_tree w (message_of e))) → IsWrapped bs w e
+-- what is spelled of an envelope that is whole is read as that envelope
+abbrev pub SpelledIsRead : Type 0
+SpelledIsRead = (bs : List ℕ) (w : Wrapping) (e : Envelope) → IsWhole w e →
+    Spells bs (item_of (wrapped_tree w (message_of e))) → IsWrapped bs w e
 
 -- no bytes are two envelopes, nor one under two kinds of tags
 abbrev pub OneEnvelope : Type 0
@@ -289,16 +248,14 @@ OneEnvelope = (bs : List ℕ) (w v : Wrapping) (e f : Envelope) → IsWrapped bs
 
 -- the protected header in it: no bytes where the header is empty, however it was sent (RFC 9052,
 -- section 4.4)
-abbrev pub signed_header : List ℕ → List (Tree × Tree) → List ℕ
-signed_header bs [] = []
-signed_header bs (e ∷ es) = bs
+abbrev pub signed_header : List ℕ → Tree → List ℕ
+signed_header bs m = if is_empty m then [] else bs
 
 -- a Sig_structure: the context, the protected header, what the application adds, and the payload
 -- (RFC 9052, section
 -- 4.4)
 abbrev pub signed_item : List ℕ → List ℕ → List ℕ → Item
-signed_item protected external payload = item.array false
-    (item.item (item.text false (codes "Signature1"))
+signed_item protected external payload = item.array false (item.item (item.text false (codes "Signature1"))
     (item.item (item.bytes false protected) (item.item (item.bytes false external)
     (item.item (item.bytes false payload) item.no_items))))
 

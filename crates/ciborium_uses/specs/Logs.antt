@@ -1,9 +1,6 @@
 -- Where a log ends: a sequence of items (RFC 8742, section 2) that may be cut within its last one.
 use Rattle.std.specs.Prelude.{◌≡◌, ℕ, ◌+◌, List, ◌++◌, length, Some}
-use Rattle.ciborium.specs.Item.{Item}
-use Rattle.ciborium.specs.SequenceReads.{GivesThen}
-use Rattle.ciborium.specs.Spells.{Spells}
-use Rattle.ciborium.specs.Given.{Given}
+use Rattle.ciborium.specs.{Item.Item, SequenceReads.GivesThen, Spells.Spells, Given.Given}
 
 -- no item begins with the first byte of b, and ends within b
 abbrev pub BeginsNoItem : List ℕ → Type 0

@@ -1,12 +1,9 @@
 -- Shapes of trees, as a small schema language: which trees have a shape.
-use Rattle.std.specs.List.{list_all}
-use Rattle.std.specs.Prelude.{ℕ, Bool, IsTrue, true, false, ◌&&◌, List, String, bytes_eq, box_value}
-use Rattle.std.specs.Prelude.{if◌then◌else◌, int_le, not, string_bytes}
-use Rattle.std.specs.declared.alloc.Global.{Global}
-use Rattle.ciborium.specs.Tree as trees
+use Rattle.std.specs.{List.list_all, Prelude.{ℕ, Bool, IsTrue, true, false, ◌&&◌, List, String, bytes_eq, box_value}}
+use Rattle.std.specs.{Prelude.{if◌then◌else◌, int_le, not, string_bytes}, declared.alloc.Global.Global}
 use Rattle.ciborium.specs.Tree.{Tree, TreePairs, Trees}
-use Rattle.ciborium_uses.specs.declared.schema.Shape.{Shape, fold-Shape}
-use Rattle.ciborium_uses.specs.declared.schema.Shape.TheOpen.{Shape-F}
+use Rattle.ciborium_uses.specs.{declared.schema.Shape.{Shape, fold-Shape}, declared.schema.Shape.TheOpen.Shape-F}
+use Rattle.ciborium.specs.Tree as trees
 
 -- ---- arrays
 
@@ -26,8 +23,7 @@ is_text_of name _ = false
 abbrev pub field_fits : Bool → List ℕ → (Tree → Bool) → TreePairs → Bool
 field_fits is_complete name test trees.no_tree_pairs = is_complete
 field_fits is_complete name test (trees.tree_pair k v ps) =
-    if is_text_of name k then (test v && field_fits true name test ps) else field_fits is_complete
-    name test ps
+    if is_text_of name k then (test v && field_fits true name test ps) else field_fits is_complete name test ps
 
 -- a field: its name, whether it is required, and the test of its values
 abbrev pub has_field : TreePairs → String Global × Bool × (Tree → Bool) → Bool

@@ -3,15 +3,15 @@
 //! of signatures to tell. A message whose payload is detached has no claims, and is refused.
 
 ghost use Rattle.std.specs.Prelude.{◌≡◌, IfErr, IfOk};
-ghost use Rattle.std.specs.Option.{option_copied, option_map};
+ghost use Rattle.std.specs.Option.{option_map};
 ghost use Rattle.ciborium.specs.Encoding.{written_bytes};
 ghost use Rattle.ciborium.specs.View.{tree_of};
-ghost use Rattle.ciborium_uses.specs.Envelopes.{AreKept, IsEnvelope, IsMessage, IsOutside};
-ghost use Rattle.ciborium_uses.specs.Envelopes.{IsWhole, IsWholeWithin, IsWrapped, OneEnvelope};
-ghost use Rattle.ciborium_uses.specs.Envelopes.{SpelledIsRead};
-ghost use Rattle.ciborium_uses.specs.Envelopes.{entry_trees, signed_header, signed_item, value_at};
+ghost use Rattle.ciborium_uses.specs.Envelopes.{IsEnvelope, IsMessage, IsOutside, IsWhole};
+ghost use Rattle.ciborium_uses.specs.Envelopes.{IsWrapped, OneEnvelope, SpelledIsRead};
+ghost use Rattle.ciborium_uses.specs.Envelopes.{signed_header, signed_item, value_at};
 ghost use Rattle.ciborium_uses.specs.declared.envelopes.Envelope.{Envelope};
 ghost use Rattle.ciborium_uses.specs.declared.envelopes.wrapping.Wrapping.{Wrapping};
+ghost use Rattle.ciborium_uses.specs.declared.envelopes.wrapping.Wrapping.TheVariants.{Signed};
 
 mod answer;
 mod claims;
@@ -24,17 +24,16 @@ mod wrapping;
 mod writing;
 
 pub use answer::answer;
-use ciborium::tag::Captured;
 use ciborium::value::{ByteBuf, Value};
 use ciborium::{ser, to_vec};
 pub use claims::Claims;
 pub use error::{EnvelopeError, Part};
 use headers::check_headers;
 use items::read_all;
-pub use labels::Labels;
-use labels::{labels_of, read_header, value_of};
+use labels::{is_empty, labels_of, read_header, value_of};
 use std::alloc::Global;
 use std::io;
+use wrapping::unwrapped;
 pub use wrapping::{OtherMessage, Wrapping};
 pub use writing::{header_bytes, through_memory, write_again, write_envelope};
 
@@ -43,20 +42,20 @@ pub use writing::{header_bytes, through_memory, write_again, write_envelope};
 pub struct Envelope {
     /// The bytes of the protected header, as they came.
     pub protected: ByteBuf,
-    /// The unprotected header.
-    pub unprotected: Labels,
+    /// The unprotected header, a map of labels.
+    pub unprotected: Value,
     /// The bytes of the payload.
     pub payload: ByteBuf,
     /// The signature, of which nothing is tested here.
     pub signature: ByteBuf,
-    /// What the protected header holds.
-    pub header: Labels,
+    /// What the protected header holds, a map of labels.
+    pub header: Value,
     /// What the payload holds.
     pub claims: Claims,
 }
 
-/// Reads all of the bytes as an envelope, under its tag 18. It is whole, within the levels that one
-/// tag leaves: one level more than `read_wrapped` has, which takes two, tags or none.
+/// Reads all of the bytes as an envelope, under its tag 18. It is whole, so what is written of it
+/// is read as this envelope again.
 ///
 /// # Errors
 ///
@@ -68,36 +67,30 @@ pub struct Envelope {
 /// sections 3 and 3.1), `Claim` where a claim has another type, and `Memory`.
 pub fn read_envelope(alloc: Global, bytes: &[u8]) -> Result<Envelope, EnvelopeError>
     ensures ok { IfOk result (λ e. IsEnvelope bytes.now e) }
-    ensures whole { IfOk result (λ e. IsWholeWithin 255 e) }
+    ensures whole { IfOk result (λ e. IsWhole Signed e) }
     ensures refused { IfErr result (λ e. (v : Envelope) → IsEnvelope bytes.now v → IsOutside e) }
 {
-    let Captured(tag, message) = read_all::<Captured<Value>>(alloc, bytes, Part::Message)?;
-    if tag != Some(18) {
-        return Err(wrapping::refusal_of(tag, None));
+    let (wrapping, envelope) = read_wrapped(alloc, bytes)?;
+    match wrapping {
+        Wrapping::Signed => Ok(envelope),
+        _ => Err(EnvelopeError::Tags),
     }
-    open(alloc, message)
 }
 
 /// Reads all of the bytes as an envelope, and says which tags stand around it: none, 18, or 18
-/// under 61. It is whole, so what is written of it is read as this envelope again.
+/// under 61. It is whole under these, so what is written of it is read as this envelope again.
 ///
 /// # Errors
 ///
 /// Those of `read_envelope`, `Other` and `Tags` where other tags stand there.
 pub fn read_wrapped(alloc: Global, bytes: &[u8]) -> Result<(Wrapping, Envelope), EnvelopeError>
     ensures ok { IfOk result (λ r. IsWrapped bytes.now r.0 r.1) }
-    ensures whole { IfOk result (λ r. IsWhole r.1) }
+    ensures whole { IfOk result (λ r. IsWhole r.0 r.1) }
     ensures refused { IfErr result (λ e. (w : Wrapping) (v : Envelope) →
         IsWrapped bytes.now w v → IsOutside e) }
 {
-    let Captured(outer, Captured(inner, message)) = read_all::<Captured<Captured<Value>>>(
-        alloc,
-        bytes,
-        Part::Message,
-    )?;
-    let Some(wrapping) = wrapping::wrapping_of(outer, inner) else {
-        return Err(wrapping::refusal_of(outer, inner));
-    };
+    let value = read_all(alloc, bytes, Part::Message)?;
+    let (wrapping, message) = unwrapped(value)?;
     let envelope = open(alloc, message)?;
     Ok((wrapping, envelope))
 }
@@ -105,7 +98,6 @@ pub fn read_wrapped(alloc: Global, bytes: &[u8]) -> Result<(Wrapping, Envelope),
 // Opens a message whose tags were read.
 fn open(alloc: Global, message: Value) -> Result<Envelope, EnvelopeError>
     ensures ok { IfOk result (λ e. IsMessage (tree_of message) e) }
-    ensures kept { IfOk result (λ e. AreKept e.unprotected) }
     ensures refused { IfErr result
         (λ e. (v : Envelope) → IsMessage (tree_of message) v → IsOutside e) }
 {
@@ -118,18 +110,17 @@ fn open(alloc: Global, message: Value) -> Result<Envelope, EnvelopeError>
     let claims = claims::read_claims(alloc, &parts.payload)?;
     Ok(Envelope {
         protected: ByteBuf(parts.protected),
-        unprotected,
+        unprotected: unprotected.map,
         payload: ByteBuf(parts.payload),
         signature: ByteBuf(parts.signature),
-        header,
+        header: header.map,
         claims,
     })
 }
 
 /// The algorithm of the signature, as the protected header names it (RFC 9052, section 3.1).
 pub fn algorithm<'a>(envelope: &'a Envelope) -> Option<&'a Value>
-    ensures { option_map tree_of (option_copied result)
-        ≡ value_at 1 (entry_trees envelope.now.header) }
+    ensures { option_map (λ v. tree_of v.now) result ≡ value_at 1 (tree_of envelope.now.header) }
 {
     value_of(&envelope.header, 1)
 }
@@ -139,7 +130,7 @@ pub fn one_envelope()
     ensures { OneEnvelope }
 {}
 
-/// What is written of an envelope that is whole is read as that envelope, by the call that read it.
+/// What is written of an envelope that is whole under some tags is read as that envelope.
 pub fn spelled_is_read()
     ensures { SpelledIsRead }
 {}
@@ -151,7 +142,7 @@ pub fn signed_bytes(
     external: &ByteBuf,
 ) -> Result<Vec<u8>, ser::Error<io::Error>>
     ensures { IfOk result (λ bytes. bytes.items ≡ written_bytes (signed_item
-        (signed_header envelope.now.protected.0.items (entry_trees envelope.now.header))
+        (signed_header envelope.now.protected.0.items (tree_of envelope.now.header))
         external.now.0.items envelope.now.payload.0.items)) }
 {
     let Envelope {
@@ -173,15 +164,15 @@ pub fn signed_bytes(
 pub fn to_be_signed(
     alloc: Global,
     protected: &ByteBuf,
-    header: &Labels,
+    header: &Value,
     external: &ByteBuf,
     payload: &ByteBuf,
 ) -> Result<Vec<u8>, ser::Error<io::Error>>
     ensures { IfOk result (λ bytes. bytes.items ≡ written_bytes (signed_item
-        (signed_header protected.now.0.items (entry_trees header.now))
+        (signed_header protected.now.0.items (tree_of header.now))
         external.now.0.items payload.now.0.items)) }
 {
     let none = ByteBuf(Vec::new(alloc));
-    let sent = if header.is_empty() { &none } else { protected };
+    let sent = if is_empty(header) { &none } else { protected };
     to_vec(alloc, &("Signature1", sent, external, payload))
 }

@@ -1,10 +1,8 @@
 -- Where a source stands: before an item or after one, and what follows in the containers that are
 -- open around it.
-use Rattle.std.specs.Prelude.{ℕ, Bool, true, false, List}
-use Rattle.std.specs.Borrow.{GName}
+use Rattle.std.specs.{Prelude.{ℕ, Bool, true, false, List}, Borrow.GName}
 use Rattle.ciborium_ll.specs.Item.{Item}
-use Rattle.ciborium_value.specs.Nesting.{Limit}
-use Rattle.ciborium_value.specs.Given.{deeper_if}
+use Rattle.ciborium_value.specs.{Nesting.Limit, Given.deeper_if}
 
 -- how the parts of a container come: so many, up to a break, or as the bytes of a byte string
 pub data Span : Type 0 where

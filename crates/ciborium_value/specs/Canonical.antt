@@ -1,10 +1,6 @@
 -- The two orders of trees by their encodings.
-use Rattle.std.specs.declared.cmp.Ordering.{Ordering}
-use Rattle.std.specs.Ordering.{nat_cmp, then_cmp, on}
-use Rattle.std.specs.Cmp.Lexicographic.{slice_cmp}
-use Rattle.ciborium_value.specs.Tree.{Tree}
-use Rattle.ciborium_value.specs.Encoding.{encoding, encoded_size}
-use Rattle.ciborium_value.specs.declared.key_order.KeyOrder.{KeyOrder}
+use Rattle.std.specs.{declared.cmp.Ordering.Ordering, Ordering.{nat_cmp, then_cmp, on}, Cmp.Lexicographic.slice_cmp}
+use Rattle.ciborium_value.specs.{Tree.Tree, Encoding.{encoding, encoded_size}, declared.key_order.KeyOrder.KeyOrder}
 use Rattle.ciborium_value.specs.declared.key_order.KeyOrder.TheVariants.{LengthFirst, Bytewise}
 
 -- bytewise: the first byte that differs decides (RFC 8949, section 4.2.1)

@@ -45,5 +45,4 @@ abbrev mutual
   -- of all keys and values together
   pub tree_pairs_payload_size : TreePairs → ℕ
   tree_pairs_payload_size no_tree_pairs = 0
-  tree_pairs_payload_size (tree_pair k v ps) =
-      payload_size k + payload_size v + tree_pairs_payload_size ps
+  tree_pairs_payload_size (tree_pair k v ps) = payload_size k + payload_size v + tree_pairs_payload_size ps

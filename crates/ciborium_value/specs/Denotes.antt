@@ -33,15 +33,13 @@ mutual
   -- items and the end of their array, with commas between them, where one is due before the first
   -- or none
   pub data BeginsItems : ℕ → Bool → List ℕ → Trees → List ℕ → Type 0 where
-    no_item : (l : ℕ) (due : Bool) (t r : List ℕ) → IsToken t end_array r →
-        BeginsItems l due t trees.no_trees r
+    no_item : (l : ℕ) (due : Bool) (t r : List ℕ) → IsToken t end_array r → BeginsItems l due t trees.no_trees r
     item : (l : ℕ) (due : Bool) (v : Tree) (vs : Trees) (t s u r : List ℕ) → IsSeparated due t s →
         Begins l s v u → BeginsItems l true u vs r → BeginsItems l due t (trees.tree v vs) r
 
   -- pairs and the end of their map, a colon between each key and its value
   pub data BeginsPairs : ℕ → Bool → List ℕ → TreePairs → List ℕ → Type 0 where
-    no_pair : (l : ℕ) (due : Bool) (t r : List ℕ) → IsToken t end_map r →
-        BeginsPairs l due t trees.no_tree_pairs r
+    no_pair : (l : ℕ) (due : Bool) (t r : List ℕ) → IsToken t end_map r → BeginsPairs l due t trees.no_tree_pairs r
     pair : (l : ℕ) (due : Bool) (k v : Tree) (ps : TreePairs) (t s u w x r : List ℕ) →
         IsSeparated due t s → Begins l s k u → IsToken u colon w → Begins l w v x →
         BeginsPairs l true x ps r → BeginsPairs l due t (trees.tree_pair k v ps) r

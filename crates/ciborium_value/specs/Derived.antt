@@ -1,12 +1,10 @@
 -- What the derived `==`, `cmp` and `partial_cmp` of `Value` answer, by the names that the derives
 -- give to it.
-use Rattle.std.specs.Prelude.{Bool, Option}
-use Rattle.std.specs.declared.cmp.Ordering.{Ordering}
+use Rattle.std.specs.{Prelude.{Bool, Option}, declared.cmp.Ordering.Ordering}
+use Rattle.ciborium_value.specs.{declared.tree.Value.Value, declared.tree.Value.TheBlock.member-Value}
 use Rattle.ciborium_value.specs.contracts.tree.ValueOrd.TheImpl.Laws as order
 use Rattle.ciborium_value.specs.contracts.tree.ValuePartialEq.TheImpl.Laws as equality
 use Rattle.ciborium_value.specs.contracts.tree.ValuePartialOrd.TheImpl.Laws as partial_order
-use Rattle.ciborium_value.specs.declared.tree.Value.{Value}
-use Rattle.ciborium_value.specs.declared.tree.Value.TheBlock.{member-Value}
 
 -- `v == w`
 abbrev pub value_eq : Value → Value → Bool

@@ -1,27 +1,14 @@
 -- What a type is, as data: what counts of its values, how they are read and written, and the laws
 -- of that. The laws of types made of others follow from the descriptions of their parts.
-use Rattle.std.specs.Prelude.{◌≡◌, ℕ, Bool, true, false, List, [], ◌∷◌, Option, Some, None, max}
-use Rattle.std.specs.Prelude.{length, ◌&&◌, if◌then◌else◌, bytes_eq}
-use Rattle.std.specs.Cmp.{IsTotalOrder}
-use Rattle.std.specs.declared.cmp.Ordering.{Ordering}
+use Rattle.std.specs.Prelude.{◌≡◌, ℕ, Bool, true, false, List, [], ◌∷◌, Option, Some, None, max, length, ◌&&◌}
+use Rattle.std.specs.{Prelude.{if◌then◌else◌, bytes_eq}, Cmp.IsTotalOrder, declared.cmp.Ordering.Ordering}
 use Rattle.ciborium_ll.specs.Item.{Item}
-use Rattle.ciborium_value.specs.FormsReadBack.{IsFormRead, IsReadFromForm}
-use Rattle.ciborium_value.specs.Labels.{Label, label_item}
-use Rattle.ciborium_value.specs.Nesting.{Limit}
-use Rattle.ciborium_value.specs.NeverWritten.{Avoided, IsNever, nulls, byte_strings}
-use Rattle.ciborium_value.specs.Places.{dictionary}
-use Rattle.ciborium_value.specs.Progress.{counted_of}
-use Rattle.ciborium_value.specs.Readings.{ItemsGiven, Reading}
-use Rattle.ciborium_value.specs.ReadsBack.{IsNameRead, IsReadBack}
-use Rattle.ciborium_value.specs.Sinks.{Named, all_named, in_turn}
-use Rattle.ciborium_value.specs.StructReadings.{Fields}
-use Rattle.ciborium_value.specs.Given.{outcome}
-use Rattle.ciborium_value.specs.VariantReadings.{Variant, given_data, given_enum}
-use Rattle.ciborium_value.specs.WrittenContents.{AreFieldsAlike, IsWrittenByContent}
-use Rattle.ciborium_value.specs.declared.key_order.KeyOrder.{KeyOrder}
-use Rattle.ciborium_value.specs.lemmas.FormsReadBackParts.{AreFormPartsRead}
-use Rattle.ciborium_value.specs.lemmas.FormsReadBackStructs.{FieldsForm}
-use Rattle.ciborium_value.specs.lemmas.ReadsBackParts.{ArePartsRead}
+use Rattle.ciborium_value.specs.{Labels.{Label, label_item}, Nesting.Limit, NeverWritten.{Avoided, IsNever, nulls}}
+use Rattle.ciborium_value.specs.{NeverWritten.byte_strings, Places.dictionary, Progress.counted_of, Readings.ItemsGiven}
+use Rattle.ciborium_value.specs.{Readings.Reading, ReadsBack.{IsNameRead, IsReadBack, Way}, Sinks.{Named, all_named}}
+use Rattle.ciborium_value.specs.{Sinks.in_turn, StructReadings.Fields, Given.outcome, VariantReadings.Variant}
+use Rattle.ciborium_value.specs.{VariantReadings.{given_data, given_enum}, WrittenContents.AreFieldsAlike}
+use Rattle.ciborium_value.specs.{WrittenContents.IsWrittenByContent, lemmas.ReadsBackParts.ArePartsRead}
 use Rattle.ciborium_value.specs.lemmas.ReadsBackStructs.{FieldsReadBack, are_apart, is_named}
 
 -- what a type is
@@ -36,10 +23,7 @@ pub record Description (T : Type 0) : Type 1 where
   pub avoids : Avoided → Bool
   -- no two of its labels or names are equal, and what may be null is never null otherwise
   pub is_sound : Bool
-  pub reads_back : is_sound ≡ true →
-      IsReadBack is_valid written reading.taken reading.content levels
-  pub form_reads_back : is_sound ≡ true → (o : KeyOrder) →
-      IsReadFromForm o is_valid written reading.taken reading.content
+  pub reads_back : is_sound ≡ true → (way : Way) → IsReadBack way is_valid written reading.taken reading.content levels
   pub writes_content : IsWrittenByContent written reading.content
   pub never : (a : Avoided) → avoids a ≡ true → (v : T) → IsNever a (written v)
 
@@ -50,9 +34,7 @@ is_lawful d = d.is_sound && (d.avoids nulls && d.avoids byte_strings)
 -- what a type writes and reads has the laws of this description
 pub record IsDescribed {T C : Type 0} (d : Description T) (written : T → Named)
     (reading : Reading T C) : Type 0 where
-  pub reads_back : IsReadBack d.is_valid written reading.taken reading.content d.levels
-  pub form_reads_back : (o : KeyOrder) →
-      IsReadFromForm o d.is_valid written reading.taken reading.content
+  pub reads_back : (way : Way) → IsReadBack way d.is_valid written reading.taken reading.content d.levels
   pub writes_content : IsWrittenByContent written reading.content
   pub never : (a : Avoided) (v : T) → IsNever a (written v)
 
@@ -61,8 +43,7 @@ pub record KeyDescription (K : Type 0) : Type 1 where
   pub key : Description K
   pub compare : K → K → Ordering
   pub total : IsTotalOrder compare
-  pub orders : (a b : K) →
-      compare a b ≡ key.reading.order (key.reading.content a) (key.reading.content b)
+  pub orders : (a b : K) → compare a b ≡ key.reading.order (key.reading.content a) (key.reading.content b)
 
 -- ---- structs
 
@@ -94,15 +75,12 @@ pub record FieldsDescription (T : Type 0) : Type 1 where
   pub same_number : (v : T) → length (named v) ≡ number v
   pub unnamed : (x : Label) → has x ≡ false → (v : T) → is_named x (named v) ≡ false
   pub apart : is_sound ≡ true → (v : T) → are_apart (named v) ≡ true
-  pub back : is_sound ≡ true → (v : T) → is_valid v →
-      FieldsReadBack fields (named v) (content v) (levels v)
-  pub form : is_sound ≡ true → (o : KeyOrder) (v : T) → is_valid v →
-      FieldsForm o fields (named v) (content v)
+  pub back : is_sound ≡ true → (way : Way) (v : T) → is_valid v →
+      FieldsReadBack way fields (named v) (content v) (levels v)
   pub alike : (v w : T) → AreFieldsAlike (content v) (content w) (named v) (named w)
 
 -- what is written of a field that is left out where there is nothing, before others
-abbrev pub maybe_before : {V : Type 0} → Label → (V → Named) → Option V → List (Label × Named) →
-    List (Label × Named)
+abbrev pub maybe_before : {V : Type 0} → Label → (V → Named) → Option V → List (Label × Named) → List (Label × Named)
 maybe_before label written None fs = fs
 maybe_before label written (Some v) fs = (label, written v) ∷ fs
 
@@ -125,10 +103,8 @@ pub record ItemsDescription (T : Type 0) : Type 1 where
   pub is_valid : T → Type 0
   pub levels : T → ℕ
   pub is_sound : Bool
-  pub back : is_sound ≡ true → (v : T) → is_valid v →
-      ArePartsRead (all_named (parts v)) items (content v) (levels v)
-  pub form : is_sound ≡ true → (o : KeyOrder) (v : T) → is_valid v →
-      AreFormPartsRead o (all_named (parts v)) items (content v)
+  pub back : is_sound ≡ true → (way : Way) (v : T) → is_valid v →
+      ArePartsRead way (all_named (parts v)) items (content v) (levels v)
   pub alike : (v w : T) → content v ≡ content w → parts v ≡ parts w
 
 -- ---- enums
@@ -153,11 +129,8 @@ pub record VariantsDescription (S : Type 0) : Type 1 where
   pub is_valid : S → Type 0
   pub levels : S → ℕ
   pub is_sound : Bool
-  pub back : is_sound ≡ true → {E : Type 0} (all : List (Variant E)) (make : Content → E) →
-      AreReadBy all names (variants make) → (s : S) → is_valid s →
-      IsNameRead (written s) (given_enum all) (make (content s)) (levels s)
-  pub form : is_sound ≡ true → (o : KeyOrder) {E : Type 0} (all : List (Variant E))
+  pub back : is_sound ≡ true → (way : Way) {E : Type 0} (all : List (Variant E))
       (make : Content → E) → AreReadBy all names (variants make) → (s : S) → is_valid s →
-      IsFormRead o (written s) (given_enum all) (make (content s))
+      IsNameRead way (written s) (given_enum all) (make (content s)) (levels s)
   pub alike : (s t : S) → content s ≡ content t → written s ≡ written t
   pub never : (a : Avoided) (s : S) → IsNever a (written s)

@@ -1,9 +1,7 @@
 -- The order of keys that deterministic encoding asks for, in every map of a tree (RFC 8949, section
 -- 4.2; length-first: section 4.2.3, bytewise: section 4.2.1).
-use Rattle.std.specs.Prelude.{◌≡◌, List, [], ◌∷◌}
-use Rattle.std.specs.declared.cmp.Ordering.TheVariants.{Less}
-use Rattle.ciborium_value.specs.Canonical.{key_order}
-use Rattle.ciborium_value.specs.Tree.{Tree, integer, bytes, text, boolean, null, tag, array, map}
+use Rattle.std.specs.{Prelude.{◌≡◌, List, [], ◌∷◌}, declared.cmp.Ordering.TheVariants.Less}
+use Rattle.ciborium_value.specs.{Canonical.key_order, Tree.{Tree, integer, bytes, text, boolean, null, tag, array, map}}
 use Rattle.ciborium_value.specs.Tree.{Trees, no_trees, tree, TreePairs, no_tree_pairs, tree_pair}
 use Rattle.ciborium_value.specs.declared.key_order.KeyOrder.{KeyOrder}
 
@@ -38,5 +36,4 @@ abbrev mutual
   -- of each key and each value
   pub PairsHaveRisingKeys : KeyOrder → TreePairs → Type 0
   PairsHaveRisingKeys o no_tree_pairs = Unit {0}
-  PairsHaveRisingKeys o (tree_pair k v ps) = HasRisingKeys o k × HasRisingKeys o v ×
-      PairsHaveRisingKeys o ps
+  PairsHaveRisingKeys o (tree_pair k v ps) = HasRisingKeys o k × HasRisingKeys o v × PairsHaveRisingKeys o ps

@@ -1,24 +1,18 @@
 -- The deterministic form of a tree by an order of keys: bignums folded, and the pairs of each map,
 -- inner maps first, sorted by the forms of their keys (RFC 8949, sections 3.4.3 and 4.2).
-use Rattle.std.specs.Prelude.{ℕ, List, Option, Some, None}
-use Rattle.std.specs.declared.cmp.Ordering.{Ordering}
+use Rattle.std.specs.{Prelude.{ℕ, List, Option, Some, None}, declared.cmp.Ordering.Ordering}
 use Rattle.std.specs.declared.cmp.Ordering.TheVariants.{Less, Equal, Greater}
-use Rattle.ciborium_value.specs.Canonical.{key_order}
-use Rattle.ciborium_value.specs.Folded.{tree_folding_bytes}
-use Rattle.ciborium_value.specs.Meaning.{bignum_meaning}
-use Rattle.ciborium_value.specs.Given.{Outcome, gives, nests, of_meaning, outcome_map, refuses}
-use Rattle.ciborium_value.specs.Given.{then_take}
-use Rattle.ciborium_value.specs.Tree.{Tree, integer, bytes, text, boolean, null, tag, array, map}
-use Rattle.ciborium_value.specs.Tree.{Trees, no_trees, tree, TreePairs, no_tree_pairs, tree_pair}
-use Rattle.ciborium_value.specs.declared.key_order.KeyOrder.{KeyOrder}
+use Rattle.ciborium_value.specs.{Canonical.key_order, Folded.tree_folding_bytes, Meaning.bignum_meaning, Given.Outcome}
+use Rattle.ciborium_value.specs.{Given.{gives, nests, of_meaning, outcome_map, refuses, then_take}, Tree.Tree}
+use Rattle.ciborium_value.specs.Tree.{integer, bytes, text, boolean, null, tag, array, map, Trees, no_trees, tree}
+use Rattle.ciborium_value.specs.{Tree.{TreePairs, no_tree_pairs, tree_pair}, declared.key_order.KeyOrder.KeyOrder}
 use Rattle.ciborium_value.specs.declared.kind.Kind.TheVariants as kinds
 
 -- ---- pairs in order
 
 -- a pair before the first pair of others, or behind it, as their keys compare; equal keys are
 -- refused
-abbrev pub placed_pair : Ordering → Tree → Tree → Tree → Tree → TreePairs → Outcome TreePairs →
-    Outcome TreePairs
+abbrev pub placed_pair : Ordering → Tree → Tree → Tree → Tree → TreePairs → Outcome TreePairs → Outcome TreePairs
 placed_pair Less k v l w ps behind = gives (tree_pair k v (tree_pair l w ps))
 placed_pair Equal k v l w ps behind = refuses kinds.DuplicateKey
 placed_pair Greater k v l w ps behind = outcome_map (tree_pair l w) behind
@@ -75,5 +69,4 @@ abbrev mutual
   -- of each key and each value, the pairs as they stand
   pub pair_forms : KeyOrder → TreePairs → Outcome TreePairs
   pair_forms o no_tree_pairs = gives no_tree_pairs
-  pair_forms o (tree_pair k v ps) = one_pair_more (deterministic_form o k) (deterministic_form o v)
-      (pair_forms o ps)
+  pair_forms o (tree_pair k v ps) = one_pair_more (deterministic_form o k) (deterministic_form o v) (pair_forms o ps)

@@ -1,11 +1,7 @@
 -- The trees that have a deterministic spelling, by an order of keys (RFC 8949, section 4.2).
 use Rattle.std.specs.Prelude.{◌≡◌, ℕ, List, Some}
-use Rattle.ciborium_value.specs.Deterministic.{HasRisingKeys}
-use Rattle.ciborium_value.specs.Encoding.{encoding}
-use Rattle.ciborium_value.specs.Folded.{folded}
-use Rattle.ciborium_value.specs.ProperTrees.{IsProperTree}
-use Rattle.ciborium_value.specs.Tree.{Tree}
-use Rattle.ciborium_value.specs.declared.key_order.KeyOrder.{KeyOrder}
+use Rattle.ciborium_value.specs.{Deterministic.HasRisingKeys, Encoding.encoding, Folded.folded}
+use Rattle.ciborium_value.specs.{ProperTrees.IsProperTree, Tree.Tree, declared.key_order.KeyOrder.KeyOrder}
 
 -- a tree that has one: a program can hold it, folding changes nothing, and its maps' keys rise
 pub record IsDeterministicTree (o : KeyOrder) (v : Tree) : Type 0 where

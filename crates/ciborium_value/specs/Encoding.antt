@@ -1,12 +1,11 @@
 -- What writing puts out (RFC 8949, section 4.1; lengths: section 4.2.1).
-use Rattle.std.specs.Prelude.{ℕ, ◌-◌, ◌^◌, min, ℤ, pos, negsuc, List, [], ◌∷◌, ◌++◌, length, Bool}
-use Rattle.std.specs.Prelude.{true, false, if◌then◌else◌, nat_lt}
-use Rattle.ciborium_ll.specs.Head.{shortest_head, simple_bytes, open_byte, break_byte}
-use Rattle.ciborium_ll.specs.Item.{Item, unsigned, negative, bytes, text, array, map, tag, simple}
-use Rattle.ciborium_ll.specs.Item.{float, Items, no_items, item, Pairs, no_pairs, pair, items_count}
-use Rattle.ciborium_ll.specs.Item.{pairs_count}
-use Rattle.ciborium_value.specs.Tree as tree
+use Rattle.std.specs.Prelude.{ℕ, ◌-◌, ◌^◌, min, ℤ, pos, negsuc, List, [], ◌∷◌, ◌++◌, length, Bool, true, false}
+use Rattle.std.specs.Prelude.{if◌then◌else◌, nat_lt}
+use Rattle.ciborium_ll.specs.{Head.{shortest_head, simple_bytes, open_byte, break_byte}, Item.{Item, unsigned}}
+use Rattle.ciborium_ll.specs.Item.{negative, bytes, text, array, map, tag, simple, float, Items, no_items, item, Pairs}
+use Rattle.ciborium_ll.specs.Item.{no_pairs, pair, items_count, pairs_count}
 use Rattle.ciborium_value.specs.Tree.{Tree, Trees, TreePairs}
+use Rattle.ciborium_value.specs.Tree as tree
 
 -- ---- the item of a tree
 
@@ -53,13 +52,11 @@ enclosed true major count r = open_byte major ∷ (r ++ (break_byte ∷ []))
 -- a string; an open one as a single part
 abbrev pub string_bytes : Bool → ℕ → List ℕ → List ℕ
 string_bytes false major b = shortest_head major (length b) ++ b
-string_bytes true major b = open_byte major ∷
-    ((shortest_head major (length b) ++ b) ++ (break_byte ∷ []))
+string_bytes true major b = open_byte major ∷ ((shortest_head major (length b) ++ b) ++ (break_byte ∷ []))
 
 -- a float by its raw bytes
 abbrev pub float_bytes : List ℕ → List ℕ
-float_bytes raw = if nat_lt (length raw) 3 then 0xf9 ∷ raw else if nat_lt (length raw) 5 then 0xfa ∷
-    raw else 0xfb ∷ raw
+float_bytes raw = if nat_lt (length raw) 3 then 0xf9 ∷ raw else if nat_lt (length raw) 5 then 0xfa ∷ raw else 0xfb ∷ raw
 
 abbrev mutual
   -- the spelling in which every head is the shortest
@@ -96,8 +93,7 @@ encoded_size v = min (length (encoding v)) (2 ^ 64 - 1)
 
 -- false up to 20, true for 21, and null for every other one; only 20, 21 and 22 are ever written
 abbrev pub simple_tree : ℕ → Tree
-simple_tree n = if nat_lt n 21 then tree.boolean false else if nat_lt n 22 then tree.boolean true
-    else tree.null
+simple_tree n = if nat_lt n 21 then tree.boolean false else if nat_lt n 22 then tree.boolean true else tree.null
 
 abbrev mutual
   -- the tree of a written item, nothing folded

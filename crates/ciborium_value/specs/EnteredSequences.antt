@@ -1,11 +1,9 @@
 -- What is read of a sequence that was entered: the parts that are left, in turn.
 use Rattle.std.specs.Prelude.{◌≡◌, ℕ, List}
 use Rattle.ciborium_ll.specs.Item.{Item}
-use Rattle.ciborium_value.specs.Ahead.{Ahead, Rest, Span, after, parts, past, inside, end_of}
-use Rattle.ciborium_value.specs.Nesting.{Limit}
-use Rattle.ciborium_value.specs.Places.{Shape, sequence}
-use Rattle.ciborium_value.specs.Sources.{Fault, IsFaultOf, HasItem}
-use Rattle.ciborium_value.specs.Given.{Steps, gives, outcome}
+use Rattle.ciborium_value.specs.{Ahead.{Ahead, Rest, Span, after, parts, past, inside, end_of}, Nesting.Limit}
+use Rattle.ciborium_value.specs.{Places.{Shape, sequence}, Sources.{Fault, IsFaultOf, HasItem}, Given.{Steps, gives}}
+use Rattle.ciborium_value.specs.Given.{outcome}
 
 module _ {S Q : Type 0} (StandsBefore : S → Limit → Ahead → Type 0)
     (SeqStands : Q → Limit → Rest → Type 0) where

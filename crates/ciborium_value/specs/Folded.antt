@@ -1,10 +1,9 @@
 -- The folding of bignums at every place of a tree, as reading its encoding folds them (RFC 8949,
 -- section 3.4.3).
-use Rattle.std.specs.Prelude.{ℕ, List, length, if◌then◌else◌, nat_le, Option, Some, None}
-use Rattle.std.specs.Prelude.{option_map}
-use Rattle.ciborium_value.specs.Tree.{Tree, integer, bytes, text, boolean, null, tag, array, map}
-use Rattle.ciborium_value.specs.Tree.{Trees, no_trees, tree, TreePairs, no_tree_pairs, tree_pair}
-use Rattle.ciborium_value.specs.Meaning.{is_bignum_tag, tag_meaning, trees_more, tree_pairs_more}
+use Rattle.std.specs.Prelude.{ℕ, List, length, if◌then◌else◌, nat_le, Option, Some, None, option_map}
+use Rattle.ciborium_value.specs.Tree.{Tree, integer, bytes, text, boolean, null, tag, array, map, Trees, no_trees, tree}
+use Rattle.ciborium_value.specs.{Tree.{TreePairs, no_tree_pairs, tree_pair}, Meaning.{is_bignum_tag, tag_meaning}}
+use Rattle.ciborium_value.specs.Meaning.{trees_more, tree_pairs_more}
 
 -- the byte string of at most 16 bytes that a tree is
 abbrev pub short_bytes : Tree → Option (List ℕ)
@@ -41,5 +40,4 @@ abbrev mutual
   -- each key and value, where each has one
   pub tree_pairs_folded : TreePairs → Option TreePairs
   tree_pairs_folded no_tree_pairs = Some no_tree_pairs
-  tree_pairs_folded (tree_pair k v ps) = tree_pairs_more (folded k) (folded v)
-      (tree_pairs_folded ps)
+  tree_pairs_folded (tree_pair k v ps) = tree_pairs_more (folded k) (folded v) (tree_pairs_folded ps)

@@ -1,20 +1,14 @@
 -- What the calls of a source take from an item: a value, or a refusal of a kind; or within a limit
 -- nesting, where no level is left.
-use Rattle.std.specs.Option.{ok_or}
-use Rattle.std.specs.Prelude.{ℕ, zero, suc, ℤ, pos, negsuc, Bool, true, false, List, [], ◌∷◌}
-use Rattle.std.specs.Prelude.{length, map, chars, Option, Some, None, if◌then◌else◌, ◌||◌, ◌==◌}
-use Rattle.std.specs.Prelude.{nat_le, nat_lt, Result, Ok, Err}
-use Rattle.std.specs.Int.{complement_if}
-use Rattle.std.specs.Str.{is_utf8}
-use Rattle.ciborium_ll.specs.Item as items
-use Rattle.ciborium_ll.specs.Item.{Item, Items, Pairs, unsigned, negative, bytes, text, array, tag}
-use Rattle.ciborium_ll.specs.Item.{simple, float}
-use Rattle.ciborium_value.specs.Meaning.{big_endian, without_zeros, is_bignum_tag, folding_bytes}
-use Rattle.ciborium_value.specs.Meaning.{bignum_meaning, simple_meaning}
-use Rattle.ciborium_value.specs.Nesting.{Limit, nesting}
-use Rattle.ciborium_value.specs.Tree as trees
-use Rattle.ciborium_value.specs.Tree.{Tree, Trees, TreePairs}
+use Rattle.std.specs.{Option.ok_or, Prelude.{ℕ, zero, suc, ℤ, pos, negsuc, Bool, true, false, List, [], ◌∷◌, length}}
+use Rattle.std.specs.Prelude.{map, chars, Option, Some, None, if◌then◌else◌, ◌||◌, ◌==◌, nat_le, nat_lt, Result, Ok}
+use Rattle.std.specs.{Prelude.Err, Int.complement_if, Str.is_utf8}
+use Rattle.ciborium_ll.specs.Item.{Item, Items, Pairs, unsigned, negative, bytes, text, array, tag, simple, float}
+use Rattle.ciborium_value.specs.Meaning.{big_endian, without_zeros, is_bignum_tag, folding_bytes, bignum_meaning}
+use Rattle.ciborium_value.specs.{Meaning.simple_meaning, Nesting.{Limit, nesting}, Tree.{Tree, Trees, TreePairs}}
 use Rattle.ciborium_value.specs.declared.kind.Kind.{Kind}
+use Rattle.ciborium_ll.specs.Item as items
+use Rattle.ciborium_value.specs.Tree as trees
 use Rattle.ciborium_value.specs.declared.kind.Kind.TheVariants as kinds
 
 -- what reading an item gives within a limit
@@ -102,8 +96,7 @@ outcome l (leveled s) = within_level l (outcome (deeper l) s)
 outcome l (mapped f s) = outcome_map f (outcome l s)
 outcome l (chosen b s t) = if b then outcome l s else outcome l t
 outcome l (then_read s f) = then_take (outcome l s) (λ v. outcome l (f v))
-outcome l (then_inside test s f) = then_take (outcome l s)
-    (λ v. outcome (deeper_if (test v) l) (f v))
+outcome l (then_inside test s f) = then_take (outcome l s) (λ v. outcome (deeper_if (test v) l) (f v))
 
 -- ---- an item without its leading tags
 
@@ -158,8 +151,7 @@ number_below bound (false, n) = chosen (nat_lt n bound) (give n) (refuse kinds.R
 
 -- a number n or -1 - n, where n is below the bound
 abbrev pub number_within : ℕ → Bool × ℕ → Steps ℤ
-number_within bound p = chosen (nat_lt p.1 bound) (give (complement_if p.0 p.1))
-    (refuse kinds.Range)
+number_within bound p = chosen (nat_lt p.1 bound) (give (complement_if p.0 p.1)) (refuse kinds.Range)
 
 -- ---- booleans, null, characters
 
@@ -344,8 +336,7 @@ abbrev mutual
 
   pub given_items : Items → Steps Trees
   given_items items.no_items = give trees.no_trees
-  given_items (items.item i is) = then_read (given_value i)
-      (λ v. mapped (trees.tree v) (given_items is))
+  given_items (items.item i is) = then_read (given_value i) (λ v. mapped (trees.tree v) (given_items is))
 
   pub given_tree_pairs : Pairs → Steps TreePairs
   given_tree_pairs items.no_pairs = give trees.no_tree_pairs

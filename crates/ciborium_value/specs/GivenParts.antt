@@ -1,13 +1,9 @@
 -- What types that are made of others take from an item.
-use Rattle.std.specs.BTreeMap.{insert_entry, is_at}
-use Rattle.std.specs.Map.{lookup}
-use Rattle.std.specs.Option.{is_some}
-use Rattle.std.specs.Prelude.{Bool, List, [], ◌∷◌, Option, Some, None, ◌&&◌}
-use Rattle.std.specs.declared.cmp.Ordering.{Ordering}
+use Rattle.std.specs.{BTreeMap.{insert_entry, is_at}, Map.lookup, Option.is_some, Prelude.{Bool, List, [], ◌∷◌, Option}}
+use Rattle.std.specs.{Prelude.{Some, None, ◌&&◌}, declared.cmp.Ordering.Ordering}
 use Rattle.ciborium_ll.specs.Item.{Item}
-use Rattle.ciborium_value.specs.Given.{Steps, Given, chosen, give, is_null, mapped, read_inside}
-use Rattle.ciborium_value.specs.Given.{refuse, take_each, given_pairs, given_seq, given_value}
-use Rattle.ciborium_value.specs.Given.{then_read}
+use Rattle.ciborium_value.specs.Given.{Steps, Given, chosen, give, is_null, mapped, read_inside, refuse, take_each}
+use Rattle.ciborium_value.specs.Given.{given_pairs, given_seq, given_value, then_read}
 use Rattle.ciborium_value.specs.declared.kind.Kind.TheVariants as kinds
 
 -- what was taken, looked at once more
@@ -50,11 +46,9 @@ abbrev pub given_tuple2 : {A B : Type 0} → Given A → Given B → Given (A ×
 given_tuple2 a b = given_made (λ p. (p.0, p.1.0)) (part_given a (part_given b no_part_given))
 
 abbrev pub given_tuple3 : {A B C : Type 0} → Given A → Given B → Given C → Given (A × B × C)
-given_tuple3 a b c = given_made (λ p. (p.0, p.1.0, p.1.1.0))
-    (part_given a (part_given b (part_given c no_part_given)))
+given_tuple3 a b c = given_made (λ p. (p.0, p.1.0, p.1.1.0)) (part_given a (part_given b (part_given c no_part_given)))
 
-abbrev pub given_tuple4 : {A B C D : Type 0} → Given A → Given B → Given C → Given D →
-    Given (A × B × C × D)
+abbrev pub given_tuple4 : {A B C D : Type 0} → Given A → Given B → Given C → Given D → Given (A × B × C × D)
 given_tuple4 a b c d = given_made (λ p. (p.0, p.1.0, p.1.1.0, p.1.1.1.0))
     (part_given a (part_given b (part_given c (part_given d no_part_given))))
 
@@ -68,8 +62,7 @@ abbrev pub take_entry : {A B : Type 0} → Given A → Given B → Item × Item 
 take_entry f g p = then_read (f p.0) (λ a. then_read (g p.1) (λ b. give (a, b)))
 
 -- the entries with these pairs put in, in turn: a later pair replaces the value at an equal key
-abbrev pub put_all : {K V : Type 0} → (K → K → Ordering) → List (K × V) → List (K × V) →
-    List (K × V)
+abbrev pub put_all : {K V : Type 0} → (K → K → Ordering) → List (K × V) → List (K × V) → List (K × V)
 put_all order es [] = es
 put_all order es (p ∷ ps) = put_all order (insert_entry order es p.0 p.1) ps
 
@@ -87,6 +80,5 @@ put_each once order key value es (p ∷ ps) = then_read (key p.0) (λ k. chosen
     (λ v. put_each once order key value (insert_entry order es k v) ps)))
 
 -- a map, whose entries stand in the keys' order
-abbrev pub given_map : {K V : Type 0} → Bool → (K → K → Ordering) → Given K → Given V →
-    Given (List (K × V))
+abbrev pub given_map : {K V : Type 0} → Bool → (K → K → Ordering) → Given K → Given V → Given (List (K × V))
 given_map once order key value = after_pairs (put_each once order key value [])

@@ -1,12 +1,8 @@
 -- What a tag ends as, after writes through what `as_tag_mut` lends.
-use Rattle.std.specs.Prelude.{ℕ}
-use Rattle.std.specs.Borrow.{LendsBothIf, MutBor, Fml, u64}
-use Rattle.std.specs.Box.{with_value}
-use Rattle.std.specs.declared.option.Option.{Option}
-use Rattle.ciborium_value.specs.declared.tree.Value as value
-use Rattle.ciborium_value.specs.declared.tree.Value.{Value, out-Value}
-use Rattle.ciborium_value.specs.declared.tree.Value.TheOpen.{Value-F}
+use Rattle.std.specs.{Prelude.ℕ, Borrow.{LendsBothIf, MutBor, Fml, u64}, Box.with_value, declared.option.Option.Option}
+use Rattle.ciborium_value.specs.{declared.tree.Value.{Value, out-Value}, declared.tree.Value.TheOpen.Value-F}
 use Rattle.ciborium_value.specs.contracts.tree.Value.{the_row}
+use Rattle.ciborium_value.specs.declared.tree.Value as value
 
 -- a tag with the number t and the content w in its box, and v for any other value
 abbrev pub level_with_tag : Value-F Value → Value → ℕ → Value → Value

@@ -39,7 +39,6 @@ pub mod Deterministic
 pub mod DeterministicTrees
 pub mod DeterministicForms
 pub mod SameContents
-pub mod FormsReadBack
 pub mod Described
 pub mod Notation
 pub mod Tokens

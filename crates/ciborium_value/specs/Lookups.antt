@@ -1,12 +1,10 @@
 -- What is looked up in a tree: a value by its label, an item by its index, a number by its width;
 -- and the tree with another value where one is found.
-use Rattle.std.specs.Option.{option_or}
-use Rattle.std.specs.Prelude.{ℕ, zero, suc, ◌^◌, ℤ, pos, negsuc, Option, Some, None}
-use Rattle.std.specs.Prelude.{◌&&◌, if◌then◌else◌, is_none, nat_lt}
-use Rattle.ciborium_value.specs.Labels.{Label, named, numbered, other, is_label}
-use Rattle.ciborium_value.specs.Tree.{Tree, Trees, TreePairs, trees_count, tree_pairs_count}
-use Rattle.ciborium_value.specs.Tree.{integer, text, array, map}
-use Rattle.ciborium_value.specs.Tree.{no_trees, tree, no_tree_pairs, tree_pair}
+use Rattle.std.specs.{Option.option_or, Prelude.{ℕ, zero, suc, ◌^◌, ℤ, pos, negsuc, Option, Some, None, ◌&&◌}}
+use Rattle.std.specs.Prelude.{if◌then◌else◌, is_none, nat_lt}
+use Rattle.ciborium_value.specs.{Labels.{Label, named, numbered, other, is_label}, Tree.{Tree, Trees, TreePairs}}
+use Rattle.ciborium_value.specs.Tree.{trees_count, tree_pairs_count, integer, text, array, map, no_trees, tree}
+use Rattle.ciborium_value.specs.Tree.{no_tree_pairs, tree_pair}
 
 -- the label that a key is
 abbrev pub tree_label : Tree → Label
@@ -17,8 +15,7 @@ tree_label _ = other
 -- the value of the last pair whose key is this label
 abbrev pub last_with : Label → TreePairs → Option Tree
 last_with l no_tree_pairs = None
-last_with l (tree_pair k v ps) =
-    option_or (last_with l ps) (if is_label (tree_label k) l then Some v else None)
+last_with l (tree_pair k v ps) = option_or (last_with l ps) (if is_label (tree_label k) l then Some v else None)
 
 -- the value under a label, where the tree is a map
 abbrev pub tree_under : Label → Tree → Option Tree

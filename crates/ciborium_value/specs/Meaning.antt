@@ -1,11 +1,10 @@
 -- The tree that an item means, or none (RFC 8949, sections 3.1 to 3.4; bignums: section 3.4.3).
-use Rattle.std.specs.Prelude.{ℕ, ◌+◌, ◌*◌, ◌^◌, List, [], ◌∷◌, length, Bool, true, false}
-use Rattle.std.specs.Prelude.{if◌then◌else◌, ◌||◌, ◌==◌, nat_lt, nat_le, pos, negsuc, Option, Some}
-use Rattle.std.specs.Prelude.{None, option_map}
-use Rattle.ciborium_ll.specs.Item as item
+use Rattle.std.specs.Prelude.{ℕ, ◌+◌, ◌*◌, ◌^◌, List, [], ◌∷◌, length, Bool, true, false, if◌then◌else◌, ◌||◌, ◌==◌}
+use Rattle.std.specs.Prelude.{nat_lt, nat_le, pos, negsuc, Option, Some, None, option_map}
 use Rattle.ciborium_ll.specs.Item.{Item, Items, Pairs}
-use Rattle.ciborium_value.specs.Tree.{Tree, integer, bytes, text, boolean, null, tag, array, map}
-use Rattle.ciborium_value.specs.Tree.{Trees, no_trees, tree, TreePairs, no_tree_pairs, tree_pair}
+use Rattle.ciborium_value.specs.Tree.{Tree, integer, bytes, text, boolean, null, tag, array, map, Trees, no_trees, tree}
+use Rattle.ciborium_value.specs.Tree.{TreePairs, no_tree_pairs, tree_pair}
+use Rattle.ciborium_ll.specs.Item as item
 
 -- the number of bytes read behind the number n, the most significant first
 unfoldable pub big_endian_behind : ℕ → List ℕ → ℕ
@@ -28,13 +27,11 @@ unsigned_bignum n b = if nat_lt n (2 ^ 64) then Some (integer (pos n)) else Some
 -- a negative bignum, -1 - n; from n = 2^127 on an `i128` does not hold it, and it has no meaning
 abbrev pub negative_bignum : ℕ → List ℕ → Option Tree
 negative_bignum n b =
-    if nat_lt n (2 ^ 64) then Some (integer (negsuc n)) else if nat_lt n (2 ^ 127) then Some
-    (tag 3 (bytes b)) else None
+    if nat_lt n (2 ^ 64) then Some (integer (negsuc n)) else if nat_lt n (2 ^ 127) then Some (tag 3 (bytes b)) else None
 
 -- what a folding tag over these bytes means
 unfoldable pub bignum_meaning : ℕ → List ℕ → Option Tree
-bignum_meaning t b =
-    if t == 2 then unsigned_bignum (big_endian b) (without_zeros b) else negative_bignum
+bignum_meaning t b = if t == 2 then unsigned_bignum (big_endian b) (without_zeros b) else negative_bignum
     (big_endian b) (without_zeros b)
 
 -- the tags of bignums
@@ -66,11 +63,8 @@ tag_meaning t None content = option_map (tag t) content
 
 -- what a simple value means (section 3.3); that undefined is null is ciborium's own rule
 unfoldable pub simple_meaning : ℕ → Option Tree
-simple_meaning n =
-    if n == 20 then Some (boolean false)
-    else if n == 21 then Some (boolean true)
-    else if (n == 22) || (n == 23) then Some null
-    else None
+simple_meaning n = if n == 20 then Some (boolean false)
+    else if n == 21 then Some (boolean true) else if (n == 22) || (n == 23) then Some null else None
 
 -- the trees of a list's parts, where each part has one
 abbrev pub trees_more : Option Tree → Option Trees → Option Trees

@@ -1,13 +1,10 @@
 -- Diagnostic notation (RFC 8949, section 8): what is shown of a tree to a person, by its bytes of
 -- UTF-8.
-use Rattle.std.specs.Prelude.{◌≡◌, All, ℕ, suc, ◌==◌, ◌||◌, Bool, true, false, List, [], ◌∷◌, ◌++◌}
-use Rattle.std.specs.Prelude.{Option, Some, None, if◌then◌else◌, nat_lt, codes, decimal}
-use Rattle.std.specs.Fmt.{signed_decimal}
-use Rattle.std.specs.List.{flat_map, repeat}
+use Rattle.std.specs.Prelude.{◌≡◌, All, ℕ, suc, ◌==◌, ◌||◌, Bool, true, false, List, [], ◌∷◌, ◌++◌, Option, Some, None}
+use Rattle.std.specs.{Prelude.{if◌then◌else◌, nat_lt, codes, decimal}, Fmt.signed_decimal, List.{flat_map, repeat}}
 use Rattle.hex.specs.Hex.{encode_lower}
-use Rattle.ciborium_value.specs.Tree.{Tree, integer, bytes, text, boolean, null, tag, array, map}
-use Rattle.ciborium_value.specs.Tree.{Trees, no_trees, tree, TreePairs, no_tree_pairs, tree_pair}
-use Rattle.ciborium_value.specs.Tree.{trees_count, tree_pairs_count}
+use Rattle.ciborium_value.specs.Tree.{Tree, integer, bytes, text, boolean, null, tag, array, map, Trees, no_trees, tree}
+use Rattle.ciborium_value.specs.Tree.{TreePairs, no_tree_pairs, tree_pair, trees_count, tree_pairs_count}
 
 -- ---- texts, as JSON writes them (RFC 8949, section 8; RFC 8259, section 7)
 
@@ -18,15 +15,9 @@ needs_escape b = nat_lt b 32 || b == 34 || b == 92
 -- the escape of such a byte: a backslash before the character itself or a letter, or else two hex
 -- digits
 abbrev pub escape : ℕ → List ℕ
-escape b =
-    if b == 34 then codes "\\\""
-    else if b == 92 then codes "\\\\"
-    else if b == 8 then codes "\\b"
-    else if b == 9 then codes "\\t"
-    else if b == 10 then codes "\\n"
-    else if b == 12 then codes "\\f"
-    else if b == 13 then codes "\\r"
-    else codes "\\u00" ++ encode_lower (b ∷ [])
+escape b = if b == 34 then codes "\\\"" else if b == 92 then codes "\\\\"
+    else if b == 8 then codes "\\b" else if b == 9 then codes "\\t" else if b == 10 then codes "\\n"
+    else if b == 12 then codes "\\f" else if b == 13 then codes "\\r" else codes "\\u00" ++ encode_lower (b ∷ [])
 
 -- a byte of a text: its escape, or the byte as it is
 abbrev pub escaped : ℕ → List ℕ
@@ -76,8 +67,7 @@ abbrev mutual
   notation_on lines null = codes "null"
   notation_on lines (tag n v) = decimal n ++ (codes "(" ++ (notation_on lines v ++ codes ")"))
   notation_on lines (array vs) = codes "[" ++
-      (notations_on (one_level_more lines) [] vs ++
-      (last_break lines (trees_count vs) ++ codes "]"))
+      (notations_on (one_level_more lines) [] vs ++ (last_break lines (trees_count vs) ++ codes "]"))
   notation_on lines (map ps) = codes "{" ++ (pair_notations_on (one_level_more lines) [] ps ++
       (last_break lines (tree_pairs_count ps) ++ codes "}"))
 
@@ -91,8 +81,7 @@ abbrev mutual
   -- comma
   pub pair_notations_on : Option ℕ → List ℕ → TreePairs → List ℕ
   pair_notations_on lines lead no_tree_pairs = []
-  pair_notations_on lines lead (tree_pair k v ps) =
-      lead ++ (line_break lines ++ (notation_on lines k ++ (codes ": " ++
+  pair_notations_on lines lead (tree_pair k v ps) = lead ++ (line_break lines ++ (notation_on lines k ++ (codes ": " ++
       (notation_on lines v ++ pair_notations_on lines (comma lines) ps))))
 
 -- on one line, as `{}` shows a value

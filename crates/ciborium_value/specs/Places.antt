@@ -1,15 +1,10 @@
 -- Where a sink stands while a value is written (RFC 8949, sections 3.2 and 4.1).
-use Rattle.std.specs.Prelude.{◌≡◌, ℕ, ◌+◌, ◌<◌, ◌≤◌, Bool, true, false, List, [], ◌∷◌, ◌++◌, length}
-use Rattle.std.specs.Prelude.{Option, Some, None}
+use Rattle.std.specs.Prelude.{◌≡◌, ℕ, ◌+◌, ◌<◌, ◌≤◌, Bool, true, false, List, [], ◌∷◌, ◌++◌, length, Option, Some, None}
 use Rattle.std.specs.Borrow.{GName}
-use Rattle.ciborium_ll.specs.Bytes.{greatest_offset}
-use Rattle.ciborium_ll.specs.Head.{shortest_head, break_byte}
-use Rattle.ciborium_ll.specs.Header.{counted_bytes}
+use Rattle.ciborium_ll.specs.{Bytes.greatest_offset, Head.{shortest_head, break_byte}, Header.counted_bytes, Item.Item}
+use Rattle.ciborium_ll.specs.{Item.{Items, Pairs}, ProperItems.IsArgument}
+use Rattle.ciborium_value.specs.{Encoding.items_bytes, WrittenItems.AreWritten}
 use Rattle.ciborium_ll.specs.Item as item
-use Rattle.ciborium_ll.specs.Item.{Item, Items, Pairs}
-use Rattle.ciborium_ll.specs.ProperItems.{IsArgument}
-use Rattle.ciborium_value.specs.Encoding.{items_bytes}
-use Rattle.ciborium_value.specs.WrittenItems.{AreWritten}
 
 -- ---- containers
 
@@ -109,8 +104,7 @@ Fits (Some n) = n ≤ greatest_offset
 -- what is done and what waits can be written
 abbrev pub IsWrittenPlace : Place → Type 0
 IsWrittenPlace (top name before done) = AreWritten (items_from done)
-IsWrittenPlace (within s n done around) = Fits n × AreWritten (items_from done) ×
-    IsWrittenPlace around
+IsWrittenPlace (within s n done around) = Fits n × AreWritten (items_from done) × IsWrittenPlace around
 IsWrittenPlace (tagged t p) = IsArgument t × IsWrittenPlace p
 
 -- ---- bytes
@@ -118,8 +112,7 @@ IsWrittenPlace (tagged t p) = IsArgument t × IsWrittenPlace p
 -- the bytes that are out
 unfoldable pub bytes_at : Place → List ℕ
 bytes_at (top name before done) = before ++ items_bytes (items_from done)
-bytes_at (within s n done around) = bytes_at around ++
-    (begin_bytes s n ++ items_bytes (items_from done))
+bytes_at (within s n done around) = bytes_at around ++ (begin_bytes s n ++ items_bytes (items_from done))
 bytes_at (tagged t p) = bytes_at p ++ shortest_head 6 t
 
 -- the writer whose bytes are known

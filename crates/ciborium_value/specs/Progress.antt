@@ -1,13 +1,9 @@
 -- How far a container is written, part by part, whatever the sink.
-use Rattle.std.specs.Prelude.{◌≡◌, ℕ, List, [], ◌∷◌, ◌++◌, length, Option, Some, None, Ok, Err}
-use Rattle.std.specs.Prelude.{nat_le, if◌then◌else◌}
-use Rattle.ciborium_ll.specs.Bytes.{greatest_offset}
-use Rattle.ciborium_ll.specs.Item.{Item}
-use Rattle.ciborium_value.specs.Places.{Shape, size_of, Place, within, HasRoom, is_open, IsWhole}
-use Rattle.ciborium_value.specs.Places.{Out}
-use Rattle.ciborium_value.specs.Sinks.{Named, all_named, contained, container_of, Cause, value}
-use Rattle.ciborium_value.specs.Sinks.{memory, device, IsReady, BreaksNamed}
-use Rattle.ciborium_value.specs.declared.kind.Kind.TheVariants.{Other}
+use Rattle.std.specs.Prelude.{◌≡◌, ℕ, List, [], ◌∷◌, ◌++◌, length, Option, Some, None, Ok, Err, nat_le, if◌then◌else◌}
+use Rattle.ciborium_ll.specs.{Bytes.greatest_offset, Item.Item}
+use Rattle.ciborium_value.specs.{Places.{Shape, size_of, Place, within, HasRoom, is_open, IsWhole, Out}, Sinks.Named}
+use Rattle.ciborium_value.specs.Sinks.{all_named, contained, container_of, Cause, value, memory, device, IsReady}
+use Rattle.ciborium_value.specs.{Sinks.BreaksNamed, declared.kind.Kind.TheVariants.Other}
 
 -- each of the first parts names an item
 abbrev pub oks : List Item → List Named
@@ -31,22 +27,17 @@ pub record Owes {S : Type 0} (StandsAt : S → Place → Type 0) (s : Shape) (n 
 
 -- it can take these parts
 abbrev pub CanTake : Shape → {S : Type 0} → (S → Place → Type 0) → S → List Named → Type 0
-CanTake shape {S} StandsAt s parts =
-    (n : Option ℕ) × (whole : List Named) × (old : S) × (rest : List Named) × IsReady StandsAt old ×
-    Owes StandsAt shape n whole old s (parts ++ rest)
+CanTake shape {S} StandsAt s parts = (n : Option ℕ) × (whole : List Named) ×
+    (old : S) × (rest : List Named) × IsReady StandsAt old × Owes StandsAt shape n whole old s (parts ++ rest)
 
 -- they are written, and what was left behind them is left
 abbrev pub TakesAll : Shape → {S : Type 0} → (S → Place → Type 0) → S → S → List Named → Type 0
-TakesAll shape {S} StandsAt old new parts =
-    (n : Option ℕ) (whole : List Named) (begun : S) (rest : List Named) →
-    Owes StandsAt shape n whole begun old (parts ++ rest) →
-    Owes StandsAt shape n whole begun new rest
+TakesAll shape {S} StandsAt old new parts = (n : Option ℕ) (whole : List Named) (begun : S) (rest : List Named) →
+    Owes StandsAt shape n whole begun old (parts ++ rest) → Owes StandsAt shape n whole begun new rest
 
 -- refused: a proper beginning of the container is out
-abbrev pub BreaksAll : Shape → {S : Type 0} → (S → Place → Type 0) → (S → Out) → S → S →
-    List Named → Type 0
-BreaksAll shape {S} StandsAt out old new parts =
-    (n : Option ℕ) (whole : List Named) (begun : S) (rest : List Named) →
+abbrev pub BreaksAll : Shape → {S : Type 0} → (S → Place → Type 0) → (S → Out) → S → S → List Named → Type 0
+BreaksAll shape {S} StandsAt out old new parts = (n : Option ℕ) (whole : List Named) (begun : S) (rest : List Named) →
     Owes StandsAt shape n whole begun old (parts ++ rest) →
     BreaksNamed StandsAt out begun new (contained shape (is_open n) (all_named whole))
 

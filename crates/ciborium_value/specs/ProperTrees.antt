@@ -1,12 +1,10 @@
 -- Trees that a program can hold: Integers within CBOR's range, bytes below 256, UTF-8, and no
 -- length or count past the greatest `usize`.
 use Rattle.std.specs.Prelude.{◌≤◌}
-use Rattle.ciborium_ll.specs.Bytes.{greatest_offset}
-use Rattle.ciborium_ll.specs.Integer.{IsInRange}
-use Rattle.ciborium_ll.specs.ProperItems.{IsArgument, IsProperBytes, IsProperText}
-use Rattle.ciborium_value.specs.Tree.{Tree, integer, bytes, text, boolean, null, tag, array, map}
-use Rattle.ciborium_value.specs.Tree.{Trees, no_trees, tree, trees_count, TreePairs, no_tree_pairs}
-use Rattle.ciborium_value.specs.Tree.{tree_pair, tree_pairs_count}
+use Rattle.ciborium_ll.specs.{Bytes.greatest_offset, Integer.IsInRange, ProperItems.{IsArgument, IsProperBytes}}
+use Rattle.ciborium_ll.specs.ProperItems.{IsProperText}
+use Rattle.ciborium_value.specs.Tree.{Tree, integer, bytes, text, boolean, null, tag, array, map, Trees, no_trees, tree}
+use Rattle.ciborium_value.specs.Tree.{trees_count, TreePairs, no_tree_pairs, tree_pair, tree_pairs_count}
 
 abbrev mutual
   -- a tree that a program can hold

@@ -1,19 +1,12 @@
 -- How types are read: what counts of a value, what an item gives, and what reading takes.
-use Rattle.std.specs.Prelude.{ℕ, ℤ, pos, negsuc, ◌<◌, Bool, true, false, List, map, Option, Some}
-use Rattle.std.specs.Prelude.{None}
-use Rattle.std.specs.Ordering.{nat_cmp, int_cmp, ordering_then}
-use Rattle.std.specs.Cmp.Lexicographic.{slice_cmp}
-use Rattle.std.specs.Option.{option_cmp, option_map}
-use Rattle.std.specs.declared.cmp.Ordering.{Ordering}
-use Rattle.std.specs.declared.cmp.Ordering.TheVariants.{Equal}
+use Rattle.std.specs.Prelude.{ℕ, ℤ, pos, negsuc, ◌<◌, Bool, true, false, List, map, Option, Some, None}
+use Rattle.std.specs.{Ordering.{nat_cmp, int_cmp, ordering_then}, Cmp.Lexicographic.slice_cmp, Option.option_cmp}
+use Rattle.std.specs.{Option.option_map, declared.cmp.Ordering.Ordering, declared.cmp.Ordering.TheVariants.Equal}
 use Rattle.ciborium_ll.specs.Item.{Item}
-use Rattle.ciborium_value.specs.Given.{Steps, Given, chosen, give, number_below, number_within}
-use Rattle.ciborium_value.specs.Given.{refuse, given_integer, given_value}
-use Rattle.ciborium_value.specs.GivenParts.{after_seq, no_part_given, part_given, given_list}
-use Rattle.ciborium_value.specs.GivenParts.{given_made, given_map, given_option, given_then}
-use Rattle.ciborium_value.specs.Order.{tree_cmp}
-use Rattle.ciborium_value.specs.Tree.{Tree}
-use Rattle.ciborium_value.specs.declared.kind.Kind.{Kind}
+use Rattle.ciborium_value.specs.Given.{Steps, Given, chosen, give, number_below, number_within, refuse, given_integer}
+use Rattle.ciborium_value.specs.{Given.given_value, GivenParts.{after_seq, no_part_given, part_given, given_list}}
+use Rattle.ciborium_value.specs.{GivenParts.{given_made, given_map, given_option, given_then}, Order.tree_cmp}
+use Rattle.ciborium_value.specs.{Tree.Tree, declared.kind.Kind.Kind}
 
 -- how values of the type T are read, of which C is what counts: capacities do not
 pub record Reading (T C : Type 0) : Type 1 where
@@ -54,8 +47,7 @@ spacious content order taken = record {
 }
 
 -- what another type reads, looked at once more: it gives a content or is refused
-abbrev pub checked : {T U A C : Type 0} → (T → C) → (C → C → Ordering) → Reading U A →
-    (A → Steps C) → Reading T C
+abbrev pub checked : {T U A C : Type 0} → (T → C) → (C → C → Ordering) → Reading U A → (A → Steps C) → Reading T C
 checked content order r f = record {
   content = content;
   taken = given_then r.taken f;
@@ -66,8 +58,7 @@ checked content order r f = record {
 
 -- what another type reads, where this test holds of it, else refused with the kind
 abbrev pub such_that : {T U A : Type 0} → (T → A) → Reading U A → (A → Bool) → Kind → Reading T A
-such_that content r test kind = checked content r.order r
-    (λ v. chosen (test v) (give v) (refuse kind))
+such_that content r test kind = checked content r.order r (λ v. chosen (test v) (give v) (refuse kind))
 
 -- as another type, which is this part of it
 abbrev pub read_as : {T U C : Type 0} → (T → U) → Reading U C → Reading T C
@@ -143,8 +134,7 @@ abbrev pub array_of : {T C : Type 0} → (T → C) → ItemsGiven C → Reading 
 array_of content parts = spacious content unordered (after_seq parts)
 
 -- the same, of which a tuple is made
-abbrev tuple_of : {T C D : Type 0} → (T → D) → (D → D → Ordering) → (C → D) → ItemsGiven C →
-    Reading T D
+abbrev tuple_of : {T C D : Type 0} → (T → D) → (D → D → Ordering) → (C → D) → ItemsGiven C → Reading T D
 tuple_of content order make parts = spacious content order (given_made make parts)
 
 abbrev pub tuple1_of : {T A C : Type 0} → (T → A) → Reading A C → Reading T C
@@ -152,8 +142,7 @@ tuple1_of alone a = tuple_of (λ t. a.content (alone t)) a.order (λ p. p.0) (pa
 
 abbrev pub tuple2_of : {A B C D : Type 0} → Reading A C → Reading B D → Reading (A × B) (C × D)
 tuple2_of a b = tuple_of (λ t. (a.content t.0, b.content t.1))
-    (λ x y. ordering_then (a.order x.0 y.0) (b.order x.1 y.1)) (λ p. (p.0, p.1.0))
-    (part a (part b no_part))
+    (λ x y. ordering_then (a.order x.0 y.0) (b.order x.1 y.1)) (λ p. (p.0, p.1.0)) (part a (part b no_part))
 
 abbrev pub tuple3_of : {A B C D E F : Type 0} → Reading A D → Reading B E → Reading C F →
     Reading (A × B × C) (D × E × F)
@@ -163,8 +152,7 @@ tuple3_of a b c = tuple_of (λ t. (a.content t.0, b.content t.1, c.content t.2))
 
 abbrev pub tuple4_of : {A B C D E F G H : Type 0} → Reading A E → Reading B F → Reading C G →
     Reading D H → Reading (A × B × C × D) (E × F × G × H)
-tuple4_of a b c d =
-    tuple_of (λ t. (a.content t.0, b.content t.1, c.content t.2, d.content t.3))
+tuple4_of a b c d = tuple_of (λ t. (a.content t.0, b.content t.1, c.content t.2, d.content t.3))
     (λ x y. ordering_then (ordering_then (ordering_then (a.order x.0 y.0) (b.order x.1 y.1))
     (c.order x.2 y.2)) (d.order x.3 y.3)) (λ p. (p.0, p.1.0, p.1.1.0, p.1.1.1.0))
     (part a (part b (part c (part d no_part))))
@@ -175,12 +163,10 @@ tuple4_of a b c d =
 abbrev pub map_by : {M K V C D : Type 0} → Bool → (M → List (K × V)) → Reading K C →
     Reading V D → Reading M (List (C × D))
 map_by once entries k v = spacious (λ m. map (λ e. (k.content e.0, v.content e.1)) (entries m))
-    (slice_cmp (λ x y. ordering_then (k.order x.0 y.0) (v.order x.1 y.1)))
-    (given_map once k.order k.taken v.taken)
+    (slice_cmp (λ x y. ordering_then (k.order x.0 y.0) (v.order x.1 y.1))) (given_map once k.order k.taken v.taken)
 
 -- of equal keys the last one counts
-abbrev pub map_of : {M K V C D : Type 0} → (M → List (K × V)) → Reading K C → Reading V D →
-    Reading M (List (C × D))
+abbrev pub map_of : {M K V C D : Type 0} → (M → List (K × V)) → Reading K C → Reading V D → Reading M (List (C × D))
 map_of entries k v = map_by false entries k v
 
 -- equal keys are refused

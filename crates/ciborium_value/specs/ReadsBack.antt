@@ -1,42 +1,59 @@
--- What is written is read back: booleans, null, characters and strings.
-use Rattle.std.proofs.Common.{sym, ap, subst, ◌∙◌, append-nil}
-use Rattle.std.proofs.lemmas.Str.{IsUtf8-encode, chars-nil, chars_past_char}
-use Rattle.std.specs.Char.{IsScalar}
-use Rattle.std.specs.Prelude.{◌≡◌, ℕ, Bool, true, false, List, [], ◌∷◌, Result, Ok, Err, IfOk}
-use Rattle.std.specs.Prelude.{chars, encode_utf8, String, string_bytes, refl}
-use Rattle.std.specs.declared.alloc.Global.{Global}
-use Rattle.ciborium_ll.specs.Item as items
+-- What is written is read back: the ways of reading it, and booleans, null, characters and strings.
+use Rattle.std.proofs.{Common.{sym, ap, subst, ◌∙◌, append-nil}, lemmas.Str.{IsUtf8-encode, chars-nil, chars_past_char}}
+use Rattle.std.specs.{Char.IsScalar, Prelude.{◌≡◌, ℕ, Bool, true, false, List, [], ◌∷◌, Result, Ok, Err, IfOk, chars}}
+use Rattle.std.specs.{Prelude.{encode_utf8, String, string_bytes, refl}, declared.alloc.Global.Global}
 use Rattle.ciborium_ll.specs.Item.{Item}
-use Rattle.ciborium_value.specs.Encoding.{boolean_item, item_of, written_tree}
-use Rattle.ciborium_value.specs.Nesting.{Limit, IsWithin}
-use Rattle.ciborium_value.specs.Sinks.{Named}
-use Rattle.ciborium_value.specs.Given.{Given, gives, lone_character, outcome, settled}
-use Rattle.ciborium_value.specs.Given.{given_boolean}
-use Rattle.ciborium_value.specs.Given.{given_bytes, given_character, given_text, given_unit}
+use Rattle.ciborium_value.specs.{DeterministicForms.deterministic_form, Encoding.{boolean_item, item_of, written_tree}}
+use Rattle.ciborium_value.specs.{Nesting.{Limit, IsWithin}, Sinks.Named, Given.{Given, Outcome, gives, lone_character}}
+use Rattle.ciborium_value.specs.Given.{outcome, outcome_map, given_boolean, given_bytes, given_character, given_text}
+use Rattle.ciborium_value.specs.{Given.{given_unit, settled}, declared.key_order.KeyOrder.KeyOrder}
+use Rattle.ciborium_value.specs.lemmas.GivenOutcomes.{one_given}
+use Rattle.ciborium_ll.specs.Item as items
 
--- how what was written is read: from its bytes, or from the tree that `Value::serialized` makes of
--- it
+-- how what was written is read: from its bytes, from the tree that `Value::serialized` makes of it,
+-- or from its deterministic form by an order of keys
 pub data Way : Type 0 where
   by_bytes : Way
   by_tree : Way
+  by_form : KeyOrder → Way
 
 -- the item that is then met where this one was written: in a tree strings, arrays and maps are
--- definite
-abbrev pub met : Way → Item → Item
-met by_bytes i = i
-met by_tree i = item_of (written_tree i)
+-- definite, and a form, where there is one, has bignums folded and keys sorted besides
+abbrev pub met : Way → Item → Outcome Item
+met by_bytes i = gives i
+met by_tree i = gives (item_of (written_tree i))
+met (by_form o) i = outcome_map item_of (deterministic_form o (written_tree i))
 
--- the item that is named, if there is one, is read as this content where so many levels are left,
--- both ways
-pub record IsNameRead {C : Type 0} (r : Named) (taken : Given C) (c : C) (n : ℕ) : Type 0 where
-  pub back : (way : Way) (i : Item) → r ≡ Ok i → (l : Limit) → IsWithin l n →
-      outcome l (taken (met way i)) ≡ gives c
+-- no form is read
+abbrev pub IsPlain : Way → Type 0
+IsPlain by_bytes = Unit {0}
+IsPlain by_tree = Unit {0}
+IsPlain (by_form o) = ⊥
+
+-- what is met of the item is read as this content, where so many levels are left
+abbrev pub IsItemRead : {C : Type 0} → Way → Given C → C → ℕ → Item → Type 0
+IsItemRead way taken c n i = (j : Item) → met way i ≡ gives j → (l : Limit) → IsWithin l n →
+    outcome l (taken j) ≡ gives c
+
+-- so is the item that is named, if there is one
+pub record IsNameRead {C : Type 0} (way : Way) (r : Named) (taken : Given C) (c : C) (n : ℕ) :
+    Type 0 where
+  pub back : (i : Item) → r ≡ Ok i → IsItemRead way taken c n i
 
 -- what a value names is read as what counts of it, where so many levels are left
-abbrev pub IsReadBack : {T C : Type 0} → (T → Type 0) → (T → Named) → Given C → (T → C) → (T → ℕ) →
-    Type 0
-IsReadBack {T = T} IsValid written taken content levels = (v : T) → IsValid v →
-    IsNameRead (written v) taken (content v) (levels v)
+abbrev pub IsReadBack : {T C : Type 0} → Way → (T → Type 0) → (T → Named) → Given C → (T → C) → (T → ℕ) → Type 0
+IsReadBack {T = T} way IsValid written taken content levels = (v : T) → IsValid v →
+    IsNameRead way (written v) taken (content v) (levels v)
+
+-- the same from bytes and from a tree
+abbrev pub IsPlainlyReadBack : {T C : Type 0} → (T → Type 0) → (T → Named) → Given C → (T → C) → (T → ℕ) → Type 0
+IsPlainlyReadBack IsValid written taken content levels = (way : Way) → IsPlain way →
+    IsReadBack way IsValid written taken content levels
+
+-- the same from the deterministic form, by either order of keys
+abbrev pub IsReadFromForm : {T C : Type 0} → (T → Type 0) → (T → Named) → Given C → (T → C) → (T → ℕ) → Type 0
+IsReadFromForm IsValid written taken content levels = (o : KeyOrder) →
+    IsReadBack (by_form o) IsValid written taken content levels
 
 -- ---- what holds of all that is answered
 
@@ -48,77 +65,79 @@ pub of_ok : {X E : Type 0} (r : Result X E) (P : X → Type 0) → IfOk r P → 
 of_ok (Ok y) P h x e = let same : y ≡ x = cc in subst P same h
 of_ok (Err k) P h x e = cc
 
--- ---- definite items are met as they were written
+pub name-back : {C : Type 0} {way : Way} (r : Named) {taken : Given C} {c : C} {n : ℕ} →
+    IfOk r (IsItemRead way taken c n) → IsNameRead way r taken c n
+name-back {way = way} r {taken = taken} {c = c} {n = n} h = record {
+  back = of_ok r (IsItemRead way taken c n) h;
+}
+
+pub at : {C : Type 0} {way : Way} {r : Named} {taken : Given C} {c : C} {n : ℕ} →
+    IsNameRead way r taken c n → IfOk r (IsItemRead way taken c n)
+at {way = way} {r = r} {taken = taken} {c = c} {n = n} h = if_ok r (IsItemRead way taken c n) h.back
+
+-- ---- items that are met as they were written
 
 abbrev pub IsDefinite : Item → Type 0
 IsDefinite i = item_of (written_tree i) ≡ i
 
-pub met-definite : (way : Way) (i : Item) → IsDefinite i → met way i ≡ i
-met-definite by_bytes i h = refl
-met-definite by_tree i h = h
+abbrev pub IsItsOwnForm : KeyOrder → Item → Type 0
+IsItsOwnForm o i = deterministic_form o (written_tree i) ≡ gives (written_tree i)
 
-pub met-text : (way : Way) (b : List ℕ) → met way (items.text false b) ≡ items.text false b
-met-text way b = met-definite way (items.text false b) refl
+pub met-itself : (i : Item) → IsDefinite i → ((o : KeyOrder) → IsItsOwnForm o i) → (way : Way) → met way i ≡ gives i
+met-itself i definite own by_bytes = refl
+met-itself i definite own by_tree = ap gives definite
+met-itself i definite own (by_form o) = ap (outcome_map item_of) (own o) ∙ ap gives definite
 
-pub met-tag : (way : Way) (t : ℕ) (i : Item) → met way (items.tag t i) ≡ items.tag t (met way i)
-met-tag by_bytes t i = refl
-met-tag by_tree t i = refl
+pub met-text : (b : List ℕ) (way : Way) → met way (items.text false b) ≡ gives (items.text false b)
+met-text b = met-itself (items.text false b) refl (λ o. refl)
 
--- ---- what names an item always, and takes no level
+pub met-bytes : (b : List ℕ) (way : Way) → met way (items.bytes false b) ≡ gives (items.bytes false b)
+met-bytes b = met-itself (items.bytes false b) refl (λ o. refl)
+
+pub met-null : (way : Way) → met way (items.simple 22) ≡ gives (items.simple 22)
+met-null = met-itself (items.simple 22) refl (λ o. refl)
+
+met-boolean : (b : Bool) (way : Way) → met way (boolean_item b) ≡ gives (boolean_item b)
+met-boolean false = met-itself (items.simple 20) refl (λ o. refl)
+met-boolean true = met-itself (items.simple 21) refl (λ o. refl)
+
+-- ---- what names an item always
 
 abbrev pub named : Item → Named
 named i = Ok i
 
-pub back-by_item : {T C : Type 0} (IsValid : T → Type 0) (written : T → Item) (taken : Given C)
-    (content : T → C) → ((v : T) → IsDefinite (written v)) →
-    ((v : T) → IsValid v → (l : Limit) → outcome l (taken (written v)) ≡ gives (content v)) →
-    IsReadBack IsValid (λ v. named (written v)) taken content (λ v. 0)
-back-by_item IsValid written taken content definite h v valid = record {
-  back = λ way i e l fits. of_ok (named (written v))
-      (λ j. outcome l (taken (met way j)) ≡ gives (content v))
-      (ap (λ j. outcome l (taken j)) (met-definite way (written v) (definite v)) ∙ h v valid l) i e;
-}
+-- one that is met as it was written
+pub item-back : {C : Type 0} {way : Way} (i : Item) (taken : Given C) {c : C} {n : ℕ} → met way i ≡ gives i →
+    ((l : Limit) → IsWithin l n → outcome l (taken i) ≡ gives c) → IsNameRead way (named i) taken c n
+item-back i taken same read = name-back (named i) (λ j is l fits.
+    ap (λ x. outcome l (taken x)) (one_given j i (sym is ∙ same)) ∙ read l fits)
 
-definite-boolean : (b : Bool) → IsDefinite (boolean_item b)
-definite-boolean false = refl
-definite-boolean true = refl
+boolean-given : (b : Bool) (l : Limit) → outcome l (given_boolean (boolean_item b)) ≡ gives b
+boolean-given false l = refl
+boolean-given true l = refl
 
-boolean-given : (b : Bool) → Unit {0} → (l : Limit) → outcome l (given_boolean (boolean_item b)) ≡
-    gives b
-boolean-given false h l = refl
-boolean-given true h l = refl
+pub boolean-back : (way : Way) → IsReadBack way (λ b. Unit {0}) (λ b. named (boolean_item b))
+    given_boolean (λ b. b) (λ b. 0)
+boolean-back way b valid = item-back (boolean_item b) given_boolean (met-boolean b way) (λ l fits. boolean-given b l)
 
-pub boolean-back : IsReadBack (λ b. Unit {0}) (λ b. named (boolean_item b)) given_boolean (λ b. b)
-    (λ b. 0)
-boolean-back = back-by_item (λ b. Unit {0}) boolean_item given_boolean (λ b. b) definite-boolean
-    boolean-given
-
-pub unit-back : IsReadBack (λ u. Unit {0}) (λ u. named (items.simple 22)) given_unit (λ u. u)
-    (λ u. 0)
-unit-back = back-by_item (λ u. Unit {0}) (λ u. items.simple 22) given_unit (λ u. u) (λ u. refl)
-    (λ u h l. refl)
+pub unit-back : (way : Way) → IsReadBack way (λ u. Unit {0}) (λ u. named (items.simple 22)) given_unit (λ u. u) (λ u. 0)
+unit-back way u valid = item-back (items.simple 22) given_unit (met-null way) (λ l fits. refl)
 
 lone-encoded : (c : ℕ) → IsScalar c → lone_character (chars (encode_utf8 c)) ≡ Ok c
 lone-encoded c h = ap lone_character (chars_past_char (encode_utf8 c) [] c (IsUtf8-encode c h)
     (sym (append-nil (encode_utf8 c))) ∙ ap (λ cs. c ∷ cs) chars-nil)
 
-pub character-back : IsReadBack IsScalar (λ c. named (items.text false (encode_utf8 c)))
-    given_character (λ c. c) (λ c. 0)
-character-back = back-by_item IsScalar (λ c. items.text false (encode_utf8 c)) given_character
-    (λ c. c) (λ c. refl) (λ c h l. ap settled (lone-encoded c h))
+pub character-back : (way : Way) → IsReadBack way IsScalar
+    (λ c. named (items.text false (encode_utf8 c))) given_character (λ c. c) (λ c. 0)
+character-back way c valid = item-back (items.text false (encode_utf8 c)) given_character
+    (met-text (encode_utf8 c) way) (λ l fits. ap settled (lone-encoded c valid))
 
-text-back : {T : Type 0} (content : T → List ℕ) →
-    IsReadBack (λ s. Unit {0}) (λ s. named (items.text false (content s))) given_text content
-    (λ s. 0)
-text-back content = back-by_item (λ s. Unit {0}) (λ s. items.text false (content s)) given_text
-    content (λ s. refl) (λ s h l. refl)
-
-pub bytes-back : {T : Type 0} (content : T → List ℕ) →
-    IsReadBack (λ b. Unit {0}) (λ b. named (items.bytes false (content b))) given_bytes content
-    (λ b. 0)
-bytes-back content = back-by_item (λ b. Unit {0}) (λ b. items.bytes false (content b)) given_bytes
-    content (λ b. refl) (λ b h l. refl)
-
-pub string_back : IsReadBack {T = String Global} (λ s. Unit {0})
+pub string_back : (way : Way) → IsReadBack {T = String Global} way (λ s. Unit {0})
     (λ s. named (items.text false (string_bytes s))) given_text string_bytes (λ s. 0)
-string_back = text-back string_bytes
+string_back way s valid = item-back (items.text false (string_bytes s)) given_text
+    (met-text (string_bytes s) way) (λ l fits. refl)
+
+pub bytes-back : {T : Type 0} (content : T → List ℕ) (way : Way) → IsReadBack way (λ b. Unit {0})
+    (λ b. named (items.bytes false (content b))) given_bytes content (λ b. 0)
+bytes-back content way b valid = item-back (items.bytes false (content b)) given_bytes
+    (met-bytes (content b) way) (λ l fits. refl)

@@ -1,13 +1,12 @@
 -- What `{}` prints of why an item or a value is refused.
 use Rattle.std.specs.Prelude.{ℕ, List, ◌++◌, codes, decimal}
 use Rattle.ciborium_ll.specs.HeadMessages.{memory_message, range_message}
-use Rattle.ciborium_value.specs.declared.kind.Kind.{Kind}
-use Rattle.ciborium_value.specs.declared.kind.Kind.TheVariants as kinds
-use Rattle.ciborium_value.specs.declared.error.Error.{Error}
+use Rattle.ciborium_value.specs.{declared.kind.Kind.Kind, declared.error.Error.Error}
 use Rattle.ciborium_value.specs.declared.error.Error.TheVariants.{Custom, Memory}
 use Rattle.ciborium_value.specs.declared.from_notation.error.NotationError.{NotationError}
-use Rattle.ciborium_value.specs.declared.from_notation.error.NotationError.TheVariants as wrong
 use Rattle.ciborium_value.specs.declared.from_notation.error.NotationFault.{NotationFault}
+use Rattle.ciborium_value.specs.declared.kind.Kind.TheVariants as kinds
+use Rattle.ciborium_value.specs.declared.from_notation.error.NotationError.TheVariants as wrong
 use Rattle.ciborium_value.specs.declared.from_notation.error.NotationFault.TheVariants as faults
 
 -- what was met, or what it is not
@@ -31,16 +30,14 @@ kind_message kinds.Tag = codes "not the required tag"
 kind_message kinds.Length = codes "an array too short for the tuple"
 kind_message kinds.Other = codes "a value that the type refuses"
 -- RFC 8949, section 4.2
-kind_message kinds.NotShortest =
-    codes "a head longer than it has to be, or undefined in place of null"
+kind_message kinds.NotShortest = codes "a head longer than it has to be, or undefined in place of null"
 kind_message kinds.Open = codes "an indefinite length where only definite ones are accepted"
 kind_message kinds.NotFolded = codes "a bignum that fits in 64 bits, or has leading zeros"
 kind_message kinds.KeyOrder = codes "a key out of order"
 kind_message kinds.DuplicateKey = codes "two equal keys in one map"
 kind_message kinds.UnknownField = codes "an unknown field"
 kind_message kinds.TrailingData = codes "bytes behind the item"
-kind_message kinds.NotDeterministic =
-    codes "another encoding than the deterministic one of the value"
+kind_message kinds.NotDeterministic = codes "another encoding than the deterministic one of the value"
 
 -- the message of an error of trees
 abbrev pub tree_error_message : Error → List ℕ
@@ -65,6 +62,5 @@ notation_fault_message faults.TooDeep = codes "nested too deep"
 
 -- the message of an error of reading notation
 abbrev pub notation_error_message : NotationError → List ℕ
-notation_error_message (wrong.At p fault) =
-    notation_fault_message fault ++ (codes " at byte " ++ decimal p)
+notation_error_message (wrong.At p fault) = notation_fault_message fault ++ (codes " at byte " ++ decimal p)
 notation_error_message wrong.Memory = memory_message

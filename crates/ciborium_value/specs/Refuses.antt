@@ -2,19 +2,15 @@
 -- appendix F; deterministic encoding: section 4.2; the order of faults is this library's).
 -- The bytes are all that is left to read. The first is at offset p, and l is the limit of levels
 -- there.
-use Rattle.std.specs.Prelude.{◌≡◌, ℕ, zero, suc, ◌+◌, ◌^◌, ◌<◌, ◌≤◌, List, [], ◌∷◌, ◌++◌, length}
-use Rattle.std.specs.Prelude.{true, Option, Some, None, option_and_then}
-use Rattle.ciborium_ll.specs.Bytes.{greatest_offset}
-use Rattle.ciborium_ll.specs.Head.{open_byte, break_byte, IsSimple}
-use Rattle.ciborium_ll.specs.Refusal.{SemanticKind, Float, Simple, Break, TooLarge, NotFolded}
-use Rattle.ciborium_ll.specs.Refusal.{Refusal, semantic, recursion_limit_exceeded, HeadRefuses}
-use Rattle.ciborium_ll.specs.Refusal.{KeyOrder, IsUsable, HasHead, IsAtFront}
+use Rattle.std.specs.Prelude.{◌≡◌, ℕ, zero, suc, ◌+◌, ◌^◌, ◌<◌, ◌≤◌, List, [], ◌∷◌, ◌++◌, length, true, Option, Some}
+use Rattle.std.specs.Prelude.{None, option_and_then}
+use Rattle.ciborium_ll.specs.{Bytes.greatest_offset, Head.{open_byte, break_byte, IsSimple}, Refusal.SemanticKind}
+use Rattle.ciborium_ll.specs.Refusal.{Float, Simple, Break, TooLarge, NotFolded, Refusal, semantic}
+use Rattle.ciborium_ll.specs.Refusal.{recursion_limit_exceeded, HeadRefuses, KeyOrder, IsUsable, HasHead, IsAtFront}
 use Rattle.ciborium_ll.specs.StringRefusal.{StringKind, StringRefuses, OpenStringRefuses}
-use Rattle.ciborium_value.specs.Meaning.{simple_meaning, big_endian, is_bignum_tag}
-use Rattle.ciborium_value.specs.Nesting.{Limit, IsOneLess}
-use Rattle.ciborium_value.specs.Spelling.{Spelling, IsReadAs, spelling_fault, IsUnwanted}
-use Rattle.ciborium_value.specs.Spelling.{AreInOrder}
-use Rattle.ciborium_value.specs.Tree.{Tree, bytes}
+use Rattle.ciborium_value.specs.{Meaning.{simple_meaning, big_endian, is_bignum_tag}, Nesting.{Limit, IsOneLess}}
+use Rattle.ciborium_value.specs.{Spelling.{Spelling, IsReadAs, spelling_fault, IsUnwanted, AreInOrder}, Tree.Tree}
+use Rattle.ciborium_value.specs.Tree.{bytes}
 
 -- a usable head stands at the front, and the spelling accepts it
 abbrev pub HasGoodHead : Spelling → List ℕ → ℕ → Type 0
@@ -111,8 +107,7 @@ pub record IsTagAt (spelling : Spelling) (b : List ℕ) (p t : ℕ) (r : List �
 
 -- a tag folds over what begins here: the head of a definite byte string of at most 16 bytes
 abbrev pub IsFoldingAt : ℕ → List ℕ → Type 0
-IsFoldingAt t r = (is_bignum_tag t ≡ true) × (n : ℕ) × (k : ℕ) × (s : List ℕ) × HasHead r 2 n k s ×
-    (n ≤ 16)
+IsFoldingAt t r = (is_bignum_tag t ≡ true) × (n : ℕ) × (k : ℕ) × (s : List ℕ) × HasHead r 2 n k s × (n ≤ 16)
 
 -- ---- refusals
 
@@ -120,8 +115,7 @@ IsFoldingAt t r = (is_bignum_tag t ≡ true) × (n : ℕ) × (k : ℕ) × (s : L
 -- appendix F)
 pub data Refuses (spelling : Spelling) : List ℕ → ℕ → Limit → Refusal → Type 0 where
   -- no usable head stands here (section 3), or it is none that the spelling accepts (section 4.2.1)
-  no_head : {b : List ℕ} {p : ℕ} {l : Limit} {e : Refusal} → HeadRefuses b p e →
-      Refuses spelling b p l e
+  no_head : {b : List ℕ} {p : ℕ} {l : Limit} {e : Refusal} → HeadRefuses b p e → Refuses spelling b p l e
   bad_head : {b : List ℕ} {p : ℕ} {l : Limit} (kind : SemanticKind) → IsUsable b p →
       spelling_fault spelling b ≡ Some kind → Refuses spelling b p l (semantic p kind)
   -- a string, definite or open (sections 3.1 and 3.2.3)
@@ -133,47 +127,36 @@ pub data Refuses (spelling : Spelling) : List ℕ → ℕ → Limit → Refusal 
   float : {x p : ℕ} {b : List ℕ} {l : Limit} → IsUsable (x ∷ b) p → 0xf9 ≤ x → x ≤ 0xfb →
       Refuses spelling (x ∷ b) p l (semantic p Float)
   simple : {b : List ℕ} {p : ℕ} {l : Limit} (s : List ℕ) (n : ℕ) (r : List ℕ) →
-      IsUsable b p → IsSimple s n → simple_meaning n ≡ None → b ≡ s ++ r →
-      Refuses spelling b p l (semantic p Simple)
+      IsUsable b p → IsSimple s n → simple_meaning n ≡ None → b ≡ s ++ r → Refuses spelling b p l (semantic p Simple)
   break : {p : ℕ} {b : List ℕ} {l : Limit} → IsUsable (break_byte ∷ b) p →
       Refuses spelling (break_byte ∷ b) p l (semantic p Break)
   -- an array or map with no level left (section 10, ciborium's rule); with a level, the part behind
   -- good ones refuses where it is due, or it is a key out of order (sections 4.2.1 and 4.2.3)
   no_level : {b : List ℕ} {p : ℕ} (k : ℕ) (r : List ℕ) (w : Due) →
-      HasGoodHead spelling b p → BeginsContainer b k r w →
-      Refuses spelling b p (Some 0) recursion_limit_exceeded
+      HasGoodHead spelling b p → BeginsContainer b k r w → Refuses spelling b p (Some 0) recursion_limit_exceeded
   part : {b : List ℕ} {p : ℕ} {l : Limit} {e : Refusal} (vs : List Tree) (r : List ℕ) (q : ℕ)
       (w : Due) (below : Limit) →
-      IsInside spelling b p l vs r q w below → IsDue w r q → Refuses spelling r q below e →
-      Refuses spelling b p l e
+      IsInside spelling b p l vs r q w below → IsDue w r q → Refuses spelling r q below e → Refuses spelling b p l e
   key_order : {b : List ℕ} {p : ℕ} {l : Limit} (vs : List Tree) (r s t : List ℕ) (key : Tree)
       (q : ℕ) (w : Due) (below : Limit) →
-      (i : IsInside spelling b p l vs r q w below) → IsDue w r q →
-      IsReadAs spelling s q below key → r ≡ s ++ t →
-      ¬ AreInOrder spelling (keys_among i.start (vs ++ (key ∷ []))) →
-      Refuses spelling b p l (semantic q KeyOrder)
+      (i : IsInside spelling b p l vs r q w below) → IsDue w r q → IsReadAs spelling s q below key → r ≡ s ++ t →
+      ¬ AreInOrder spelling (keys_among i.start (vs ++ (key ∷ []))) → Refuses spelling b p l (semantic q KeyOrder)
   -- a tag: the next head refuses, before anything else is judged
   tag_no_head : {b : List ℕ} {p : ℕ} {l : Limit} {e : Refusal} (t k : ℕ) (r : List ℕ) →
-      HasGoodHead spelling b p → HasHead b 6 t k r → HeadRefuses r (p + k) e →
-      Refuses spelling b p l e
+      HasGoodHead spelling b p → HasHead b 6 t k r → HeadRefuses r (p + k) e → Refuses spelling b p l e
   -- a tag that folds (section 3.4.3): its string refuses, its number is too large for an `i128`
   -- (ciborium's rule), or is not accepted
   folding : {b : List ℕ} {p : ℕ} {l : Limit} {e : Refusal} (t : ℕ) (r : List ℕ) (q : ℕ) →
-      IsTagAt spelling b p t r q → IsFoldingAt t r → Refuses spelling r q l e →
-      Refuses spelling b p l e
+      IsTagAt spelling b p t r q → IsFoldingAt t r → Refuses spelling r q l e → Refuses spelling b p l e
   too_large : {b : List ℕ} {p : ℕ} {l : Limit} (r s t payload : List ℕ) (q : ℕ) →
       IsTagAt spelling b p 3 r q → IsFoldingAt 3 r → IsReadAs spelling s q l (bytes payload) →
-      r ≡ s ++ t → 2 ^ 127 ≤ big_endian payload →
-      Refuses spelling b p l (semantic p TooLarge)
+      r ≡ s ++ t → 2 ^ 127 ≤ big_endian payload → Refuses spelling b p l (semantic p TooLarge)
   not_folded : {b : List ℕ} {p : ℕ} {l : Limit} (n : ℕ) (r s t payload : List ℕ) (q : ℕ) →
       IsTagAt spelling b p n r q → IsFoldingAt n r → IsReadAs spelling s q l (bytes payload) →
-      r ≡ s ++ t → IsUnwanted spelling payload →
-      Refuses spelling b p l (semantic p NotFolded)
+      r ≡ s ++ t → IsUnwanted spelling payload → Refuses spelling b p l (semantic p NotFolded)
   -- a tag that does not fold: no level is left, or with a level its item refuses
   no_tag_level : {b : List ℕ} {p : ℕ} (t : ℕ) (r : List ℕ) (q : ℕ) →
-      IsTagAt spelling b p t r q → ¬ IsFoldingAt t r →
-      Refuses spelling b p (Some 0) recursion_limit_exceeded
-  tagged : {b : List ℕ} {p : ℕ} {l : Limit} {e : Refusal} (t : ℕ) (r : List ℕ) (q : ℕ)
-      (below : Limit) →
-      IsTagAt spelling b p t r q → ¬ IsFoldingAt t r → IsOneLess l below →
-      Refuses spelling r q below e → Refuses spelling b p l e
+      IsTagAt spelling b p t r q → ¬ IsFoldingAt t r → Refuses spelling b p (Some 0) recursion_limit_exceeded
+  tagged : {b : List ℕ} {p : ℕ} {l : Limit} {e : Refusal} (t : ℕ) (r : List ℕ) (q : ℕ) (below : Limit) →
+      IsTagAt spelling b p t r q →
+      ¬ IsFoldingAt t r → IsOneLess l below → Refuses spelling r q below e → Refuses spelling b p l e

@@ -1,13 +1,11 @@
 -- The types that a `Value` holds, as the logic holds them, for the clauses on what a `&mut` lends.
+use Rattle.std.specs.{Prelude.{[], ◌∷◌}, Borrow.u8, contracts.impls.GlobalAllocator.TheImpl.ghosts}
+use Rattle.ciborium_value.specs.contracts.tree.Value.{the_row}
 use denote.RattleType.{RattleType}
 use denote.Struct.Tuple.{Tuple}
-use Rattle.std.specs.Prelude.{[], ◌∷◌}
-use Rattle.std.specs.Borrow.{u8}
 use Rattle.std.specs.contracts.alloc.Global as global
 use Rattle.std.specs.contracts.vec.Vec as vec
 use Rattle.std.specs.contracts.string.String as string
-use Rattle.std.specs.contracts.impls.GlobalAllocator.TheImpl.{ghosts}
-use Rattle.ciborium_value.specs.contracts.tree.Value.{the_row}
 
 abbrev pub bytes_row : RattleType
 bytes_row = vec.the_row u8 global.the_row ghosts

@@ -1,10 +1,8 @@
 -- Trees that are equal but for the order of the pairs of their maps, and for the folding of
 -- bignums.
 use Rattle.std.specs.Prelude.{◌≡◌, ℕ, List, Some}
-use Rattle.ciborium_value.specs.Folded.{tree_folding_bytes}
-use Rattle.ciborium_value.specs.Meaning.{bignum_meaning}
-use Rattle.ciborium_value.specs.Tree.{Tree, tag, array, map, Trees, no_trees, tree, TreePairs}
-use Rattle.ciborium_value.specs.Tree.{no_tree_pairs, tree_pair}
+use Rattle.ciborium_value.specs.{Folded.tree_folding_bytes, Meaning.bignum_meaning, Tree.{Tree, tag, array, map, Trees}}
+use Rattle.ciborium_value.specs.Tree.{no_trees, tree, TreePairs, no_tree_pairs, tree_pair}
 
 mutual
   pub data IsAlike : Tree → Tree → Type 0 where
@@ -21,8 +19,7 @@ mutual
   -- each tree and the one at its place
   pub data AreAlike : Trees → Trees → Type 0 where
     none : AreAlike no_trees no_trees
-    more : {v w : Tree} {vs ws : Trees} → IsAlike v w → AreAlike vs ws →
-        AreAlike (tree v vs) (tree w ws)
+    more : {v w : Tree} {vs ws : Trees} → IsAlike v w → AreAlike vs ws → AreAlike (tree v vs) (tree w ws)
 
   -- each pair and one of the others, in any order
   pub data PairsAreAlike : TreePairs → TreePairs → Type 0 where
@@ -31,5 +28,4 @@ mutual
         PairsAreAlike ps qs → PairsAreAlike (tree_pair k v ps) (tree_pair l w qs)
     exchanged : {k l v w : Tree} {ps : TreePairs} →
         PairsAreAlike (tree_pair k v (tree_pair l w ps)) (tree_pair l w (tree_pair k v ps))
-    one_after_another : {ps qs rs : TreePairs} → PairsAreAlike ps qs → PairsAreAlike qs rs →
-        PairsAreAlike ps rs
+    one_after_another : {ps qs rs : TreePairs} → PairsAreAlike ps qs → PairsAreAlike qs rs → PairsAreAlike ps rs

@@ -1,15 +1,11 @@
 -- The words of the contracts of `Sink` and `Serialize`.
-use Rattle.std.specs.Prelude.{Bool, true, ◌≡◌, ℕ, ℤ, pos, negsuc, ◌^◌, List, [], ◌∷◌, if◌then◌else◌}
-use Rattle.std.specs.Prelude.{nat_lt, Option, Some, None, Result, Ok, Err, false}
-use Rattle.ciborium_ll.specs.Item as item
+use Rattle.std.specs.Prelude.{Bool, true, ◌≡◌, ℕ, ℤ, pos, negsuc, ◌^◌, List, [], ◌∷◌, if◌then◌else◌, nat_lt, Option}
+use Rattle.std.specs.Prelude.{Some, None, Result, Ok, Err, false}
 use Rattle.ciborium_ll.specs.Item.{Item}
-use Rattle.ciborium_value.specs.Encoding.{item_of}
-use Rattle.ciborium_value.specs.Number.{shortest_bytes}
-use Rattle.ciborium_value.specs.Places.{Shape, Place, within, tagged, HasRoom, added}
-use Rattle.ciborium_value.specs.Places.{ended, IsComplete, IsCutBetween, Out, container}
-use Rattle.ciborium_value.specs.View.{tree_of}
-use Rattle.ciborium_value.specs.declared.kind.Kind.{Kind}
-use Rattle.ciborium_value.specs.declared.tree.Value.{Value}
+use Rattle.ciborium_value.specs.{Encoding.item_of, Number.shortest_bytes, Places.{Shape, Place, within, tagged}}
+use Rattle.ciborium_value.specs.{Places.{HasRoom, added, ended, IsComplete, IsCutBetween, Out, container}, View.tree_of}
+use Rattle.ciborium_value.specs.{declared.kind.Kind.Kind, declared.tree.Value.Value}
+use Rattle.ciborium_ll.specs.Item as item
 
 -- ---- what values name
 
@@ -110,8 +106,7 @@ Adds StandsAt old new i = (p : Place) → StandsAt old p → HasRoom p → Stand
 
 -- a container was begun
 abbrev pub Begins : {S : Type 0} → (S → Place → Type 0) → Shape → S → S → Option ℕ → Type 0
-Begins StandsAt s old new n = (p : Place) → StandsAt old p → HasRoom p →
-    StandsAt new (within s n [] p)
+Begins StandsAt s old new n = (p : Place) → StandsAt old p → HasRoom p → StandsAt new (within s n [] p)
 
 -- a tag waits for the next item
 abbrev pub Tags : {S : Type 0} → (S → Place → Type 0) → S → S → ℕ → Type 0
@@ -128,21 +123,17 @@ Ends StandsAt old new n = (p : Place) → StandsAt old p → IsComplete p n → 
 -- refused: where the bytes are known, a proper beginning of what the call adds is out, and nothing
 -- else
 abbrev pub Breaks : {S : Type 0} → (S → Place → Type 0) → (S → Out) → S → S → Item → Type 0
-Breaks StandsAt out old new i = (p : Place) → StandsAt old p → HasRoom p →
-    IsCutBetween (out new) p (added p i)
+Breaks StandsAt out old new i = (p : Place) → StandsAt old p → HasRoom p → IsCutBetween (out new) p (added p i)
 
-abbrev pub BreaksBegin : {S : Type 0} → (S → Place → Type 0) → (S → Out) → Shape → S → S →
-    Option ℕ → Type 0
+abbrev pub BreaksBegin : {S : Type 0} → (S → Place → Type 0) → (S → Out) → Shape → S → S → Option ℕ → Type 0
 BreaksBegin StandsAt out s old new n = (p : Place) → StandsAt old p → HasRoom p →
     IsCutBetween (out new) p (within s n [] p)
 
 abbrev pub BreaksTag : {S : Type 0} → (S → Place → Type 0) → (S → Out) → S → S → ℕ → Type 0
-BreaksTag StandsAt out old new t = (p : Place) → StandsAt old p → HasRoom p →
-    IsCutBetween (out new) p (tagged t p)
+BreaksTag StandsAt out old new t = (p : Place) → StandsAt old p → HasRoom p → IsCutBetween (out new) p (tagged t p)
 
 abbrev pub BreaksEnd : {S : Type 0} → (S → Place → Type 0) → (S → Out) → S → S → Option ℕ → Type 0
-BreaksEnd StandsAt out old new n = (p : Place) → StandsAt old p → IsComplete p n →
-    IsCutBetween (out new) p (ended p)
+BreaksEnd StandsAt out old new n = (p : Place) → StandsAt old p → IsComplete p n → IsCutBetween (out new) p (ended p)
 
 -- what a value names was added
 abbrev pub AddsNamed : {S : Type 0} → (S → Place → Type 0) → S → S → Named → Type 0

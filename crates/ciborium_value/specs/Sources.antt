@@ -1,15 +1,9 @@
 -- The words of the contracts of `Source` and `Deserialize`.
-use Rattle.std.specs.Prelude.{◌≡◌, ℕ, ◌<◌, ◌≤◌, Bool, List, [], ◌∷◌, ◌++◌, IsTrue, Result}
-use Rattle.std.specs.Prelude.{IfErr, IfOk, OnErr, OnOk}
-use Rattle.ciborium_ll.specs.Bytes.{greatest_offset}
-use Rattle.ciborium_ll.specs.Item.{Item}
-use Rattle.ciborium_ll.specs.Spells.{Spells}
-use Rattle.ciborium_value.specs.Ahead.{Ahead, Rest, Span, item, after, parts, pairs, entry}
-use Rattle.ciborium_value.specs.Ahead.{level_due, past, inside, takes_level, end_of}
-use Rattle.ciborium_value.specs.Nesting.{Limit}
-use Rattle.ciborium_value.specs.Places.{Shape, sequence, dictionary}
-use Rattle.ciborium_value.specs.Given.{Outcome, gives, refuses, nests, Given, given_seq}
-use Rattle.ciborium_value.specs.Given.{given_pairs, deeper, outcome}
+use Rattle.std.specs.Prelude.{◌≡◌, ℕ, ◌<◌, ◌≤◌, Bool, List, [], ◌∷◌, ◌++◌, IsTrue, Result, IfErr, IfOk, OnErr, OnOk}
+use Rattle.ciborium_ll.specs.{Bytes.greatest_offset, Item.Item, Spells.Spells}
+use Rattle.ciborium_value.specs.Ahead.{Ahead, Rest, Span, item, after, parts, pairs, entry, level_due, past, inside}
+use Rattle.ciborium_value.specs.{Ahead.{takes_level, end_of}, Nesting.Limit, Places.{Shape, sequence, dictionary}}
+use Rattle.ciborium_value.specs.Given.{Outcome, gives, refuses, nests, Given, given_seq, given_pairs, deeper, outcome}
 use Rattle.ciborium_value.specs.declared.kind.Kind.{Kind}
 
 -- ---- why a source refused
@@ -86,49 +80,38 @@ module _ {S Q : Type 0} (StandsBefore : S → Limit → Ahead → Type 0)
   -- a sequence was entered
   abbrev pub Enters : S → S → Q → Type 0
   Enters old new q = (l : Limit) (i : Item) (f : Rest) → StandsBefore old l (item i f) →
-      (span : Span) × (is : List Item) ×
-      (outcome l (given_seq i) ≡ gives (takes_level span, is)) ×
-      StandsBefore new (inside span l) (after (parts span is f)) ×
-      SeqStands q l (parts span is f)
+      (span : Span) × (is : List Item) × (outcome l (given_seq i) ≡ gives (takes_level span, is)) ×
+      StandsBefore new (inside span l) (after (parts span is f)) × SeqStands q l (parts span is f)
 
   -- a map was entered
   abbrev pub EntersMap : S → S → Q → Type 0
   EntersMap old new q = (l : Limit) (i : Item) (f : Rest) → StandsBefore old l (item i f) →
-      (span : Span) × (ps : List (Item × Item)) ×
-      (outcome l (given_pairs i) ≡ gives (takes_level span, ps)) ×
-      StandsBefore new (inside span l) (after (pairs span ps f)) ×
-      SeqStands q l (pairs span ps f)
+      (span : Span) × (ps : List (Item × Item)) × (outcome l (given_pairs i) ≡ gives (takes_level span, ps)) ×
+      StandsBefore new (inside span l) (after (pairs span ps f)) × SeqStands q l (pairs span ps f)
 
   -- a further item, or a further key, is ahead
   abbrev pub GoesOn : S → S → Q → Q → Type 0
   GoesOn old new q q' = ((l : Limit) (span : Span) (is : List Item) (f : Rest) →
       StandsBefore old (inside span l) (after (parts span is f)) → SeqStands q l (parts span is f) →
-      (i : Item) × (js : List Item) × (is ≡ i ∷ js) ×
-      StandsBefore new (inside span l) (item i (parts span js f)) ×
-      SeqStands q' l (parts span js f))
-      × ((l : Limit) (span : Span) (ps : List (Item × Item)) (f : Rest) →
+      (i : Item) × (js : List Item) × (is ≡ i ∷ js) × StandsBefore new (inside span l) (item i (parts span js f)) ×
+      SeqStands q' l (parts span js f)) × ((l : Limit) (span : Span) (ps : List (Item × Item)) (f : Rest) →
       StandsBefore old (inside span l) (after (pairs span ps f)) →
-      SeqStands q l (pairs span ps f) →
-      (k : Item) × (v : Item) × (qs : List (Item × Item)) × (ps ≡ (k, v) ∷ qs) ×
-      StandsBefore new (inside span l) (item k (entry v span qs f)) ×
-      SeqStands q' l (pairs span qs f))
+      SeqStands q l (pairs span ps f) → (k : Item) × (v : Item) × (qs : List (Item × Item)) × (ps ≡ (k, v) ∷ qs) ×
+      StandsBefore new (inside span l) (item k (entry v span qs f)) × SeqStands q' l (pairs span qs f))
 
   -- nothing is left of the container, and the source stands past it
   abbrev pub Leaves : S → S → Q → Type 0
   Leaves old new q = ((l : Limit) (span : Span) (is : List Item) (f : Rest) →
       StandsBefore old (inside span l) (after (parts span is f)) → SeqStands q l (parts span is f) →
-      (is ≡ []) × StandsBefore new l (past f))
-      × ((l : Limit) (span : Span) (ps : List (Item × Item)) (f : Rest) →
+      (is ≡ []) × StandsBefore new l (past f)) × ((l : Limit) (span : Span) (ps : List (Item × Item)) (f : Rest) →
       StandsBefore old (inside span l) (after (pairs span ps f)) →
-      SeqStands q l (pairs span ps f) →
-      (ps ≡ []) × StandsBefore new l (past f))
+      SeqStands q l (pairs span ps f) → (ps ≡ []) × StandsBefore new l (past f))
 
   -- no part and no end is to blame
   abbrev pub RefusesNext : S → Q → Fault → Type 0
   RefusesNext old q fault = ((l : Limit) (span : Span) (is : List Item) (f : Rest) →
       StandsBefore old (inside span l) (after (parts span is f)) → SeqStands q l (parts span is f) →
-      IsOutsideFault (end_of f) fault)
-      × ((l : Limit) (span : Span) (ps : List (Item × Item)) (f : Rest) →
+      IsOutsideFault (end_of f) fault) × ((l : Limit) (span : Span) (ps : List (Item × Item)) (f : Rest) →
       StandsBefore old (inside span l) (after (pairs span ps f)) →
       SeqStands q l (pairs span ps f) → IsOutsideFault (end_of f) fault)
 
@@ -139,16 +122,13 @@ module _ {S V : Type 0} (StandsBefore : S → Limit → Ahead → Type 0)
   -- the answer and the item that is ahead now are what was taken, with a level that this one gives
   -- back
   abbrev pub Holds : {A : Type 0} → S → S → Given (A × Item) → A → V → Type 0
-  Holds old new taken v level = (l : Limit) (i : Item) (f : Rest) → StandsBefore old l (item i f) →
-      (j : Item) × (outcome l (taken i) ≡ gives (v, j)) ×
-      StandsBefore new (deeper l) (item j (level_due f)) ×
-      LevelStands level l f
+  Holds old new taken v level = (l : Limit) (i : Item) (f : Rest) → StandsBefore old l (item i f) → (j : Item) ×
+      (outcome l (taken i) ≡ gives (v, j)) × StandsBefore new (deeper l) (item j (level_due f)) × LevelStands level l f
 
   -- the level was given back behind that item
   abbrev pub GivesBack : S → S → V → Type 0
   GivesBack old new level = (l : Limit) (f : Rest) →
-      StandsBefore old (deeper l) (after (level_due f)) →
-      LevelStands level l f → StandsBefore new l (past f)
+      StandsBefore old (deeper l) (after (level_due f)) → LevelStands level l f → StandsBefore new l (past f)
 
 -- ---- what was taken where the unread bytes are known, whatever they are
 
@@ -163,8 +143,7 @@ HasPart sequence b z = HasItem b z
 HasPart dictionary b z = (c : List ℕ) × HasItem b c × HasItem c z
 
 -- of the bytes that were unread these are left, and P says how
-abbrev pub TakesTo : {S : Type 0} → (S → List ℕ → Type 0) → S → S → (List ℕ → List ℕ → Type 0) →
-    Type 0
+abbrev pub TakesTo : {S : Type 0} → (S → List ℕ → Type 0) → S → S → (List ℕ → List ℕ → Type 0) → Type 0
 TakesTo IsUnread old new P = (b : List ℕ) → IsUnread old b → (u : List ℕ) × IsUnread new u × P b u
 
 -- an item stood there and was taken

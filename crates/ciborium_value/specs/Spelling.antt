@@ -1,18 +1,11 @@
 -- The spellings that a value is read by, and what each accepts: any (RFC 8949, section 3), and the
 -- deterministic one by each order of keys (sections 4.1 and 4.2).
-use Rattle.std.specs.Prelude.{◌≡◌, ℕ, ◌+◌, ◌/◌, ◌%◌, ◌≤◌, ◌⊎◌, List, [], ◌∷◌, length, Bool}
-use Rattle.std.specs.Prelude.{if◌then◌else◌, ◌==◌, ◌&&◌, nat_lt, nat_le, Option, Some, None}
-use Rattle.ciborium_ll.specs.Bytes.{greatest_offset}
-use Rattle.ciborium_ll.specs.Head.{shortest_head}
-use Rattle.ciborium_ll.specs.Item.{Item}
-use Rattle.ciborium_ll.specs.Refusal.{SemanticKind, NotShortest, Open, argument_length, argument}
-use Rattle.ciborium_ll.specs.Spells.{Spells}
-use Rattle.ciborium_value.specs.Deterministic.{AreRising, HasRisingKeys}
-use Rattle.ciborium_value.specs.Encoding.{encoding}
-use Rattle.ciborium_value.specs.Meaning.{meaning}
-use Rattle.ciborium_value.specs.Nesting.{Limit, IsWithin, nesting}
-use Rattle.ciborium_value.specs.Tree.{Tree}
-use Rattle.ciborium_value.specs.declared.key_order.KeyOrder.{KeyOrder}
+use Rattle.std.specs.Prelude.{◌≡◌, ℕ, ◌+◌, ◌/◌, ◌%◌, ◌≤◌, ◌⊎◌, List, [], ◌∷◌, length, Bool, if◌then◌else◌, ◌==◌, ◌&&◌}
+use Rattle.std.specs.Prelude.{nat_lt, nat_le, Option, Some, None}
+use Rattle.ciborium_ll.specs.{Bytes.greatest_offset, Head.shortest_head, Item.Item, Refusal.{SemanticKind, NotShortest}}
+use Rattle.ciborium_ll.specs.{Refusal.{Open, argument_length, argument}, Spells.Spells}
+use Rattle.ciborium_value.specs.{Deterministic.{AreRising, HasRisingKeys}, Encoding.encoding, Meaning.meaning}
+use Rattle.ciborium_value.specs.{Nesting.{Limit, IsWithin, nesting}, Tree.Tree, declared.key_order.KeyOrder.KeyOrder}
 
 pub data Spelling : Type 0 where
   any : Spelling
@@ -40,11 +33,9 @@ is_long major info b = nat_lt info 28 &&
 -- why a usable head is not accepted: it is of indefinite length (sections 3.2 and 4.2.1), or not
 -- the shortest (section 4.1); undefined is read as null, so f7 is another spelling of f6
 abbrev pub deterministic_fault : ℕ → ℕ → List ℕ → Option SemanticKind
-deterministic_fault major info b =
-    if nat_le 2 major && nat_le major 5 && (info == 31) then Some Open
+deterministic_fault major info b = if nat_le 2 major && nat_le major 5 && (info == 31) then Some Open
     else if nat_lt major 7 && is_long major info b then Some NotShortest
-    else if (major == 7) && (info == 23) then Some NotShortest
-    else None
+    else if (major == 7) && (info == 23) then Some NotShortest else None
 
 -- the same of the head at the front in a spelling, or None where it accepts the head
 abbrev pub spelling_fault : Spelling → List ℕ → Option SemanticKind

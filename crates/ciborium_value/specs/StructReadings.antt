@@ -1,17 +1,13 @@
 -- How a struct is read from a map by the labels of its fields.
-use Rattle.std.specs.Option.{is_some, unwrap_or}
-use Rattle.std.specs.Prelude.{Bool, false, List, [], ◌∷◌, Option, Some, None, Result, Ok}
+use Rattle.std.specs.{Option.{is_some, unwrap_or}, Prelude.{Bool, false, List, [], ◌∷◌, Option, Some, None, Result, Ok}}
 use Rattle.std.specs.Prelude.{Err, ◌&&◌, if◌then◌else◌}
 use Rattle.ciborium_ll.specs.Item.{Item}
-use Rattle.ciborium_value.specs.Labels.{Label, is_label, given_label}
-use Rattle.ciborium_value.specs.Readings.{Reading, option_of, spacious, unordered}
-use Rattle.ciborium_value.specs.Given.{Steps, Given, chosen, decided, give, mapped, refuse}
-use Rattle.ciborium_value.specs.Given.{given_skip, then_read}
-use Rattle.ciborium_value.specs.GivenParts.{after_pairs, given_then}
-use Rattle.ciborium_value.specs.declared.kind.Kind.{Kind}
-use Rattle.ciborium_value.specs.declared.kind.Kind.TheVariants as kinds
-use Rattle.ciborium_value.specs.declared.wanted.FieldPlace.{FieldPlace}
+use Rattle.ciborium_value.specs.{Labels.{Label, is_label, given_label}, Readings.{Reading, option_of, spacious}}
+use Rattle.ciborium_value.specs.{Readings.unordered, Given.{Steps, Given, chosen, decided, give, mapped, refuse}}
+use Rattle.ciborium_value.specs.{Given.{given_skip, then_read}, GivenParts.{after_pairs, given_then}}
+use Rattle.ciborium_value.specs.{declared.kind.Kind.Kind, declared.wanted.FieldPlace.FieldPlace}
 use Rattle.ciborium_value.specs.declared.wanted.FieldPlace.TheVariants.{First, Behind}
+use Rattle.ciborium_value.specs.declared.kind.Kind.TheVariants as kinds
 
 -- ---- fields by their labels
 
@@ -29,11 +25,9 @@ no_other_given name c i = refuse kinds.UnknownField
 
 -- the field of this label, which is read anew each time, or refused where each occurs but once; or
 -- else those behind it
-abbrev pub field_given : {A C : Type 0} → Bool → Label → Given A → FieldsGiven C →
-    FieldsGiven (Option A × C)
+abbrev pub field_given : {A C : Type 0} → Bool → Label → Given A → FieldsGiven C → FieldsGiven (Option A × C)
 field_given once wanted taken behind name c i = chosen (is_label name wanted)
-    (chosen (once && is_some c.0) (refuse kinds.DuplicateKey)
-    (mapped (λ v. (Some v, c.1)) (taken i)))
+    (chosen (once && is_some c.0) (refuse kinds.DuplicateKey) (mapped (λ v. (Some v, c.1)) (taken i)))
     (mapped (λ d. (c.0, d)) (behind name c.1 i))
 
 -- the place of a label: that of this field, or its place among those behind it
@@ -95,13 +89,11 @@ field_filled name r fill behind = record {
 }
 
 -- where it is missing the struct is refused as Other
-abbrev pub field : {T A C D : Type 0} → Label → Reading T A → Fields C D →
-    Fields (Option A × C) (A × D)
+abbrev pub field : {T A C D : Type 0} → Label → Reading T A → Fields C D → Fields (Option A × C) (A × D)
 field name r behind = field_filled name r (λ o. o) behind
 
 -- where it is missing it is this
-abbrev pub field_or : {T A C D : Type 0} → Label → Reading T A → A → Fields C D →
-    Fields (Option A × C) (A × D)
+abbrev pub field_or : {T A C D : Type 0} → Label → Reading T A → A → Fields C D → Fields (Option A × C) (A × D)
 field_or name r default behind = field_filled name r (λ o. Some (unwrap_or o default)) behind
 
 -- where it is missing, or null, it is nothing
@@ -111,8 +103,7 @@ optional_field name r behind = field_or name (option_of r) None behind
 
 -- what is made of a map of these fields
 abbrev pub given_struct : {C D : Type 0} → Fields C D → Given D
-given_struct fields = given_then (given_fields fields.read fields.start)
-    (λ c. decided (fields.complete c))
+given_struct fields = given_then (given_fields fields.read fields.start) (λ c. decided (fields.complete c))
 
 -- a struct of these fields, by the labels in a map
 abbrev pub struct_of : {T C D : Type 0} → (T → D) → Fields C D → Reading T D

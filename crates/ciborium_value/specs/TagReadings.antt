@@ -1,20 +1,16 @@
 -- How a type is read under a tag (RFC 8949, section 3.4), which takes a level, tag or none.
-use Rattle.std.specs.Prelude.{ℕ, Bool, true, false, Option, Some, None, ◌==◌}
-use Rattle.std.specs.Ordering.{nat_cmp, ordering_then}
+use Rattle.std.specs.{Prelude.{ℕ, Bool, true, false, Option, Some, None, ◌==◌}, Ordering.{nat_cmp, ordering_then}}
 use Rattle.std.specs.Option.{option_cmp}
-use Rattle.ciborium_value.specs.Readings.{Reading, checked}
-use Rattle.ciborium_value.specs.Given.{Steps, Given, chosen, give, mapped, refuse, given_outer_tag}
-use Rattle.ciborium_value.specs.Given.{then_inside}
+use Rattle.ciborium_value.specs.{Readings.{Reading, checked}, Given.{Steps, Given, chosen, give, mapped, refuse}}
+use Rattle.ciborium_value.specs.Given.{given_outer_tag, then_inside}
 use Rattle.ciborium_value.specs.declared.kind.Kind.TheVariants as kinds
 
 -- the outermost tag, if there is one, and what is taken from the item under it
 abbrev pub given_with_tag : {A : Type 0} → Given A → Given (Option ℕ × A)
-given_with_tag taken i = then_inside (λ p. true) (given_outer_tag i)
-    (λ p. mapped (λ v. (p.0, v)) (taken p.1))
+given_with_tag taken i = then_inside (λ p. true) (given_outer_tag i) (λ p. mapped (λ v. (p.0, v)) (taken p.1))
 
 -- a value with the tag around it, if there is one
-abbrev pub with_tag : {T V C : Type 0} → (T → Option ℕ) → (T → V) → Reading V C →
-    Reading T (Option ℕ × C)
+abbrev pub with_tag : {T V C : Type 0} → (T → Option ℕ) → (T → V) → Reading V C → Reading T (Option ℕ × C)
 with_tag tag value r = record {
   content = λ t. (tag t, r.content (value t));
   taken = given_with_tag r.taken;

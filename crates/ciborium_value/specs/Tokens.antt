@@ -1,14 +1,10 @@
 -- The tokens of diagnostic notation (RFC 8949, section 8; RFC 8610, appendix G): what stands at the
 -- front of a text, which is a list of bytes of UTF-8, and what follows it.
-use Rattle.std.specs.Prelude.{ℕ, zero, suc, ◌+◌, ◌-◌, ◌*◌, ◌/◌, ◌%◌, ◌^◌, ◌==◌, ◌||◌, ◌&&◌, Bool}
-use Rattle.std.specs.Prelude.{true, false}
-use Rattle.std.specs.Prelude.{List, [], ◌∷◌, ◌++◌, Option, Some, None, option_map, if◌then◌else◌}
-use Rattle.std.specs.Prelude.{ℤ, pos, negsuc, nat_lt, nat_le, codes, encode_utf8}
-use Rattle.std.specs.Char.{digit_value}
-use Rattle.std.specs.Str.{is_utf8}
-use Rattle.ciborium_value.specs.Number.{number_tree}
+use Rattle.std.specs.Prelude.{ℕ, zero, suc, ◌+◌, ◌-◌, ◌*◌, ◌/◌, ◌%◌, ◌^◌, ◌==◌, ◌||◌, ◌&&◌, Bool, true, false, List, []}
+use Rattle.std.specs.Prelude.{◌∷◌, ◌++◌, Option, Some, None, option_map, if◌then◌else◌, ℤ, pos, negsuc, nat_lt, nat_le}
+use Rattle.std.specs.{Prelude.{codes, encode_utf8}, Char.digit_value, Str.is_utf8}
+use Rattle.ciborium_value.specs.{Number.number_tree, Tree.Tree}
 use Rattle.ciborium_value.specs.Tree as trees
-use Rattle.ciborium_value.specs.Tree.{Tree}
 
 pub data Token : Type 0 where
   -- a tree without parts of its own: a number, a string or a word
@@ -50,11 +46,8 @@ abbrev mutual
   -- what follows the blanks at the front, or None where a comment does not end
   pub behind_blanks : List ℕ → Option (List ℕ)
   behind_blanks [] = Some []
-  behind_blanks (b ∷ t) =
-      if is_white b then behind_blanks t
-      else if b == 47 then behind_comment t
-      else if b == 35 then behind_line t
-      else Some (b ∷ t)
+  behind_blanks (b ∷ t) = if is_white b then behind_blanks t
+      else if b == 47 then behind_comment t else if b == 35 then behind_line t else Some (b ∷ t)
 
   -- inside a comment that a slash ends
   pub behind_comment : List ℕ → Option (List ℕ)
@@ -118,8 +111,7 @@ negated (suc n) = negsuc n
 -- a number behind a minus, down to -2^127
 abbrev pub minus_token : Option (ℕ × List ℕ) → Option (Token × List ℕ)
 minus_token None = None
-minus_token (Some p) =
-    if nat_le p.0 (2 ^ 127) then Some (leaf (number_tree (negated p.0)), p.1) else None
+minus_token (Some p) = if nat_le p.0 (2 ^ 127) then Some (leaf (number_tree (negated p.0)), p.1) else None
 
 -- a number below 2^128, or that of a tag, below 2^64, where a parenthesis stands right behind it
 -- (RFC 8949, section 3.4)
@@ -152,13 +144,9 @@ hex_at waiting (b ∷ t) =
 
 -- the six bits of a character of base64, in either alphabet (RFC 4648, sections 4 and 5)
 abbrev pub sextet_of : ℕ → Option ℕ
-sextet_of b =
-    if nat_le 65 b && nat_le b 90 then Some (b - 65)
-    else if nat_le 97 b && nat_le b 122 then Some (b - 71)
-    else if nat_le 48 b && nat_le b 57 then Some (b + 4)
-    else if b == 43 || b == 45 then Some 62
-    else if b == 47 || b == 95 then Some 63
-    else None
+sextet_of b = if nat_le 65 b && nat_le b 90 then Some (b - 65)
+    else if nat_le 97 b && nat_le b 122 then Some (b - 71) else if nat_le 48 b && nat_le b 57 then Some (b + 4)
+    else if b == 43 || b == 45 then Some 62 else if b == 47 || b == 95 then Some 63 else None
 
 -- what follows the end of base64, behind so many characters of a group of four whose last bits are
 -- these and have to be zero: an apostrophe, with the padding before it or without (RFC 4648,
@@ -192,16 +180,9 @@ base64_at count bits (b ∷ t) =
 
 -- what a letter behind a backslash stands for
 abbrev pub letter_escape : ℕ → Option ℕ
-letter_escape b =
-    if b == 34 then Some 34
-    else if b == 92 then Some 92
-    else if b == 47 then Some 47
-    else if b == 98 then Some 8
-    else if b == 102 then Some 12
-    else if b == 110 then Some 10
-    else if b == 114 then Some 13
-    else if b == 116 then Some 9
-    else None
+letter_escape b = if b == 34 then Some 34
+    else if b == 92 then Some 92 else if b == 47 then Some 47 else if b == 98 then Some 8 else if b == 102 then Some 12
+    else if b == 110 then Some 10 else if b == 114 then Some 13 else if b == 116 then Some 9 else None
 
 -- one more hex digit behind those of a number
 abbrev pub one_digit_more : Option ℕ → ℕ → Option ℕ
@@ -235,11 +216,8 @@ abbrev mutual
   -- the bytes of a text up to its quotation mark, and what follows that
   pub text_at : List ℕ → Option (List ℕ × List ℕ)
   text_at [] = None
-  text_at (b ∷ t) =
-      if b == 34 then Some ([], t)
-      else if b == 92 then escape_at t
-      else if nat_lt b 32 then None
-      else prepended (b ∷ []) (text_at t)
+  text_at (b ∷ t) = if b == 34 then Some ([], t)
+      else if b == 92 then escape_at t else if nat_lt b 32 then None else prepended (b ∷ []) (text_at t)
 
   -- the same behind a backslash
   pub escape_at : List ℕ → Option (List ℕ × List ℕ)
@@ -300,15 +278,9 @@ letter_token t = elim (behind (codes "h'") t) [
 
 -- a bracket, a parenthesis, a comma or a colon
 abbrev pub mark_of : ℕ → Option Token
-mark_of b =
-    if b == 91 then Some begin_array
-    else if b == 93 then Some end_array
-    else if b == 123 then Some begin_map
-    else if b == 125 then Some end_map
-    else if b == 41 then Some end_tag
-    else if b == 44 then Some comma
-    else if b == 58 then Some colon
-    else None
+mark_of b = if b == 91 then Some begin_array
+    else if b == 93 then Some end_array else if b == 123 then Some begin_map else if b == 125 then Some end_map
+    else if b == 41 then Some end_tag else if b == 44 then Some comma else if b == 58 then Some colon else None
 
 -- the token at the front, where no blank stands, and what follows it
 abbrev pub token_at : List ℕ → Option (Token × List ℕ)

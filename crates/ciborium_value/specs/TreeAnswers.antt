@@ -1,13 +1,9 @@
 -- What writing a value as a tree, and reading one from a tree, answers.
 use Rattle.std.specs.Prelude.{◌≡◌, Ok, Err}
 use Rattle.ciborium_ll.specs.Item.{Item}
-use Rattle.ciborium_value.specs.Encoding.{item_of, written_tree}
-use Rattle.ciborium_value.specs.Sinks.{Cause, Named, memory, value}
-use Rattle.ciborium_value.specs.Sources.{Fault, of_kind, of_memory}
-use Rattle.ciborium_value.specs.Given.{Outcome, refuses}
-use Rattle.ciborium_value.specs.View.{tree_of}
-use Rattle.ciborium_value.specs.declared.error.Error.{Error}
-use Rattle.ciborium_value.specs.declared.error.Error.TheVariants.{Custom, Memory}
+use Rattle.ciborium_value.specs.{Encoding.{item_of, written_tree}, Sinks.{Cause, Named, memory, value}, Sources.Fault}
+use Rattle.ciborium_value.specs.{Sources.{of_kind, of_memory}, Given.{Outcome, refuses}, View.tree_of}
+use Rattle.ciborium_value.specs.{declared.error.Error.Error, declared.error.Error.TheVariants.{Custom, Memory}}
 use Rattle.ciborium_value.specs.declared.tree.Value.{Value}
 
 abbrev pub tree_cause : Error → Cause

@@ -1,9 +1,7 @@
 -- How an enum is read by the names of its variants.
 use Rattle.std.specs.Prelude.{ℕ, true, List, [], ◌∷◌, bytes_eq}
-use Rattle.ciborium_value.specs.Readings.{Reading, spacious, unordered}
-use Rattle.ciborium_value.specs.Given.{Given, chosen, give, refuse, given_unit}
-use Rattle.ciborium_value.specs.Given.{given_variant, then_inside}
-use Rattle.ciborium_value.specs.GivenParts.{given_then}
+use Rattle.ciborium_value.specs.{Readings.{Reading, spacious, unordered}, Given.{Given, chosen, give, refuse}}
+use Rattle.ciborium_value.specs.{Given.{given_unit, given_variant, then_inside}, GivenParts.given_then}
 use Rattle.ciborium_value.specs.declared.kind.Kind.TheVariants as kinds
 
 -- a variant: its name, and what is taken from its data

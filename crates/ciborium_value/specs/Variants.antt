@@ -1,8 +1,7 @@
 -- Which variant a `Value` is.
-use Rattle.std.specs.Prelude.{◌≡◌, ℕ, ℤ, List, Bool, Vec, String, string_bytes, Box}
-use Rattle.std.specs.declared.alloc.Global.{Global}
-use Rattle.ciborium_value.specs.declared.tree.Value as value
+use Rattle.std.specs.{Prelude.{◌≡◌, ℕ, ℤ, List, Bool, Vec, String, string_bytes, Box}, declared.alloc.Global.Global}
 use Rattle.ciborium_value.specs.declared.tree.Value.{Value}
+use Rattle.ciborium_value.specs.declared.tree.Value as value
 
 abbrev pub IsInteger : Value → Type 0
 IsInteger v = (z : ℤ) × (v ≡ value.Integer z)

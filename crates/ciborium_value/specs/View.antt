@@ -1,9 +1,8 @@
 -- The tree of a `Value`: its content, without the capacities of lists and texts.
 use Rattle.std.specs.Prelude.{List, [], ◌∷◌, map, string_bytes, box_value, Result, Ok, Err}
-use Rattle.ciborium_value.specs.Tree as trees
-use Rattle.ciborium_value.specs.Tree.{Tree, Trees, TreePairs}
-use Rattle.ciborium_value.specs.declared.tree.Value.{Value, fold-Value}
+use Rattle.ciborium_value.specs.{Tree.{Tree, Trees, TreePairs}, declared.tree.Value.{Value, fold-Value}}
 use Rattle.ciborium_value.specs.declared.tree.Value.TheOpen.{Value-F}
+use Rattle.ciborium_value.specs.Tree as trees
 
 -- a list of trees as `Trees`
 abbrev pub trees_from : List Tree → Trees

@@ -1,22 +1,16 @@
 -- Equal contents are written alike.
 use Rattle.std.proofs.Common.{ap, ◌∙◌}
-use Rattle.std.specs.Option.{option_map}
-use Rattle.std.specs.Prelude.{◌≡◌, List, [], ◌∷◌, map, pos, Option, Some, None, Ok, String}
-use Rattle.std.specs.Prelude.{string_bytes, refl}
-use Rattle.std.specs.declared.alloc.Global.{Global}
-use Rattle.ciborium_value.specs.Places.{dictionary, sequence}
-use Rattle.ciborium_value.specs.Labels.{Label}
-use Rattle.ciborium_value.specs.Sinks.{Named, container_of, in_turn, named_text}
-use Rattle.ciborium_value.specs.Sinks.{number_item, or_null}
+use Rattle.std.specs.{Option.option_map, Prelude.{◌≡◌, List, [], ◌∷◌, map, pos, Option, Some, None, Ok, String}}
+use Rattle.std.specs.{Prelude.{string_bytes, refl}, declared.alloc.Global.Global}
+use Rattle.ciborium_value.specs.{Places.{dictionary, sequence}, Labels.Label, Sinks.{Named, container_of, in_turn}}
+use Rattle.ciborium_value.specs.Sinks.{named_text, number_item, or_null}
 
 -- values with one content name the same item, or are refused with the same kind
 abbrev pub IsWrittenByContent : {T C : Type 0} → (T → Named) → (T → C) → Type 0
-IsWrittenByContent {T = T} written content = (v w : T) → content v ≡ content w →
-    written v ≡ written w
+IsWrittenByContent {T = T} written content = (v w : T) → content v ≡ content w → written v ≡ written w
 
 -- what is named is found from the content alone
-pub from_content : {T C : Type 0} (f : C → Named) (content : T → C) →
-    IsWrittenByContent (λ v. f (content v)) content
+pub from_content : {T C : Type 0} (f : C → Named) (content : T → C) → IsWrittenByContent (λ v. f (content v)) content
 from_content f content v w same = ap f same
 
 pub unsigned-alike : IsWrittenByContent (λ n. Ok (number_item (pos n))) (λ n. n)
@@ -25,8 +19,7 @@ unsigned-alike = from_content (λ n. Ok (number_item (pos n))) (λ n. n)
 pub signed-alike : IsWrittenByContent (λ n. Ok (number_item n)) (λ n. n)
 signed-alike = from_content (λ n. Ok (number_item n)) (λ n. n)
 
-pub string-alike : IsWrittenByContent {T = String Global} (λ s. named_text (string_bytes s))
-    string_bytes
+pub string-alike : IsWrittenByContent {T = String Global} (λ s. named_text (string_bytes s)) string_bytes
 string-alike = from_content named_text string_bytes
 
 -- ---- tuples
@@ -40,8 +33,7 @@ module _ {A C : Type 0} {a_written : A → Named} {a_content : A → C}
   module _ {B D : Type 0} {b_written : B → Named} {b_content : B → D}
       (b : IsWrittenByContent b_written b_content) where
     pub tuple2-alike : IsWrittenByContent {T = A × B} {C = C × D}
-        (λ t. container_of sequence (a_written t.0 ∷ b_written t.1 ∷ []))
-        (λ t. (a_content t.0, b_content t.1))
+        (λ t. container_of sequence (a_written t.0 ∷ b_written t.1 ∷ [])) (λ t. (a_content t.0, b_content t.1))
     tuple2-alike v w same =
         let first = a v.0 w.0 (ap (λ p. p.0) same) in
         let second = b v.1 w.1 (ap (λ p. p.1) same) in

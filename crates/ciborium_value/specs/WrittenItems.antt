@@ -1,17 +1,11 @@
 -- The items that typed writing writes, and what holds of their bytes (RFC 8949, sections 3.1 to 3.3
 -- and 4.1).
 use Rattle.std.specs.Prelude.{◌≡◌, ℕ, ◌≤◌, ◌<◌, Bool, true, false}
-use Rattle.ciborium_ll.specs.Bytes.{greatest_offset}
-use Rattle.ciborium_ll.specs.Item.{Item, unsigned, negative, bytes, text, array, map, tag, simple}
-use Rattle.ciborium_ll.specs.Item.{float, Items, no_items, item, Pairs, no_pairs, pair, items_count}
-use Rattle.ciborium_ll.specs.Item.{pairs_count}
-use Rattle.ciborium_ll.specs.ProperItems.{IsArgument, IsProperBytes, IsProperText}
-use Rattle.ciborium_ll.specs.Spells.{Spells}
-use Rattle.ciborium_value.specs.Encoding.{item_of, written_bytes, written_tree}
-use Rattle.ciborium_value.specs.Folded.{folded}
-use Rattle.ciborium_value.specs.Meaning.{meaning}
-use Rattle.ciborium_value.specs.ProperTrees.{IsProperTree}
-use Rattle.ciborium_value.specs.Tree.{Tree}
+use Rattle.ciborium_ll.specs.{Bytes.greatest_offset, Item.{Item, unsigned, negative, bytes, text, array, map, tag}}
+use Rattle.ciborium_ll.specs.Item.{simple, float, Items, no_items, item, Pairs, no_pairs, pair, items_count}
+use Rattle.ciborium_ll.specs.{Item.pairs_count, ProperItems.{IsArgument, IsProperBytes, IsProperText}, Spells.Spells}
+use Rattle.ciborium_value.specs.{Encoding.{item_of, written_bytes, written_tree}, Folded.folded, Meaning.meaning}
+use Rattle.ciborium_value.specs.{ProperTrees.IsProperTree, Tree.Tree}
 
 -- a count that a head announces; an open container announces none
 abbrev pub IsAnnounced : Bool → ℕ → Type 0

@@ -4,6 +4,9 @@ pub mod KeyOrders
 pub mod DerivedOrder
 pub mod ItemsOfTrees
 pub mod GivenOutcomes
+pub mod Reordered
+pub mod MetItems
+pub mod PutEntries
 pub mod ReadsBackBignums
 pub mod ReadsBackNumbers
 pub mod ReadsBackOptions
@@ -12,13 +15,6 @@ pub mod ReadsBackStructs
 pub mod ReadsBackVariants
 pub mod ReadsBackMaps
 pub mod ReadsBackValues
-pub mod FormsReadBackNumbers
-pub mod FormsReadBackParts
-pub mod FormsReadBackMaps
-pub mod FormsReadBackOptions
-pub mod FormedPairs
-pub mod FormsReadBackStructs
-pub mod FormsReadBackVariants
 pub mod Descriptions
 pub mod ItemDescriptions
 pub mod VariantDescriptions

@@ -7,8 +7,6 @@ ghost use Rattle.std.specs.Cmp.{bool_cmp_total};
 ghost use Rattle.std.specs.String.{string_cmp_total};
 ghost use Rattle.std.specs.Prelude.{Ok, encode_utf8, false, refl, string_bytes, true};
 ghost use Rattle.ciborium_ll.specs.Item.{bytes};
-ghost use Rattle.ciborium_value.specs.FormsReadBack.{boolean-form, bytes-form, character-form};
-ghost use Rattle.ciborium_value.specs.FormsReadBack.{string-form, unit-form};
 ghost use Rattle.ciborium_value.specs.NeverWritten.{never-boolean, never-bytes, never-null};
 ghost use Rattle.ciborium_value.specs.NeverWritten.{never-text};
 ghost use Rattle.ciborium_value.specs.ReadsBack.{boolean-back, bytes-back, character-back};
@@ -20,10 +18,6 @@ ghost use Rattle.ciborium_value.specs.lemmas.Descriptions.{signed_description};
 ghost use Rattle.ciborium_value.specs.lemmas.Descriptions.{tuple1_description, tuple2_description};
 ghost use Rattle.ciborium_value.specs.lemmas.Descriptions.{tuple3_description, tuple4_description};
 ghost use Rattle.ciborium_value.specs.lemmas.Descriptions.{unsigned_description};
-ghost use Rattle.ciborium_value.specs.lemmas.FormsReadBackNumbers.{i128_form, i16_form, i32_form};
-ghost use Rattle.ciborium_value.specs.lemmas.FormsReadBackNumbers.{i64_form, i8_form, isize_form};
-ghost use Rattle.ciborium_value.specs.lemmas.FormsReadBackNumbers.{u128_form, u16_form, u32_form};
-ghost use Rattle.ciborium_value.specs.lemmas.FormsReadBackNumbers.{u64_form, u8_form, usize_form};
 ghost use Rattle.ciborium_value.specs.lemmas.ReadsBackNumbers.{i128_back, i16_back, i32_back};
 ghost use Rattle.ciborium_value.specs.lemmas.ReadsBackNumbers.{i64_back, i8_back, isize_back};
 ghost use Rattle.ciborium_value.specs.lemmas.ReadsBackNumbers.{u128_back, u16_back, u32_back};
@@ -62,33 +56,33 @@ pub trait AsDescribed: Described + Serialize + Deserialize {
 
 impl Described for () {
     ghost description = { scalar ⟦<() as Deserialize>⟧.reading ⟦<() as Serialize>⟧.written
-        (λ u. Unit {0}) never_byte_string unit-back unit-form
+        (λ u. Unit {0}) never_byte_string unit-back
         (from_content (λ u. ⟦<() as Serialize>⟧.written u) _)
         (as-never_byte_string (λ u. never-null)) };
 }
 
 impl Described for bool {
     ghost description = { scalar ⟦<bool as Deserialize>⟧.reading ⟦<bool as Serialize>⟧.written
-        (λ b. Unit {0}) (λ a. true) boolean-back boolean-form
+        (λ b. Unit {0}) (λ a. true) boolean-back
         (from_content ⟦<bool as Serialize>⟧.written _) (λ a h b. never-boolean a b) };
 }
 
 impl Described for char {
     ghost description = { scalar ⟦<char as Deserialize>⟧.reading ⟦<char as Serialize>⟧.written
-        IsScalar (λ a. true) character-back character-form
+        IsScalar (λ a. true) character-back
         (from_content ⟦<char as Serialize>⟧.written _) (λ a h c. never-text a (encode_utf8 c)) };
 }
 
 impl Described for String {
     ghost description = { scalar ⟦<String as Deserialize>⟧.reading ⟦<String as Serialize>⟧.written
-        (λ s. Unit {0}) (λ a. true) string_back string-form string-alike
+        (λ s. Unit {0}) (λ a. true) string_back string-alike
         (λ a h s. never-text a (string_bytes s)) };
 }
 
 impl Described for ByteBuf {
     ghost description = { scalar ⟦<ByteBuf as Deserialize>⟧.reading
         ⟦<ByteBuf as Serialize>⟧.written (λ b. Unit {0}) never_null (bytes-back (λ b. b.0.items))
-        (bytes-form (λ b. b.0.items)) (from_content (λ b. Ok (bytes false b)) _)
+        (from_content (λ b. Ok (bytes false b)) _)
         (as-never_null (λ b. never-bytes b.0.items)) };
 }
 
@@ -153,97 +147,97 @@ impl<A: Described, B: Described, C: Described, D: Described> Described for (A, B
 }
 
 impl Described for u8 {
-    ghost description = { unsigned_description 8 u8_back u8_form };
+    ghost description = { unsigned_description 8 u8_back };
 }
 
 impl DescribedKey for u8 {
-    ghost key_description = { unsigned_key 8 u8_back u8_form };
+    ghost key_description = { unsigned_key 8 u8_back };
 }
 
 impl Described for u16 {
-    ghost description = { unsigned_description 16 u16_back u16_form };
+    ghost description = { unsigned_description 16 u16_back };
 }
 
 impl DescribedKey for u16 {
-    ghost key_description = { unsigned_key 16 u16_back u16_form };
+    ghost key_description = { unsigned_key 16 u16_back };
 }
 
 impl Described for u32 {
-    ghost description = { unsigned_description 32 u32_back u32_form };
+    ghost description = { unsigned_description 32 u32_back };
 }
 
 impl DescribedKey for u32 {
-    ghost key_description = { unsigned_key 32 u32_back u32_form };
+    ghost key_description = { unsigned_key 32 u32_back };
 }
 
 impl Described for u64 {
-    ghost description = { unsigned_description 64 u64_back u64_form };
+    ghost description = { unsigned_description 64 u64_back };
 }
 
 impl DescribedKey for u64 {
-    ghost key_description = { unsigned_key 64 u64_back u64_form };
+    ghost key_description = { unsigned_key 64 u64_back };
 }
 
 impl Described for u128 {
-    ghost description = { unsigned_description 128 u128_back u128_form };
+    ghost description = { unsigned_description 128 u128_back };
 }
 
 impl DescribedKey for u128 {
-    ghost key_description = { unsigned_key 128 u128_back u128_form };
+    ghost key_description = { unsigned_key 128 u128_back };
 }
 
 impl Described for usize {
-    ghost description = { unsigned_description 64 usize_back usize_form };
+    ghost description = { unsigned_description 64 usize_back };
 }
 
 impl DescribedKey for usize {
-    ghost key_description = { unsigned_key 64 usize_back usize_form };
+    ghost key_description = { unsigned_key 64 usize_back };
 }
 
 impl Described for i8 {
-    ghost description = { signed_description 7 i8_back i8_form };
+    ghost description = { signed_description 7 i8_back };
 }
 
 impl DescribedKey for i8 {
-    ghost key_description = { signed_key 7 i8_back i8_form };
+    ghost key_description = { signed_key 7 i8_back };
 }
 
 impl Described for i16 {
-    ghost description = { signed_description 15 i16_back i16_form };
+    ghost description = { signed_description 15 i16_back };
 }
 
 impl DescribedKey for i16 {
-    ghost key_description = { signed_key 15 i16_back i16_form };
+    ghost key_description = { signed_key 15 i16_back };
 }
 
 impl Described for i32 {
-    ghost description = { signed_description 31 i32_back i32_form };
+    ghost description = { signed_description 31 i32_back };
 }
 
 impl DescribedKey for i32 {
-    ghost key_description = { signed_key 31 i32_back i32_form };
+    ghost key_description = { signed_key 31 i32_back };
 }
 
 impl Described for i64 {
-    ghost description = { signed_description 63 i64_back i64_form };
+    ghost description = { signed_description 63 i64_back };
 }
 
 impl DescribedKey for i64 {
-    ghost key_description = { signed_key 63 i64_back i64_form };
+    ghost key_description = { signed_key 63 i64_back };
 }
 
 impl Described for i128 {
-    ghost description = { signed_description 127 i128_back i128_form };
+    ghost description = { signed_description 127 i128_back };
 }
 
 impl DescribedKey for i128 {
-    ghost key_description = { signed_key 127 i128_back i128_form };
+    ghost key_description = { signed_key 127 i128_back };
 }
 
 impl Described for isize {
-    ghost description = { signed_description 63 isize_back isize_form };
+    ghost description = { signed_description 63 isize_back };
 }
 
 impl DescribedKey for isize {
-    ghost key_description = { signed_key 63 isize_back isize_form };
+    ghost key_description = { signed_key 63 isize_back };
 }

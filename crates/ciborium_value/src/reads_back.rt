@@ -1,9 +1,8 @@
 //! What is written is read back, and equal contents are written alike.
 
 ghost use Rattle.std.specs.Prelude.{◌≡◌, ℕ};
-ghost use Rattle.ciborium_value.specs.FormsReadBack.{IsFormRead};
 ghost use Rattle.ciborium_value.specs.NeverWritten.{Avoided, IsNever, byte_strings, nulls};
-ghost use Rattle.ciborium_value.specs.ReadsBack.{IsNameRead};
+ghost use Rattle.ciborium_value.specs.ReadsBack.{IsNameRead, IsPlain, Way, by_form};
 ghost use Rattle.ciborium_value.specs.declared.key_order.KeyOrder.{KeyOrder};
 
 use crate::deserialize::Deserialize;
@@ -11,7 +10,6 @@ use crate::serialize::Serialize;
 
 mod contents;
 mod described;
-mod form_numbers;
 mod forms;
 mod maps;
 mod never_written;
@@ -42,8 +40,8 @@ pub trait ReadsBack: Serialize + Deserialize {
 
     // What it names is read as what counts of it, from bytes and from a tree, where so many levels
     // are left.
-    ghost reads_back: { (v : Self) → is_valid v →
-        IsNameRead (Self.written v) Self.reading.taken (Self.reading.content v) (levels v) };
+    ghost reads_back: { (way : Way) → IsPlain way → (v : Self) → is_valid v →
+        IsNameRead way (Self.written v) Self.reading.taken (Self.reading.content v) (levels v) };
 }
 
 /// A type whose values are read back from what is written of them in deterministic form.
@@ -53,9 +51,11 @@ pub trait ReadsBack: Serialize + Deserialize {
 /// names, in either order of keys, gives all that counts of the value. `Value` and its kin are no
 /// such types, since the order of pairs counts for them.
 pub trait FormReadsBack: ReadsBack {
-    // The form of what a value names is read as what counts of the value.
+    // The form of what a value names is read as what counts of the value, where so many levels are
+    // left.
     ghost form_reads_back: { (o : KeyOrder) → (v : Self) → Self.is_valid v →
-        IsFormRead o (Self.written v) Self.reading.taken (Self.reading.content v) };
+        IsNameRead (by_form o) (Self.written v) Self.reading.taken (Self.reading.content v)
+        (Self.levels v) };
 }
 
 /// What a type is never written as: `Null` or `ByteString`.

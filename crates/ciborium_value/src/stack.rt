@@ -1,12 +1,12 @@
 //! The containers and tags that are unfinished while a value is put together.
 
-ghost use Rattle.std.specs.Prelude.{◌≡◌, ◌∷◌, ◌++◌, [], IfOk, List, MatchOption, None, OnErr, OnOk};
+ghost use Rattle.std.specs.Prelude.{◌≡◌, ◌∷◌, ◌++◌, [], IfOk, MatchOption, None, OnErr, OnOk};
 ghost use Rattle.std.specs.Prelude.{Some, drop, length, map, option_map, true};
-ghost use Rattle.ciborium_value.specs.inner.Frames.{array, closed, fill, map as open_map, placed};
+ghost use Rattle.ciborium_value.specs.inner.Frames.{array, closed, fill, placed};
 ghost use Rattle.ciborium_value.specs.inner.Frames.{tree_ended, waiting_keys};
 ghost use Rattle.ciborium_value.specs.inner.Stack.{begun_frame, filled_of, frame_of, frames_of};
 ghost use Rattle.ciborium_value.specs.inner.Stack.{map_frame};
-ghost use Rattle.ciborium_value.specs.inner.Stack.{tree_frames, placed_of};
+ghost use Rattle.ciborium_value.specs.inner.Stack.{placed_of};
 ghost use Rattle.ciborium_value.specs.View.{pair_trees, tree_of};
 
 use crate::tree::Value;
@@ -149,25 +149,6 @@ fn fill(alloc: Global, frame: &mut Frame, value: Value) -> Result<Option<Value>,
     }
 }
 
-// Puts a value into the innermost frame, and each value that this completes into the next one.
-#[inline(always)]
-fn place(alloc: Global, frames: &mut Vec<Frame>, value: Value) -> Result<Option<Value>, AllocError>
-    ensures { IfOk result (λ r. placed_of r (tree_frames frames.new.items) ≡
-        placed (tree_frames frames.old.items) (tree_of value)) }
-{
-    let mut value = value;
-    while let Some(frame) = frames.last_mut() {
-        match fill(alloc, frame, value)? {
-            None => return Ok(None),
-            Some(whole) => {
-                frames.pop();
-                value = whole;
-            }
-        }
-    }
-    Ok(Some(value))
-}
-
 fn end(frame: Frame) -> Option<Value>
     ensures { option_map (λ v. tree_of v) result ≡ tree_ended (frame_of frame) }
 {
@@ -245,7 +226,17 @@ impl Stack {
         ensures { IfOk result (λ r. placed_of r (frames_of self.new) ≡
             placed (frames_of self.old) (tree_of value)) }
     {
-        place(self.alloc, &mut self.frames, value)
+        let mut value = value;
+        while let Some(frame) = self.frames.last_mut() {
+            match fill(self.alloc, frame, value)? {
+                None => return Ok(None),
+                Some(whole) => {
+                    self.frames.pop();
+                    value = whole;
+                }
+            }
+        }
+        Ok(Some(value))
     }
 
     /// The key that waits for its value in the innermost container, and the key before it: none

@@ -5,7 +5,6 @@ ghost use Rattle.ciborium_value.specs.Places.{dictionary};
 ghost use Rattle.ciborium_value.specs.Readings.{unique_map_of};
 ghost use Rattle.ciborium_value.specs.Sinks.{container_of, in_turn};
 ghost use Rattle.ciborium_value.specs.WrittenContents.{map-alike};
-ghost use Rattle.ciborium_value.specs.lemmas.FormsReadBackMaps.{map-form};
 ghost use Rattle.ciborium_value.specs.lemmas.ReadsBackMaps.{IsMapValid, entry_levels, map-back};
 ghost use Rattle.ciborium_value.specs.lemmas.ReadsBackParts.{greatest};
 
@@ -49,12 +48,13 @@ impl<K: Key + ReadsBack, V: ReadsBack> ReadsBack for UniqueKeys<K, V> {
 
     ghost levels = { λ m. suc (greatest (entry_levels K.levels V.levels) m.0.entries) };
 
-    ghost reads_back = { λ m valid. map-back K.reads_back V.reads_back true K.cmp K.reading.order
-        K.total K.orders m.0 valid };
+    ghost reads_back = { λ way plain m valid. map-back
+        (K.reads_back way plain) (V.reads_back way plain)
+        true K.cmp K.reading.order K.total K.orders m.0 valid };
 }
 
 impl<K: Key + FormReadsBack, V: FormReadsBack> FormReadsBack for UniqueKeys<K, V> {
-    ghost form_reads_back = { λ o m valid. map-form o (K.form_reads_back o) (V.form_reads_back o)
+    ghost form_reads_back = { λ o m valid. map-back (K.form_reads_back o) (V.form_reads_back o)
         true K.cmp K.reading.order K.total K.orders m.0 valid };
 }
 

@@ -1,41 +1,33 @@
 -- Bytes that are read as the numbers of a sequence.
-use Rattle.std.proofs.Common.{◌≡◌, ◌≢◌, ℕ, ◌-◌, ◌<◌, ◌≤◌, Bool, false, List, [], ◌∷◌, ◌++◌, Option, Some, None, Result}
-use Rattle.std.proofs.Common.{Ok, Err, OnErr, OnOk, refl, sym, ap, ◌∙◌, subst, append_assoc, append-nil}
-use Rattle.ciborium_ll.specs.declared.header.Header.{Header}
-use Rattle.ciborium_ll.specs.declared.header.Header.TheVariants as header
-use Rattle.ciborium_ll.specs.Item.{Item}
-use Rattle.ciborium_ll.specs.StringRefusal.{of_bytes as string_of_bytes}
+use Rattle.std.proofs.Common.{◌≡◌, ◌≢◌, ℕ, ◌<◌, ◌≤◌, Bool, false, List, [], ◌∷◌, ◌++◌, Option, Some, None, Result}
+use Rattle.std.proofs.Common.{arith, Ok, Err, refl, sym, ap, ◌∙◌, subst, append_assoc, append-nil}
+use Rattle.ciborium_ll.specs.{declared.header.Header.Header, Item.Item, Header.SpellsHeader, Spells.Spells}
+use Rattle.ciborium_ll.specs.StringRefusal.{StringKind}
 use Rattle.ciborium_ll.proofs.UniqueSpelling.{one_at_front}
-use Rattle.ciborium_ll.specs.declared.decoder.Decoder.{Decoder}
-use Rattle.ciborium_ll.specs.Decoding.{HasSameReader}
-use Rattle.ciborium.proofs.Items.Weights.{entered-fewer}
-use Rattle.ciborium_value.specs.Ahead.{Rest, Span, after, parts, past, inside, end_of}
-use Rattle.ciborium_value.specs.Nesting.{Limit}
-use Rattle.ciborium_value.specs.Places.{sequence}
-use Rattle.ciborium_value.specs.Sources.{Fault, IsFaultOf, TakesAhead, RefusesAhead, TakesItem, TakesTo, GoesOn, Leaves}
-use Rattle.ciborium_value.specs.Sources.{RefusesNext, OwesLess, OwesNothing, HasItem, TakesOneItem, TakesOnly}
-use Rattle.ciborium_value.specs.lemmas.GivenOutcomes.{and_take}
-use Rattle.ciborium_value.specs.Given.{Outcome, Steps, Given, deeper, gives, outcome, refuses, take_each}
-use Rattle.ciborium_value.specs.Given.{then_take}
-use Rattle.ciborium_value.specs.Given.{number_below, given_integer, given_byte, given_bytes, bare_bytes, untagged}
-use Rattle.ciborium_value.specs.declared.kind.Kind.TheVariants as kinds
+use Rattle.ciborium.proofs.{Items.Weights.{entered-fewer, taken-fewer}, Items.BareHeads.{head-denied, nested-denied}}
+use Rattle.ciborium.proofs.Items.BareHeads.{other-denied, string-denied, string-read}
+use Rattle.ciborium.proofs.Containers.EnteredContainers.{HasItems, IsEntered, array-entered, entered-kept, items-stand}
+use Rattle.ciborium.proofs.{Containers.EnteredContainers.within-is, Items.ItemHeads.{header_of, by-shape, no-bare-tag}}
+use Rattle.ciborium.proofs.{Containers.NextParts.{fits-past, none-past}, Items.SkippedTags.reads-whole}
+use Rattle.ciborium.proofs.{Items.SkippedTags.untagged-under, Items.TakenOnly.{IsKept, kept-reader, rest-end}}
+use Rattle.ciborium_value.specs.{Ahead.{Rest, Span, after, parts, past, inside, end_of}, Nesting.Limit, Places.sequence}
+use Rattle.ciborium_value.specs.Sources.{Fault, of_kind, IsFaultOf, TakesAhead, RefusesAhead, TakesItem, TakesTo}
+use Rattle.ciborium_value.specs.Sources.{GoesOn, Leaves, RefusesNext, OwesLess, OwesNothing, HasItem, TakesOneItem}
+use Rattle.ciborium_value.specs.{Sources.TakesOnly, lemmas.GivenOutcomes.and_take, Given.{Outcome, Steps, Given}}
+use Rattle.ciborium_value.specs.Given.{deeper, gives, outcome, refuses, take_each, nests, then_take, number_below}
+use Rattle.ciborium_value.specs.Given.{given_integer, given_byte, given_bytes, bare_bytes, untagged}
+use Rattle.ciborium_value.specs.declared.kind.Kind.{Kind}
 use Rattle.ciborium_value.proofs.Sources.Sequences.{fault_map, fault_outside, fault_then}
-use Rattle.ciborium.specs.declared.de.byte_source.ByteSource.{ByteSource}
-use Rattle.ciborium.specs.declared.de.byte_source.ByteSeq.{ByteSeq}
-use Rattle.ciborium.specs.declared.de.error.Error.{Error}
+use Rattle.ciborium.specs.{declared.de.byte_source.ByteSource.ByteSource, declared.de.byte_source.ByteSeq.ByteSeq}
+use Rattle.ciborium.specs.{declared.de.error.Error.Error, declared.de.error.Error.TheVariants.RecursionLimitExceeded}
 use Rattle.ciborium.specs.inner.ByteSources.{fault_at, AnswersItem, PassesItem, IsUnread, StandsBefore, SeqStands}
 use Rattle.ciborium.specs.inner.ByteSources.{SeqOwes, EntersItemsUnread, ReadsRest, RefusesRest, HasTaken}
-use Rattle.ciborium.specs.inner.ByteSources.{HasTakenSince, ReadsBareHead, end_at, parts_left, reader_of, weight_left}
-use Rattle.ciborium.specs.inner.FrontItems.{Reads, Denies}
-use Rattle.ciborium.specs.inner.Skips.{under, AreSkipped, IsBare, TakesBare}
-use Rattle.ciborium.specs.inner.StringContents.{string_item, TakesContent}
-use Rattle.ciborium.specs.inner.Unread.{IsRest, FitsAhead}
-use Rattle.ciborium.proofs.Containers.EnteredContainers.{HasItems, array-entered, items-stand, within-is}
-use Rattle.ciborium.proofs.Items.ItemHeads.{header_of, by-shape, no-bare-tag}
-use Rattle.ciborium.proofs.Containers.NextParts.{fits-past, none-past}
-use Rattle.ciborium.proofs.Items.SkippedTags.{reads-bare, untagged-under}
-use Rattle.ciborium.proofs.Payloads.StringPayloads.{string-behind}
-use Rattle.ciborium.proofs.Items.TakenOnly.{IsKept, kept-reader, rest-end}
+use Rattle.ciborium.specs.inner.ByteSources.{HasTakenSince, ReadsBareHead, bytes_weight, end_at, reader_of, weight_left}
+use Rattle.ciborium.specs.{inner.FrontItems.{Reads, Denies, DeniesItem}, inner.Skips.{under, AreSkipped, IsBare}}
+use Rattle.ciborium.specs.{inner.Skips.TakesBare, inner.StringContents.{DeniesContent, TakesContent, head_of}}
+use Rattle.ciborium.specs.{inner.StringContents.string_item, inner.Unread.{IsRest, FitsAhead}}
+use Rattle.ciborium_ll.specs.declared.header.Header.TheVariants as header
+use Rattle.ciborium_value.specs.declared.kind.Kind.TheVariants as kinds
 
 -- ---- from the front of unread bytes to where a source stands
 
@@ -112,9 +104,8 @@ pub record IsPartlyRead {S W A : Type 0} (remaining : S → Option (List ℕ)) (
   pub holds : SeqStands q l (parts span rest r)
   pub read : outcome (inside span l) (take_each taken done) ≡ gives vs
 
-abbrev pub ReadsPartly : {S W A : Type 0} → (S → Option (List ℕ)) → Given A → ByteSource S W → ByteSeq →
-    ByteSource S W →
-    ByteSeq → List A → Type 0
+abbrev pub ReadsPartly : {S W A : Type 0} →
+    (S → Option (List ℕ)) → Given A → ByteSource S W → ByteSeq → ByteSource S W → ByteSeq → List A → Type 0
 ReadsPartly remaining taken old q new q' vs = (l : Limit) (span : Span) (is : List Item) (r : Rest) →
     StandsBefore remaining old (inside span l) (after (parts span is r)) → SeqStands q l (parts span is r) →
     IsPartlyRead remaining taken new q' vs l span is r
@@ -174,8 +165,7 @@ module _ {S W A : Type 0} (remaining : S → Option (List ℕ)) (taken : Given A
 
   pub partly-fault : (mid ahead : ByteSource S W) (q q' : ByteSeq) (vs : List A) (fault : Fault) →
       ReadsPartly remaining taken old start mid q vs → GoesOn (StandsBefore remaining) SeqStands mid ahead q q' →
-      RefusesAhead (StandsBefore remaining) ahead taken fault →
-      RefusesRest remaining old start (take_each taken) fault
+      RefusesAhead (StandsBefore remaining) ahead taken fault → RefusesRest remaining old start (take_each taken) fault
   partly-fault mid ahead q q' vs fault w g h l span is r st hold =
       let n = w l span is r st hold in
       let e = g.0 l span n.rest r n.stands n.holds in
@@ -245,31 +235,24 @@ pub record HasBegunArray {S W : Type 0} (remaining : S → Option (List ℕ)) (o
     pub opens : EntersItemsUnread remaining old mid given_bytes (λ span is. take_each given_byte is) q
 
 pub array-begun : {S W : Type 0} (can_fail : Bool) (remaining : S → Option (List ℕ)) (old mid new : ByteSource S W)
-    (count : Option ℕ)
-    (q : ByteSeq) (h : Header) (offset : ℕ) → h ≡ header.Array count →
-    TakesBare (IsUnread remaining) old mid false h →
-    ReadsBareHead can_fail remaining old mid false (Ok (h, offset)) →
-    ((new.decoder ≡ mid.decoder) × (new.pending ≡ mid.pending) × (mid.levels ≢ 0) ×
-    (new.levels ≡ mid.levels - 1) × (q.left ≡ parts_left count)) → q.levels ≡ mid.levels →
-    HasBegunArray remaining old new q
-array-begun {S = S} {W = W} can_fail remaining old mid new count q h offset is head reads entered back = record {
-  kept = (
-    ap (λ (d : Decoder S W). d.reader.ghost_name) entered.0 ∙ reads.same_reader,
-    λ first t. subst (HasTaken remaining first) (sym entered.0) (reads.only first t),
-  );
-  levels = back ∙ reads.levels;
-  none = entered.1 ∙ reads.pending;
-  fewer = entered-fewer old mid new h entered.0 (entered.1 ∙ reads.pending) reads.fewer;
-  opens = array-entered remaining old mid new count q reads.levels entered given_bytes
-      (λ span is. take_each given_byte is) (subst (TakesBare (IsUnread remaining) old mid false) is head)
-      (bytes-given old.levels (λ z. entered.2 (reads.levels ∙ z)));
-}
+    (count : Option ℕ) (q : ByteSeq) (h : Header) (offset : ℕ) → h ≡ header.Array count →
+    TakesBare (IsUnread remaining) old mid false h → ReadsBareHead can_fail remaining old mid false (Ok (h, offset)) →
+    IsEntered mid new count q → q.levels ≡ mid.levels → HasBegunArray remaining old new q
+array-begun can_fail remaining old mid new count q h offset is head reads entered back =
+    let (same, behind, less) = entered-kept new count q entered reads in record {
+      kept = same;
+      levels = back ∙ reads.levels;
+      none = behind;
+      fewer = omega (arith, less);
+      opens = array-entered remaining old mid new count q reads.levels entered given_bytes
+          (λ span is. take_each given_byte is) (subst (TakesBare (IsUnread remaining) old mid false) is head)
+          (bytes-given old.levels (λ z. entered.2 (reads.levels ∙ z)));
+    }
 
 module _ {S W : Type 0} (remaining : S → Option (List ℕ)) (old mid : ByteSource S W) (q : ByteSeq)
     (begun : HasBegunArray remaining old mid q) where
   pub array-takes : (new : ByteSource S W) (v : List ℕ) →
-      ReadsRest remaining mid new q (take_each given_byte) v →
-      TakesAhead (StandsBefore remaining) old new given_bytes v
+      ReadsRest remaining mid new q (take_each given_byte) v → TakesAhead (StandsBefore remaining) old new given_bytes v
   array-takes new v reads l i f st =
       let (span, is, give, stands, holds) = items-stand remaining old mid q begun.kept begun.levels begun.none
       begun.fewer given_bytes (λ span its. take_each given_byte its) begun.opens l i f st in
@@ -298,30 +281,54 @@ bytes-other l h bare p q ts i all e = ap (λ j. outcome l (bare_bytes j)) (untag
     (λ o b k. absurd (q _ k)) (λ o b k. refl) (λ o is k. absurd (p _ k)) (λ o ps k. refl) (λ n k. refl)
     (λ raw k. refl) (λ t j k. no-bare-tag h t bare k) i e
 
--- ---- the byte string
+-- ---- what is refused by the head behind any tags
 
-pub bytes-read : {S W : Type 0} (remaining : S → Option (List ℕ)) (old mid new : ByteSource S W) (len : Option ℕ)
-    (payload : List ℕ) → TakesBare (IsUnread remaining) old mid false (header.Bytes len) →
-    TakesContent (IsUnread remaining mid) (IsUnread remaining new) string_of_bytes len payload →
-    Reads (IsUnread remaining) old new (Some old.levels) given_bytes payload
-bytes-read remaining old mid new len payload bare content =
-    reads-bare (IsUnread remaining) false (header.Bytes len) (Some old.levels) given_bytes old mid new payload bare
-    (string-behind (IsUnread remaining) mid new string_of_bytes len (Some old.levels) given_bytes payload payload
-    content (λ ts all. ap (λ j. outcome (Some old.levels) (bare_bytes j))
-    (untagged-under ts (string_item string_of_bytes len payload))))
+module _ {S W A : Type 0} {can_fail : Bool} {remaining : S → Option (List ℕ)} {old mid : ByteSource S W}
+    (taken : Given A) where
+  -- none was read
+  pub head-refuses : {e : Error (Unit {0})} → ReadsBareHead can_fail remaining old mid false (Err e) →
+      DeniesItem (IsUnread remaining) (end_at remaining) old (fault_at can_fail remaining mid e) →
+      RefusesAhead (StandsBefore remaining) old taken (fault_at can_fail remaining mid e)
+  head-refuses {e} reads denied = refuses-denied remaining old taken (fault_at can_fail remaining mid e)
+      (head-denied remaining old taken (fault_at can_fail remaining mid e) denied)
+
+  module _ {h : Header} {offset : ℕ} (reads : ReadsBareHead can_fail remaining old mid false (Ok (h, offset)))
+      (head : TakesBare (IsUnread remaining) old mid false h) where
+    -- no item of the type begins with it
+    pub other-refuses : {k : Kind} → ((ts : List ℕ) (i : Item) → AreSkipped false ts → header_of i ≡ h →
+        outcome (Some old.levels) (taken (under ts i)) ≡ refuses k) →
+        RefusesAhead (StandsBefore remaining) old taken (of_kind k)
+    other-refuses {k} blames = refuses-denied remaining old taken (of_kind k)
+        (other-denied remaining old taken mid h head k blames)
+
+    -- no level is left for what it begins
+    pub nested-refuses : (new : ByteSource S W) {e : Error (Unit {0})} (k : Header) → h ≡ k →
+        e ≡ RecursionLimitExceeded → ((ts : List ℕ) (i : Item) → AreSkipped false ts → header_of i ≡ k →
+        outcome (Some old.levels) (taken (under ts i)) ≡ nests) →
+        RefusesAhead (StandsBefore remaining) old taken (fault_at can_fail remaining new e)
+    nested-refuses new {e} k is err nested = refuses-denied remaining old taken (fault_at can_fail remaining new e)
+        (nested-denied remaining old taken mid h head can_fail new k is e err nested)
+
+    -- the payload of the string that it begins was refused
+    pub string-refuses : (fault : Fault) (kind : StringKind) (len : Option ℕ) → h ≡ head_of kind len →
+        DeniesContent (IsUnread remaining mid) (end_at remaining mid) kind len fault →
+        RefusesAhead (StandsBefore remaining) old taken fault
+    string-refuses fault kind len is denied = refuses-denied remaining old taken fault
+        (string-denied remaining old taken mid h head kind len is reads.only fault denied)
 
 -- ---- what is answered to a call for one item
 
-module _ {S W T A : Type 0} (can_fail : Bool) (remaining : S → Option (List ℕ)) (old new : ByteSource S W)
-    (taken : Given A) (content : T → A) where
-  abbrev pub TakesOne : Result T (Error (Unit {0})) → Type 0
-  TakesOne = TakesOneItem (StandsBefore remaining) (IsUnread remaining) (HasTakenSince remaining) weight_left
-      (fault_at can_fail remaining) old new taken content
+abbrev pub TakesOne : {S W T A : Type 0} → Bool → (S → Option (List ℕ)) → ByteSource S W → ByteSource S W → Given A →
+    (T → A) → Result T (Error (Unit {0})) → Type 0
+TakesOne can_fail remaining = TakesOneItem (StandsBefore remaining) (IsUnread remaining) (HasTakenSince remaining)
+    weight_left (fault_at can_fail remaining)
 
-  pub takes-given : (v : T) → IsKept remaining old new → new.levels ≡ old.levels → new.pending ≡ None →
-      weight_left new < weight_left old →
-      Reads (IsUnread remaining) old new (Some old.levels) taken (content v) → TakesOne (Ok v)
-  takes-given v kept levels none fewer h = record {
+module _ {S W T A : Type 0} (can_fail : Bool) (remaining : S → Option (List ℕ)) {old new : ByteSource S W}
+    {taken : Given A} {content : T → A} where
+  pub takes-given : {v : T} → IsKept remaining old new → new.levels ≡ old.levels → new.pending ≡ None →
+      weight_left new < weight_left old → Reads (IsUnread remaining) old new (Some old.levels) taken (content v) →
+      TakesOne can_fail remaining old new taken content (Ok v)
+  takes-given {v} kept levels none fewer h = record {
     ok = takes-read remaining old new taken (content v) kept levels none h;
     refused = tt;
     took = took-read remaining old new (Some old.levels) taken (content v) h;
@@ -330,28 +337,80 @@ module _ {S W T A : Type 0} (can_fail : Bool) (remaining : S → Option (List �
     no_more = tt;
   }
 
-  pub takes-denied : (e : Error (Unit {0})) → TakesOnly (HasTaken remaining) old.decoder new.decoder →
+  pub takes-refused : {e : Error (Unit {0})} → TakesOnly (HasTaken remaining) old.decoder new.decoder →
       weight_left new ≤ weight_left old →
-      Denies (IsUnread remaining) (end_at remaining) old (Some old.levels) taken (fault_at can_fail remaining new e) →
-      TakesOne (Err e)
-  takes-denied e only no_more h = record {
+      RefusesAhead (StandsBefore remaining) old taken (fault_at can_fail remaining new e) → TakesOne can_fail remaining
+      old new taken content (Err e)
+  takes-refused only no_more h = record {
     ok = tt;
-    refused = refuses-denied remaining old taken (fault_at can_fail remaining new e) h;
+    refused = h;
     took = tt;
     only = λ first t. only first.decoder t;
     less = tt;
     no_more = no_more;
   }
 
-  pub takes-one : (r : Result T (Error (Unit {0}))) → PassesItem remaining old new r →
-      AnswersItem can_fail remaining old new (Some old.levels) taken content r → TakesOne r
-  takes-one (Ok v) keeps h = takes-given v (keeps.same_reader, keeps.only) keeps.levels keeps.pending keeps.fewer h
-  takes-one (Err e) keeps h = takes-denied e keeps.only keeps.no_more h
+  pub takes-denied : {e : Error (Unit {0})} → TakesOnly (HasTaken remaining) old.decoder new.decoder →
+      weight_left new ≤ weight_left old →
+      Denies (IsUnread remaining) (end_at remaining) old (Some old.levels) taken (fault_at can_fail remaining new e) →
+      TakesOne can_fail remaining old new taken content (Err e)
+  takes-denied {e} only no_more h = takes-refused only no_more
+      (refuses-denied remaining old taken (fault_at can_fail remaining new e) h)
 
-  -- the reader is the same at least behind an answer
-  pub takes-behind : (r : Result T (Error (Unit {0}))) → OnOk r (HasSameReader old.decoder new.decoder) →
-      TakesOnly (HasTaken remaining) old.decoder new.decoder → OnErr r (weight_left new ≤ weight_left old) →
-      new.levels ≡ old.levels → OnOk r (new.pending ≡ None) → OnOk r (weight_left new < weight_left old) →
-      AnswersItem can_fail remaining old new (Some old.levels) taken content r → TakesOne r
-  takes-behind (Ok v) same only no_more levels none fewer h = takes-given v (same, only) levels none fewer h
-  takes-behind (Err e) same only no_more levels none fewer h = takes-denied e only no_more h
+  pub takes-one : (r : Result T (Error (Unit {0}))) → PassesItem remaining old new r →
+      AnswersItem can_fail remaining old new (Some old.levels) taken content r →
+      TakesOne can_fail remaining old new taken content r
+  takes-one (Ok v) keeps h = takes-given (keeps.same_reader, keeps.only) keeps.levels keeps.pending keeps.fewer h
+  takes-one (Err e) keeps h = takes-denied keeps.only keeps.no_more h
+
+module _ {S W T A : Type 0} {can_fail : Bool} {remaining : S → Option (List ℕ)} {old new : ByteSource S W}
+    {taken : Given A} {content : T → A} where
+  -- no head was read
+  pub head-refused : {e : Error (Unit {0})} → ReadsBareHead can_fail remaining old new false (Err e) →
+      DeniesItem (IsUnread remaining) (end_at remaining) old (fault_at can_fail remaining new e) → TakesOne can_fail
+      remaining old new taken content (Err e)
+  head-refused reads denied = takes-refused can_fail remaining reads.only reads.no_more
+      (head-refuses taken reads denied)
+
+  -- a head was taken, and what stands behind it was refused or read
+  module _ {mid : ByteSource S W} {h : Header} {offset : ℕ}
+      (reads : ReadsBareHead can_fail remaining old mid false (Ok (h, offset))) where
+    pub behind-refused : {e : Error (Unit {0})} → TakesOnly (HasTaken remaining) mid.decoder new.decoder →
+        weight_left new ≤ weight_left mid →
+        RefusesAhead (StandsBefore remaining) old taken (fault_at can_fail remaining new e) → TakesOne can_fail
+        remaining old new taken content (Err e)
+    behind-refused only no_more = takes-refused can_fail remaining (λ first t. only first (reads.only first t))
+        (let fewer = entered-fewer old mid mid h refl reads.pending reads.fewer in omega (arith, no_more, fewer))
+
+    pub behind-given : {v : T} → IsKept remaining mid new → new.levels ≡ mid.levels → new.pending ≡ None →
+        bytes_weight new ≤ bytes_weight mid → Reads (IsUnread remaining) old new (Some old.levels) taken (content v) →
+        TakesOne can_fail remaining old new taken content (Ok v)
+    behind-given kept levels none fewer =
+        takes-given can_fail remaining (kept.0 ∙ reads.same_reader, λ first t. kept.1 first (reads.only first t))
+        (levels ∙ reads.levels) none (taken-fewer old mid new h fewer none reads.fewer)
+
+    -- the payload of the string that it begins was read
+    pub string-given : {v : T} → TakesBare (IsUnread remaining) old mid false h → (kind : StringKind) (len : Option ℕ) →
+        h ≡ head_of kind len → IsKept remaining mid new → new.levels ≡ mid.levels → new.pending ≡ None →
+        bytes_weight new ≤ bytes_weight mid → (payload : List ℕ) → TakesContent (IsUnread remaining mid)
+        (IsUnread remaining new) kind len payload → ((ts : List ℕ) → AreSkipped false ts →
+        outcome (Some old.levels) (taken (under ts (string_item kind len payload))) ≡ gives (content v)) →
+        TakesOne can_fail remaining old new taken content (Ok v)
+    string-given {v} head kind len is kept levels none fewer payload took give = behind-given kept levels none fewer
+        (string-read remaining old taken mid h head kind len is new payload (content v) took give)
+
+  -- just a head was taken
+  module _ {h : Header} {offset : ℕ} (reads : ReadsBareHead can_fail remaining old new false (Ok (h, offset))) where
+    pub bare-refused : {e : Error (Unit {0})} →
+        RefusesAhead (StandsBefore remaining) old taken (fault_at can_fail remaining new e) → TakesOne can_fail
+        remaining old new taken content (Err e)
+    bare-refused = behind-refused reads (λ first t. t) (omega arith)
+
+    -- it is all of the item
+    pub whole-given : {v : T} → TakesBare (IsUnread remaining) old new false h → (k : Header) → h ≡ k → (i : Item) →
+        ((x : List ℕ) → SpellsHeader x k → Spells x i) →
+        ((ts : List ℕ) → AreSkipped false ts → outcome (Some old.levels) (taken (under ts i)) ≡ gives (content v)) →
+        TakesOne can_fail remaining old new taken content (Ok v)
+    whole-given {v} head k is i make give = behind-given reads (refl, λ first t. t) refl reads.pending (omega arith)
+        (reads-whole (IsUnread remaining) false k (Some old.levels) taken old new (content v) i
+        (subst (TakesBare (IsUnread remaining) old new false) is head) make give)

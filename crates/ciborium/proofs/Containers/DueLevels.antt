@@ -1,21 +1,17 @@
 -- Tags that are entered, and the levels of tags and variants.
-use Rattle.std.proofs.Common.{◌≡◌, ◌≢◌, ℕ, List, ◌++◌, Option, Some, None, Result, Ok, Err, IfOk, OnOk, refl, sym}
-use Rattle.std.proofs.Common.{ap, ◌∙◌, subst, append_assoc, arith}
-use Rattle.ciborium_ll.specs.declared.header.Header.{Header}
+use Rattle.std.proofs.Common.{Bool, ◌≡◌, ◌≢◌, ℕ, List, ◌++◌, Option, Some, None, refl, sym, ap, ◌∙◌, subst}
+use Rattle.std.proofs.Common.{append_assoc, arith}
+use Rattle.ciborium_ll.specs.{declared.header.Header.Header, Header.SpellsHeader, Item.{Item, tag}}
+use Rattle.ciborium_value.specs.{Sources.{Completes, Holds, IsFaultOf, RefusesAhead, TakesTo}, Given.{Given, gives}}
+use Rattle.ciborium_value.specs.Given.{deeper, outcome, within_level, outer_tag, given_outer_tag}
+use Rattle.ciborium.specs.{declared.de.byte_source.ByteSource.ByteSource, declared.de.byte_source.ByteLevel.ByteLevel}
+use Rattle.ciborium.specs.{declared.de.error.Error.Error, declared.de.error.Error.TheVariants.RecursionLimitExceeded}
+use Rattle.ciborium.specs.inner.ByteSources.{IsUnread, StandsBefore, LevelStands, TakesLevel, fault_at}
+use Rattle.ciborium.specs.{inner.FrontItems.TakesHead, inner.Skips.EntersLevelUnread, inner.Unread.IsRest}
+use Rattle.ciborium.proofs.{Containers.EnteredContainers.{within-is, deeper-is}, Containers.ByteItems.refuses-denied}
+use Rattle.ciborium.proofs.{Items.ItemHeads.{header_of, tag-front, same-head, by-shape}, Items.TakenOnly.IsKept}
+use Rattle.ciborium.proofs.Items.TakenOnly.{kept-reader}
 use Rattle.ciborium_ll.specs.declared.header.Header.TheVariants as header
-use Rattle.ciborium_ll.specs.Header.{SpellsHeader}
-use Rattle.ciborium_ll.specs.Item.{Item, tag}
-use Rattle.ciborium_value.specs.Sources.{Completes, Holds, GivesBack, TakesTo}
-use Rattle.ciborium_value.specs.Given.{Given, gives, deeper, outcome, within_level, outer_tag, given_outer_tag}
-use Rattle.ciborium.specs.declared.de.byte_source.ByteSource.{ByteSource}
-use Rattle.ciborium.specs.declared.de.byte_source.ByteLevel.{ByteLevel}
-use Rattle.ciborium.specs.inner.ByteSources.{IsUnread, StandsBefore, LevelStands, TakesLevel}
-use Rattle.ciborium.specs.inner.FrontItems.{TakesHead, Denies}
-use Rattle.ciborium.specs.inner.Skips.{EntersLevelUnread}
-use Rattle.ciborium.specs.inner.Unread.{IsRest}
-use Rattle.ciborium.proofs.Containers.EnteredContainers.{within-is, deeper-is}
-use Rattle.ciborium.proofs.Items.ItemHeads.{header_of, tag-front, same-head, by-shape}
-use Rattle.ciborium.proofs.Items.TakenOnly.{IsKept, kept-reader}
 
 -- ---- where the source then stands
 
@@ -27,8 +23,7 @@ module _ {S W : Type 0} (remaining : S → Option (List ℕ)) (old new : ByteSou
       (w, un, λ z (i, s, sp, e). let (j, t, sq, f) = leads.outward i s z sp e in (j, t, sq, f))
 
   pub holds-begun : {A : Type 0} (taken : Given (A × Item)) (v : A) (level : ByteLevel) → IsKept remaining old new →
-      TakesLevel old new level →
-      EntersLevelUnread (IsUnread remaining) old new (Some old.levels) taken v →
+      TakesLevel old new level → EntersLevelUnread (IsUnread remaining) old new (Some old.levels) taken v →
       Holds (StandsBefore remaining) LevelStands old new taken v level
   holds-begun taken v level kept (back, less) h l i f (b, u, (s, r, sp, rest, e), is, ahead) =
       let (w, un, leads) = h b u in
@@ -72,9 +67,8 @@ module _ {S : Type 0} (IsUnread : S → List ℕ → Type 0) (old mid new : S) (
 
   untagged-alone : (h : Header) → ((t : ℕ) → h ≡ header.Tag t → ⊥) → (i : Item) → header_of i ≡ h →
       outer_tag i ≡ (None, i)
-  untagged-alone h p i e =
-      by-shape (λ j. outer_tag j ≡ (None, j)) h (λ n k. refl) (λ n k. refl) (λ o b k. refl) (λ o b k. refl)
-      (λ o is k. refl) (λ o ps k. refl) (λ n k. refl) (λ raw k. refl) (λ t j k. absurd (p t k)) i e
+  untagged-alone h p i e = by-shape (λ j. outer_tag j ≡ (None, j)) h (λ n k. refl) (λ n k. refl) (λ o b k. refl)
+      (λ o b k. refl) (λ o is k. refl) (λ o ps k. refl) (λ n k. refl) (λ raw k. refl) (λ t j k. absurd (p t k)) i e
 
   -- another head was looked at
   pub none-begun : (h : Header) → ((t : ℕ) → h ≡ header.Tag t → ⊥) → TakesHead IsUnread old mid h →
@@ -98,15 +92,11 @@ module _ {S : Type 0} (IsUnread : S → List ℕ → Type 0) (old mid new : S) (
       )
 
 -- no level is left for it
-pub tag-nests : {S : Type 0} (IsUnread : S → List ℕ → Type 0) (End : S → ℕ) (old : S) (m : ℕ) → m ≡ 0 →
-    Denies IsUnread End old (Some m) given_outer_tag Rattle.ciborium_value.specs.Sources.of_nesting
-tag-nests IsUnread End old m none b s z i end u sp e fits = ap (λ n. within_level (Some n) (gives (outer_tag i))) none
-
-pub ok-map-two : {T E : Type 0} {N P Q : T → Type 0} (r : Result T E) → IfOk r N → IfOk r P →
-    ((v : T) → N v → P v → Q v) → IfOk r Q
-ok-map-two (Ok v) n p f = f v n p
-ok-map-two (Err e) n p f = tt
-
-pub on-ok-so : {T E : Type 0} {P : T → Type 0} {Q : Type 0} (r : Result T E) → IfOk r P → ((v : T) → P v → Q) → OnOk r Q
-on-ok-so (Ok v) p f = f v p
-on-ok-so (Err e) p f = tt
+pub tag-refused : {S W : Type 0} (can_fail : Bool) (remaining : S → Option (List ℕ)) (old mid new : ByteSource S W)
+    (e : Error (Unit {0})) → mid.levels ≡ old.levels → mid.levels ≡ 0 → e ≡ RecursionLimitExceeded →
+    RefusesAhead (StandsBefore remaining) old given_outer_tag (fault_at can_fail remaining new e)
+tag-refused can_fail remaining old mid new e same none err = refuses-denied remaining old given_outer_tag
+    (fault_at can_fail remaining new e) (λ b s z i end u sp g fits.
+    subst (λ fault. IsFaultOf end fault (outcome (Some old.levels) (given_outer_tag i)))
+    (sym (ap (fault_at can_fail remaining new) err))
+    (ap (λ n. within_level (Some n) (gives (outer_tag i))) (sym same ∙ none)))

@@ -1,38 +1,30 @@
 -- Containers that are entered behind skipped tags.
-use Rattle.std.proofs.Common.{◌≡◌, OnOk, IfOk, Err, Ok, Result, ◌<◌, ◌+◌, ◌≢◌, ℕ, zero, suc, ◌-◌, Bool, true, false}
-use Rattle.std.proofs.Common.{List, [], ◌∷◌, ◌++◌, map, Option, Some, None, refl, sym, ap, ◌∙◌, subst, append_assoc}
-use Rattle.std.proofs.Common.{append-nil, arith}
+use Rattle.std.proofs.Common.{◌≡◌, Ok, ◌<◌, ◌+◌, ◌≢◌, ℕ, zero, suc, ◌-◌, Bool, true, false, List, [], ◌∷◌, ◌++◌, map}
+use Rattle.std.proofs.Common.{Option, Some, None, refl, sym, ap, ◌∙◌, subst, append_assoc, append-nil, arith}
 use Rattle.std.specs.Vec.Iter.{into_iter_items}
-use Rattle.ciborium_ll.specs.declared.header.Header.{Header}
-use Rattle.ciborium_ll.specs.declared.header.Header.TheVariants as header
-use Rattle.ciborium_ll.specs.Head.{IsHead, break_byte}
-use Rattle.ciborium_ll.specs.Header.{SpellsHeader}
-use Rattle.ciborium_ll.specs.Item as items
-use Rattle.ciborium_ll.specs.Item.{Item, Items, Pairs, unsigned, negative, bytes, text, array, tag, simple, float}
-use Rattle.ciborium_ll.specs.Spells.{Spells}
-use Rattle.ciborium_ll.specs.StringRefusal.{of_bytes as bytes_kind}
+use Rattle.ciborium_ll.specs.{declared.header.Header.Header, Head.{IsHead, break_byte}, Header.SpellsHeader, Item.Item}
+use Rattle.ciborium_ll.specs.Item.{Items, Pairs, unsigned, negative, bytes, text, array, tag, simple, float}
+use Rattle.ciborium_ll.specs.{Spells.Spells, StringRefusal.of_bytes as bytes_kind}
 use Rattle.ciborium_ll.proofs.UniqueSpelling.{one_at_front}
-use Rattle.ciborium_value.specs.Sources.{Enters, EntersMap}
 use Rattle.ciborium_value.specs.Ahead.{Span, Rest, parts, after, item, inside, of_bytes, pairs, takes_level}
-use Rattle.ciborium_value.specs.Nesting.{Limit}
-use Rattle.ciborium_value.specs.Places.{is_open, sequence, dictionary}
-use Rattle.ciborium_value.specs.Given.{Outcome, Steps, Given, deeper, give, gives, nests, outcome, refuses, untagged}
-use Rattle.ciborium_value.specs.Given.{bare_pairs, bare_seq, given_pairs, given_seq, unpack, unpack_pairs, within_level}
-use Rattle.ciborium_value.specs.declared.kind.Kind.TheVariants as kinds
-use Rattle.ciborium.specs.declared.de.byte_source.ByteSource.{ByteSource}
-use Rattle.ciborium.specs.declared.de.byte_source.ByteSeq.{ByteSeq}
-use Rattle.ciborium.specs.declared.de.byte_source.Left.{Left}
-use Rattle.ciborium.specs.declared.de.byte_source.Left.TheVariants as left
-use Rattle.ciborium.specs.inner.ByteSources.{IsUnread, IsUnreadBy, StandsBefore, SeqStands, HoldsItems, HoldsPairs}
-use Rattle.ciborium.specs.inner.ByteSources.{SeqOwes, LeftOwes, OwesParts, EntersItemsUnread, EntersPairsUnread}
-use Rattle.ciborium.specs.inner.ByteSources.{HasBytes, parts_left, weight_left, reader_of, seq_left}
-use Rattle.ciborium.specs.inner.Skips.{under, AreSkipped, IsBare, TakesBare, EntersUnread}
-use Rattle.ciborium.specs.inner.StringContents.{TakesContent}
+use Rattle.ciborium_value.specs.{Nesting.Limit, Places.{is_open, sequence, dictionary}, Given.{Outcome, Steps, Given}}
+use Rattle.ciborium_value.specs.Given.{deeper, give, gives, nests, outcome, refuses, untagged, bare_pairs, bare_seq}
+use Rattle.ciborium_value.specs.Given.{given_pairs, given_seq, unpack, unpack_pairs, within_level}
+use Rattle.ciborium.specs.{declared.de.byte_source.ByteSource.ByteSource, declared.de.byte_source.ByteSeq.ByteSeq}
+use Rattle.ciborium.specs.{declared.de.byte_source.Left.Left, inner.ByteSources.{IsUnread, IsUnreadBy, StandsBefore}}
+use Rattle.ciborium.specs.inner.ByteSources.{SeqStands, HoldsItems, HoldsPairs, SeqOwes, LeftOwes, OwesParts}
+use Rattle.ciborium.specs.inner.ByteSources.{EntersItemsUnread, EntersPairsUnread, HasBytes, ReadsBareHead, bytes_left}
+use Rattle.ciborium.specs.{inner.ByteSources.{parts_left, weight_left, reader_of, seq_left}, inner.Skips.under}
+use Rattle.ciborium.specs.{inner.Skips.{AreSkipped, IsBare, TakesBare, EntersUnread}, inner.StringContents.TakesContent}
 use Rattle.ciborium.specs.inner.Unread.{AreSpelled, AreLeft, SpellsPair, IsRest, ending, span_of, HasCount}
 use Rattle.ciborium.proofs.Items.ItemHeads.{header_of, packed, packed-pairs, counted-front, open-front}
 use Rattle.ciborium.proofs.Items.ItemHeads.{counted-pairs-front, open-pairs-front, by-shape, no-bare-tag}
-use Rattle.ciborium.proofs.Items.SkippedTags.{untagged-under}
-use Rattle.ciborium.proofs.Items.TakenOnly.{IsKept, kept-reader}
+use Rattle.ciborium.proofs.{Items.SkippedTags.untagged-under, Items.TakenOnly.{IsKept, kept-alone, kept-reader}}
+use Rattle.ciborium.proofs.Items.Weights.{entered-fewer}
+use Rattle.ciborium_ll.specs.declared.header.Header.TheVariants as header
+use Rattle.ciborium_ll.specs.Item as items
+use Rattle.ciborium_value.specs.declared.kind.Kind.TheVariants as kinds
+use Rattle.ciborium.specs.declared.de.byte_source.Left.TheVariants as left
 
 -- ---- levels
 
@@ -56,10 +48,9 @@ record IsContainer {X : Type 0} (SpellsPart : List ℕ → X → Type 0) (head_w
     (HasParts : Item → List X → Type 0) : Type 0 where
   make : (count : Option ℕ) (t : List ℕ) (xs : List X) → AreSpelled SpellsPart t xs → HasCount count xs → (x : List ℕ) →
       SpellsHeader x (head_with count) → (i : Item) × Spells (x ++ (t ++ ending (span_of count))) i
-  front : (count : Option ℕ) (s r x y : List ℕ) (i : Item) → Spells s i → SpellsHeader x (head_with count) →
-      s ++ r ≡ x ++ y →
-      (xs : List X) × (c : List ℕ) × HasParts i xs × AreSpelled SpellsPart c xs × HasCount count xs ×
-      (y ≡ c ++ (ending (span_of count) ++ r))
+  front : (count : Option ℕ) (s r x y : List ℕ) (i : Item) →
+      Spells s i → SpellsHeader x (head_with count) → s ++ r ≡ x ++ y → (xs : List X) × (c : List ℕ) ×
+      HasParts i xs × AreSpelled SpellsPart c xs × HasCount count xs × (y ≡ c ++ (ending (span_of count) ++ r))
 
 abbrev pub HasItems : Item → List Item → Type 0
 HasItems i is = (o : Bool) × (js : Items) × (i ≡ array o js) × (unpack js ≡ is)
@@ -87,10 +78,9 @@ array-container = record { make = build; front = behind }
     build None t xs sp len x hd = let p = packed t xs sp in
         (array true p.0, (t, p.1, ap (λ (z : List ℕ). z ++ (t ++ (break_byte ∷ []))) hd))
 
-    behind : (count : Option ℕ) (s r x y : List ℕ) (i : Item) → Spells s i → SpellsHeader x (header.Array count) →
-        s ++ r ≡ x ++ y →
-        (xs : List Item) × (c : List ℕ) × HasItems i xs × AreSpelled Spells c xs × HasCount count xs ×
-        (y ≡ c ++ (ending (span_of count) ++ r))
+    behind : (count : Option ℕ) (s r x y : List ℕ) (i : Item) →
+        Spells s i → SpellsHeader x (header.Array count) → s ++ r ≡ x ++ y → (xs : List Item) × (c : List ℕ) ×
+        HasItems i xs × AreSpelled Spells c xs × HasCount count xs × (y ≡ c ++ (ending (span_of count) ++ r))
     behind (Some n) s r x y i sp hd e = let (its, c, is, sps, len, h) = counted-front s r x y i n sp hd e in
         (unpack its, c, (false, its, is, refl), sps, len, h)
     behind None s r x y i sp hd e = let (its, c, is, sps, h) = open-front s r x y i sp hd e in
@@ -116,10 +106,9 @@ map-container = record { make = build; front = behind }
     build None t xs sp len x hd = let p = packed-pairs t xs sp in
         (items.map true p.0, (t, p.1, ap (λ (z : List ℕ). z ++ (t ++ (break_byte ∷ []))) hd))
 
-    behind : (count : Option ℕ) (s r x y : List ℕ) (i : Item) → Spells s i → SpellsHeader x (header.Map count) →
-        s ++ r ≡ x ++ y →
-        (xs : List (Item × Item)) × (c : List ℕ) × HasPairs i xs × AreSpelled SpellsPair c xs × HasCount count xs ×
-        (y ≡ c ++ (ending (span_of count) ++ r))
+    behind : (count : Option ℕ) (s r x y : List ℕ) (i : Item) →
+        Spells s i → SpellsHeader x (header.Map count) → s ++ r ≡ x ++ y → (xs : List (Item × Item)) × (c : List ℕ) ×
+        HasPairs i xs × AreSpelled SpellsPair c xs × HasCount count xs × (y ≡ c ++ (ending (span_of count) ++ r))
     behind (Some n) s r x y i sp hd e = let (ps, c, is, sps, len, h) = counted-pairs-front s r x y i n sp hd e in
         (unpack_pairs ps, c, (false, ps, is, refl), sps, len, h)
     behind None s r x y i sp hd e = let (ps, c, is, sps, h) = open-pairs-front s r x y i sp hd e in
@@ -196,6 +185,22 @@ abbrev pub IsEntered : {S W : Type 0} → ByteSource S W → ByteSource S W → 
 IsEntered mid new count q = (new.decoder ≡ mid.decoder) × (new.pending ≡ mid.pending) × (mid.levels ≢ 0) ×
     (new.levels ≡ mid.levels - 1) × (q.left ≡ parts_left count)
 
+-- so many parts, or any number, are no bytes
+none-left : (count : Option ℕ) → bytes_left (parts_left count) ≡ 0
+none-left (Some n) = refl
+none-left None = refl
+
+-- what of the source is as it was
+pub entered-kept : {S W : Type 0} {can_fail : Bool} {remaining : S → Option (List ℕ)} {old mid : ByteSource S W}
+    {h : Header} {offset : ℕ} (new : ByteSource S W) (count : Option ℕ) (q : ByteSeq) → IsEntered mid new count q →
+    ReadsBareHead can_fail remaining old mid false (Ok (h, offset)) →
+    IsKept remaining old new × (new.pending ≡ None) × (weight_left new + seq_left q < weight_left old)
+entered-kept {remaining = remaining} {old} {mid} {h} new count q is reads =
+    let none = is.1 ∙ reads.pending in
+    let fewer = entered-fewer old mid new h is.0 none reads.fewer in
+    let nothing : seq_left q ≡ 0 = ap bytes_left is.4 ∙ none-left count in
+    (kept-alone remaining old mid new is.0 (reads.same_reader, reads.only), none, omega (arith, fewer, nothing))
+
 pub same-unread : {S W : Type 0} (remaining : S → Option (List ℕ)) (mid new : ByteSource S W) →
     new.decoder ≡ mid.decoder →
     new.pending ≡ mid.pending → (y : List ℕ) → IsUnread remaining mid y → IsUnread remaining new y
@@ -254,10 +259,8 @@ bytes-had u v h = absurd h
 
 -- the bytes of a byte string that was read whole
 pub bytes-entered : {S W : Type 0} (remaining : S → Option (List ℕ)) (old mid new : ByteSource S W) (q : ByteSeq)
-    (v : _)
-    (len : Option ℕ) (payload : List ℕ) → q.left ≡ left.Bytes v → into_iter_items v ≡ payload →
-    new.levels ≡ old.levels →
-    TakesBare (IsUnread remaining) old mid false (header.Bytes len) →
+    (v : _) (len : Option ℕ) (payload : List ℕ) → q.left ≡ left.Bytes v → into_iter_items v ≡ payload →
+    new.levels ≡ old.levels → TakesBare (IsUnread remaining) old mid false (header.Bytes len) →
     TakesContent (IsUnread remaining mid) (IsUnread remaining new) bytes_kind len payload →
     EntersItemsUnread remaining old new given_seq (λ span is. give (takes_level span, is)) q
 bytes-entered remaining old mid new q v len payload is same levels bare content b u =
@@ -311,9 +314,8 @@ seq-other l h bare p q ts i all e = ap (λ j. outcome l (bare_seq j)) (untagged-
     (λ o b k. absurd (q _ k)) (λ o b k. refl) (λ o is k. absurd (p _ k)) (λ o ps k. refl) (λ n k. refl)
     (λ raw k. refl) (λ t j k. no-bare-tag h t bare k) i e
 
-pub map-other : (l : Limit) (h : Header) → IsBare false h → ((n : Option ℕ) → h ≡ header.Map n → ⊥) →
-    (ts : List ℕ) (i : Item) → AreSkipped false ts → header_of i ≡ h →
-    outcome l (given_pairs (under ts i)) ≡ refuses kinds.Map
+pub map-other : (l : Limit) (h : Header) → IsBare false h → ((n : Option ℕ) → h ≡ header.Map n → ⊥) → (ts : List ℕ)
+    (i : Item) → AreSkipped false ts → header_of i ≡ h → outcome l (given_pairs (under ts i)) ≡ refuses kinds.Map
 map-other l h bare p ts i all e = ap (λ j. outcome l (bare_pairs j)) (untagged-under ts i) ∙
     by-shape (λ j. outcome l (bare_pairs (untagged j)) ≡ refuses kinds.Map) h (λ n k. refl) (λ n k. refl)
     (λ o b k. refl) (λ o b k. refl) (λ o is k. refl) (λ o ps k. absurd (p _ k)) (λ n k. refl) (λ raw k. refl)
@@ -328,9 +330,8 @@ module _ {S W : Type 0} (remaining : S → Option (List ℕ)) (old new : ByteSou
   parts-stand : {A X : Type 0} (Owes : ByteSeq → List ℕ → List ℕ → Type 0) (SpellsPart : List ℕ → X → Type 0)
       (Holds : ByteSeq → Span → List X → Type 0) (taken : Given A) (f : Span → List X → Steps A) →
       EntersUnread (IsUnread remaining) Owes SpellsPart Holds old new (Some old.levels) (Some new.levels) taken f q →
-      (l : Limit) (i : Item) (r : Rest) → StandsBefore remaining old l (item i r) →
-      (span : Span) × (xs : List X) × (outcome l (taken i) ≡ outcome (inside span l) (f span xs)) ×
-      ((w : List ℕ) × IsUnread remaining new w ×
+      (l : Limit) (i : Item) (r : Rest) → StandsBefore remaining old l (item i r) → (span : Span) × (xs : List X) ×
+      (outcome l (taken i) ≡ outcome (inside span l) (f span xs)) × ((w : List ℕ) × IsUnread remaining new w ×
       ((c : List ℕ) × (t : List ℕ) × AreLeft SpellsPart span c xs × IsRest (reader_of remaining new.decoder) t r ×
       (w ≡ c ++ (ending span ++ t))) × (inside span l ≡ Some new.levels) × (new.pending ≡ None)) ×
       ((l ≡ Some q.levels) × Holds q span xs)
@@ -365,22 +366,3 @@ module _ {S W : Type 0} (remaining : S → Option (List ℕ)) (old new : ByteSou
       (span : Span) × (ps : List (Item × Item)) × (outcome l (taken i) ≡ outcome (inside span l) (f span ps)) ×
       StandsBefore remaining new (inside span l) (after (pairs span ps r)) × SeqStands q l (pairs span ps r)
   pairs-stand = parts-stand (λ p. SeqOwes p dictionary) SpellsPair (λ p. HoldsPairs p.left)
-
--- what is answered where a sequence was entered, and where a map was
-module _ {S W : Type 0} (remaining : S → Option (List ℕ)) (old new : ByteSource S W)
-    (kept : IsKept remaining old new) where
-  pub enters : (E : Type 0) (r : Result ByteSeq E) → IfOk r (λ q. q.levels ≡ old.levels) → OnOk r (new.pending ≡ None) →
-      IfOk r (λ q. weight_left new + seq_left q < weight_left old) →
-      IfOk r (EntersItemsUnread remaining old new given_seq (λ span is. give (takes_level span, is))) →
-      IfOk r (λ q. Enters (StandsBefore remaining) SeqStands old new q)
-  enters E (Ok q) levels none fewer opens = items-stand remaining old new q kept levels none (omega (arith, fewer))
-      given_seq (λ span is. give (takes_level span, is)) opens
-  enters E (Err e) levels none fewer opens = tt
-
-  pub enters-map : (E : Type 0) (r : Result ByteSeq E) → IfOk r (λ q. q.levels ≡ old.levels) →
-      OnOk r (new.pending ≡ None) → IfOk r (λ q. weight_left new + seq_left q < weight_left old) →
-      IfOk r (EntersPairsUnread remaining old new given_pairs (λ span ps. give (takes_level span, ps))) →
-      IfOk r (λ q. EntersMap (StandsBefore remaining) SeqStands old new q)
-  enters-map E (Ok q) levels none fewer opens = pairs-stand remaining old new q kept levels none (omega (arith, fewer))
-      given_pairs (λ span ps. give (takes_level span, ps)) opens
-  enters-map E (Err e) levels none fewer opens = tt

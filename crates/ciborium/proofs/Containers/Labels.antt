@@ -1,28 +1,20 @@
 -- Keys of a map, which are read by the head with which they begin.
-use Rattle.std.proofs.Common.{◌≡◌, ◌≤◌, ◌+◌, ◌++◌, ◌∙◌, List, None, Option, Some, append_assoc, ap, false}
-use Rattle.std.proofs.Common.{length, refl, sym, subst, ℕ}
-use Rattle.ciborium_ll.specs.declared.header.Header.{Header}
-use Rattle.ciborium_ll.specs.declared.header.Header.TheVariants as header
-use Rattle.ciborium_ll.specs.Header.{SpellsHeader}
-use Rattle.ciborium_ll.specs.Item as items
-use Rattle.ciborium_ll.specs.Item.{Item, array, bytes, float, negative, simple, tag, text, unsigned}
-use Rattle.ciborium_ll.specs.Spells.{Spells}
-use Rattle.ciborium_ll.specs.StringRefusal.{of_text}
-use Rattle.ciborium_value.specs.Labels.{Label, label_kind, label_place, name_place, placed}
-use Rattle.ciborium_value.specs.Nesting.{Limit}
-use Rattle.ciborium_value.specs.Places.{is_open}
-use Rattle.ciborium_value.specs.Sources.{Fault, IsFaultOf, TakesOnly}
-use Rattle.ciborium_value.specs.Given.{Given, gives, mapped, outcome}
+use Rattle.std.proofs.Common.{◌≡◌, ◌≤◌, ◌+◌, ◌++◌, ◌∙◌, List, None, Option, Some, append_assoc, ap, false, length, refl}
+use Rattle.std.proofs.Common.{sym, subst, ℕ}
+use Rattle.ciborium_ll.specs.{declared.header.Header.Header, Header.SpellsHeader, Item.{Item, array, bytes, float}}
+use Rattle.ciborium_ll.specs.{Item.{negative, simple, tag, text, unsigned}, Spells.Spells, StringRefusal.of_text}
+use Rattle.ciborium_value.specs.{Labels.{Label, label_kind, label_place, name_place, placed}, Nesting.Limit}
+use Rattle.ciborium_value.specs.{Places.is_open, Sources.{Fault, IsFaultOf, TakesOnly}, Given.{Given, gives, mapped}}
+use Rattle.ciborium_value.specs.Given.{outcome}
 use Rattle.ciborium_value.proofs.Sources.Sequences.{fault_map}
-use Rattle.ciborium.specs.declared.de.byte_source.ByteSource.{ByteSource}
-use Rattle.ciborium.specs.inner.ByteSources.{CountsHead, HasTaken, IsUnread, end_at, head_label_kind}
-use Rattle.ciborium.specs.inner.FrontItems.{Denies, DeniesHead, Reads, TakesHead}
-use Rattle.ciborium.specs.inner.StringContents.{DeniesContent, TakesPlace}
-use Rattle.ciborium.proofs.Containers.NextParts.{aside-unread}
-use Rattle.ciborium.proofs.Items.ItemHeads.{header_of, same-head}
+use Rattle.ciborium.specs.{declared.de.byte_source.ByteSource.ByteSource, inner.ByteSources.{CountsHead, HasTaken}}
+use Rattle.ciborium.specs.{inner.ByteSources.{IsUnread, end_at, head_label_kind}, inner.FrontItems.{Denies, DeniesHead}}
+use Rattle.ciborium.specs.{inner.FrontItems.{Reads, TakesHead}, inner.StringContents.{DeniesContent, TakesPlace}}
+use Rattle.ciborium.proofs.{Containers.NextParts.aside-unread, Items.ItemHeads.{header_of, same-head}}
 use Rattle.ciborium.proofs.Items.SkippedTags.{bare-head, denies-item, denies-of-item, skips-none}
-use Rattle.ciborium.proofs.Items.TakenOnly.{same-end}
-use Rattle.ciborium.proofs.Payloads.StringPayloads.{denies-string}
+use Rattle.ciborium.proofs.{Items.TakenOnly.same-end, Payloads.StringPayloads.denies-string}
+use Rattle.ciborium_ll.specs.declared.header.Header.TheVariants as header
+use Rattle.ciborium_ll.specs.Item as items
 
 -- the head tells how the key is read
 label-head : (h : Header) (i : Item) → header_of i ≡ h → head_label_kind h ≡ label_kind i

@@ -1,34 +1,24 @@
 -- Names, and variants that are entered by theirs.
-use Rattle.std.proofs.Common.{◌≡◌, ◌≢◌, ℕ, Bool, false, List, [], ◌∷◌, ◌++◌, Option, Some, None, refl, sym, ap}
-use Rattle.std.proofs.Common.{◌∙◌, subst, append_assoc, append-nil, arith, inl, length-append}
-use Rattle.std.specs.Str.{is_utf8, IsUtf8}
+use Rattle.std.proofs.Common.{◌≡◌, ◌≢◌, ℕ, Bool, false, List, [], ◌∷◌, ◌++◌, Option, Some, None, refl, sym, ap, ◌∙◌}
+use Rattle.std.proofs.Common.{subst, append_assoc, append-nil, arith, inl, length-append}
 use Rattle.std.proofs.lemmas.Str.{is_utf8-from_IsUtf8}
-use Rattle.ciborium_ll.specs.declared.header.Header.{Header}
-use Rattle.ciborium_ll.specs.declared.header.Header.TheVariants as header
-use Rattle.ciborium_ll.specs.declared.decoder.Decoder.{Decoder}
-use Rattle.ciborium_ll.specs.Header.{SpellsHeader}
-use Rattle.ciborium_ll.specs.Item as items
+use Rattle.std.specs.Str.{is_utf8, IsUtf8}
+use Rattle.ciborium_ll.specs.{declared.header.Header.Header, declared.decoder.Decoder.Decoder, Header.SpellsHeader}
 use Rattle.ciborium_ll.specs.Item.{Item, unsigned, negative, bytes, text, array, tag, simple, float, Pairs, no_pairs}
-use Rattle.ciborium_ll.specs.Item.{pair, pairs_count}
-use Rattle.ciborium_ll.specs.Spells.{Spells}
-use Rattle.ciborium_ll.specs.StringRefusal.{of_bytes}
-use Rattle.ciborium_ll.proofs.UniqueSpelling.{one_at_front}
-use Rattle.ciborium_ll.proofs.OneHeader.{one_header_at_front}
-use Rattle.ciborium_value.specs.Nesting.{Limit}
-use Rattle.ciborium_value.specs.Sources.{Fault, IsFaultOf, of_kind}
-use Rattle.ciborium_value.specs.Given.{gives, refuses, nests, deeper, untagged, outcome_map, given_name, bare_name}
-use Rattle.ciborium_value.specs.Given.{given_variant, bare_variant, outcome, settled}
-use Rattle.ciborium_value.specs.declared.kind.Kind.TheVariants as kinds
-use Rattle.ciborium_value.proofs.Sources.Sequences.{fault_map}
-use Rattle.ciborium_value.proofs.Sources.TreeLevels.{utf8_not}
-use Rattle.ciborium.specs.inner.ByteSources.{IsUnreadBy}
-use Rattle.ciborium.specs.inner.FrontItems.{Reads, Denies}
-use Rattle.ciborium.specs.inner.Skips.{under, AreSkipped, IsBare, TakesBare, EntersLevelUnread}
+use Rattle.ciborium_ll.specs.{Item.{pair, pairs_count}, Spells.Spells, StringRefusal.of_bytes}
+use Rattle.ciborium_ll.proofs.{UniqueSpelling.one_at_front, OneHeader.one_header_at_front}
+use Rattle.ciborium_value.specs.{Nesting.Limit, Sources.{Fault, IsFaultOf, of_kind}, Given.{gives, refuses, nests}}
+use Rattle.ciborium_value.specs.Given.{deeper, untagged, outcome_map, given_name, bare_name, given_variant}
+use Rattle.ciborium_value.specs.{Given.{bare_variant, outcome, settled}, Places.is_open}
+use Rattle.ciborium_value.proofs.{Sources.Sequences.fault_map, Sources.TreeLevels.utf8_not}
+use Rattle.ciborium.specs.{inner.ByteSources.IsUnreadBy, inner.FrontItems.{Reads, Denies}, inner.Skips.under}
+use Rattle.ciborium.specs.inner.Skips.{AreSkipped, IsBare, TakesBare, EntersLevelUnread}
 use Rattle.ciborium.specs.inner.StringContents.{TakesContent}
-use Rattle.ciborium_value.specs.Places.{is_open}
-use Rattle.ciborium.proofs.Containers.EnteredContainers.{within-is}
-use Rattle.ciborium.proofs.Items.ItemHeads.{header_of, same-head, by-shape, no-bare-tag, size_of}
-use Rattle.ciborium.proofs.Items.SkippedTags.{untagged-under}
+use Rattle.ciborium.proofs.{Containers.EnteredContainers.within-is, Items.ItemHeads.{header_of, same-head, by-shape}}
+use Rattle.ciborium.proofs.{Items.ItemHeads.{no-bare-tag, size_of}, Items.SkippedTags.untagged-under}
+use Rattle.ciborium_ll.specs.declared.header.Header.TheVariants as header
+use Rattle.ciborium_ll.specs.Item as items
+use Rattle.ciborium_value.specs.declared.kind.Kind.TheVariants as kinds
 
 -- ---- names
 
@@ -68,9 +58,8 @@ null-head = inl (omega arith, refl)
 
 -- it is pending, with an offset
 pub null-unread : {S W : Type 0} (remaining : S → Option (List ℕ)) (d : Decoder S W) (pending : Option (Header × ℕ))
-    (p : ℕ)
-    (z : List ℕ) → pending ≡ None → IsUnreadBy remaining d pending z →
-    IsUnreadBy remaining d (Some (header.Simple 22, p)) (0xf6 ∷ z)
+    (p : ℕ) (z : List ℕ) →
+    pending ≡ None → IsUnreadBy remaining d pending z → IsUnreadBy remaining d (Some (header.Simple 22, p)) (0xf6 ∷ z)
 null-unread remaining d pending p z none u = (
   0xf6 ∷ [],
   z,

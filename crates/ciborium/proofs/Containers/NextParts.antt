@@ -3,29 +3,22 @@ use Rattle.std.proofs.Common.{◌≡◌, ◌≤◌, ◌≢◌, ℕ, suc, ◌+◌
 use Rattle.std.proofs.Common.{map, Option, Some, None, refl, sym, ap, ◌∙◌, subst, append_assoc, append-nil, arith, inl}
 use Rattle.std.proofs.Common.{inr, ◌⊎◌, length-append}
 use Rattle.std.specs.Vec.Iter.{into_iter_items}
-use Rattle.ciborium_ll.specs.declared.header.Header.{Header}
-use Rattle.ciborium_ll.specs.declared.header.Header.TheVariants as header
-use Rattle.ciborium_ll.specs.Head.{IsHead, break_byte, head_in, eight_bytes}
-use Rattle.ciborium_ll.specs.Header.{SpellsHeader, announced_length}
-use Rattle.ciborium_ll.specs.Item.{Item, unsigned}
-use Rattle.ciborium_ll.specs.Spells.{Spells}
-use Rattle.ciborium_ll.proofs.OneHeader.{one_header_at_front}
-use Rattle.ciborium_ll.proofs.UniqueSpelling.{one_at_front}
+use Rattle.ciborium_ll.specs.{declared.header.Header.Header, Head.{IsHead, break_byte, head_in, eight_bytes}}
+use Rattle.ciborium_ll.specs.{Header.{SpellsHeader, announced_length}, Item.{Item, unsigned}, Spells.Spells}
+use Rattle.ciborium_ll.specs.Decoding.{left_of}
+use Rattle.ciborium_ll.proofs.{OneHeader.one_header_at_front, UniqueSpelling.one_at_front}
 use Rattle.ciborium_value.specs.Ahead.{Span, Rest, bottom, parts, pairs, entry, level_due, item, past, inside, end_of}
-use Rattle.ciborium_value.specs.Nesting.{Limit}
-use Rattle.ciborium_value.specs.Places.{Shape, sequence, dictionary}
-use Rattle.ciborium_value.specs.Sources.{Fault, HasItem, HasPart, GoesOn, Leaves, RefusesNext, OwesLess, OwesNothing}
-use Rattle.ciborium.specs.declared.de.byte_source.ByteSource.{ByteSource}
-use Rattle.ciborium.specs.declared.de.byte_source.ByteSeq.{ByteSeq}
-use Rattle.ciborium.specs.declared.de.byte_source.Left.TheVariants as left
+use Rattle.ciborium_value.specs.{Nesting.Limit, Places.{Shape, sequence, dictionary}, Sources.{Fault, HasItem, HasPart}}
+use Rattle.ciborium_value.specs.Sources.{GoesOn, Leaves, RefusesNext, OwesLess, OwesNothing}
+use Rattle.ciborium.specs.{declared.de.byte_source.ByteSource.ByteSource, declared.de.byte_source.ByteSeq.ByteSeq}
 use Rattle.ciborium.specs.inner.ByteSources.{IsHeadCounted, IsUnread, IsUnreadBy, StandsBefore, SeqStands}
 use Rattle.ciborium.specs.inner.ByteSources.{HasNoneBehind, HoldsItems, HoldsPairs, HoldsParts, SeqOwes, LeftOwes}
-use Rattle.ciborium.specs.inner.ByteSources.{OwesParts, end_at, reader_of}
-use Rattle.ciborium.specs.inner.FrontItems.{TakesHead, DeniesHead}
+use Rattle.ciborium.specs.{inner.ByteSources.{OwesParts, end_at, reader_of}, inner.FrontItems.{TakesHead, DeniesHead}}
 use Rattle.ciborium.specs.inner.Unread.{AreSpelled, AreLeft, SpellsPair, FitsAhead, IsRest, ending, span_of, HasCount}
-use Rattle.ciborium_ll.specs.Decoding.{left_of}
-use Rattle.ciborium.proofs.Items.TakenOnly.{IsKept, kept-reader, rest-end}
-use Rattle.ciborium.proofs.Items.ItemHeads.{header_of, first-head, first-payload, same-head, no-break-head}
+use Rattle.ciborium.proofs.{Items.TakenOnly.{IsKept, kept-reader, rest-end}, Items.ItemHeads.{header_of, first-head}}
+use Rattle.ciborium.proofs.Items.ItemHeads.{first-payload, same-head, no-break-head}
+use Rattle.ciborium_ll.specs.declared.header.Header.TheVariants as header
+use Rattle.ciborium.specs.declared.de.byte_source.Left.TheVariants as left
 
 pub fits-past : (name : _) (b : List ℕ) (f : Rest) → IsRest name b f → FitsAhead name b (past f)
 fits-past name b (bottom m r) h = h
@@ -247,9 +240,8 @@ module _ {S W : Type 0} (remaining : S → Option (List ℕ)) (old new : ByteSou
 -- behind the last part
 stands-past : {S W : Type 0} (remaining : S → Option (List ℕ)) (old new : ByteSource S W) (l : Limit) (q : ByteSeq)
     (b : List ℕ) (f : Rest) → reader_of remaining new.decoder ≡ reader_of remaining old.decoder →
-    new.levels ≡ q.levels → new.pending ≡ None →
-    IsUnread remaining new b → IsRest (reader_of remaining old.decoder) b f → l ≡ Some q.levels →
-    StandsBefore remaining new l (past f)
+    new.levels ≡ q.levels → new.pending ≡ None → IsUnread remaining new b →
+    IsRest (reader_of remaining old.decoder) b f → l ≡ Some q.levels → StandsBefore remaining new l (past f)
 stands-past remaining old new l q b f name levels none un rest lq = (
   b,
   un,
@@ -378,10 +370,9 @@ module _ {S W : Type 0} (remaining : S → Option (List ℕ)) where
         ),
   )
 
-  pub goes-open : (old mid new : ByteSource S W) (q q' : ByteSeq) (h : Header) → q.left ≡ left.Open →
-      q'.left ≡ left.Open → q'.levels ≡ q.levels → IsKept remaining old new →
-      new.levels ≡ old.levels →
-      TakesHead (IsUnread remaining) old mid h → h ≢ header.Break →
+  pub goes-open : (old mid new : ByteSource S W) (q q' : ByteSeq) (h : Header) →
+      q.left ≡ left.Open → q'.left ≡ left.Open → q'.levels ≡ q.levels →
+      IsKept remaining old new → new.levels ≡ old.levels → TakesHead (IsUnread remaining) old mid h → h ≢ header.Break →
       ((b x y : List ℕ) → IsUnread remaining old b → SpellsHeader x h → b ≡ x ++ y → IsUnread remaining mid y →
       IsUnread remaining new b) → GoesOn (StandsBefore remaining) SeqStands old new q q'
   goes-open old mid new q q' h is is' levels same kept took other back = (
@@ -449,9 +440,8 @@ wide-head n lt = (eight_bytes, lt, refl)
 module _ {S W : Type 0} (remaining : S → Option (List ℕ)) where
   pub goes-bytes : (old new : ByteSource S W) (q q' : ByteSeq) (v w : _) (n p : ℕ) → q.left ≡ left.Bytes v →
       q'.left ≡ left.Bytes w → q'.levels ≡ q.levels → into_iter_items v ≡ n ∷ into_iter_items w →
-      n < 18446744073709551616 →
-      new.decoder ≡ old.decoder → new.levels ≡ old.levels → new.pending ≡ Some (header.Positive n, p) →
-      GoesOn (StandsBefore remaining) SeqStands old new q q'
+      n < 18446744073709551616 → new.decoder ≡ old.decoder → new.levels ≡ old.levels →
+      new.pending ≡ Some (header.Positive n, p) → GoesOn (StandsBefore remaining) SeqStands old new q q'
   goes-bytes old new q q' v w n p is is' levels first lt same kept pushed = (
     λ l span its f (b, u, (s, r, stand, rest, e), lv, none) (lq, hold).
         let held : HoldsItems (left.Bytes v) span its = subst (λ k. HoldsItems k span its) is hold in

@@ -1,18 +1,13 @@
 -- A head that is looked at and not taken.
-use Rattle.std.proofs.Common.{◌≡◌, ℕ, List, ◌++◌, Option, Some, refl, sym, ap, ◌∙◌, subst}
-use Rattle.std.proofs.Common.{append_assoc, arith, length, length-append}
-use Rattle.ciborium_ll.specs.declared.header.Header.{Header}
-use Rattle.ciborium_ll.specs.Header.{SpellsHeader}
-use Rattle.ciborium_ll.specs.Item.{Item, simple}
-use Rattle.ciborium_value.specs.Ahead.{end_of}
-use Rattle.ciborium_value.specs.Sources.{Fault, RefusesToTell, TakesNothing, Tells}
-use Rattle.ciborium_value.specs.Given.{is_null}
-use Rattle.ciborium.specs.declared.de.byte_source.ByteSource.{ByteSource}
-use Rattle.ciborium.specs.inner.ByteSources.{IsUnread, StandsBefore, end_at, reader_of, tells_null}
-use Rattle.ciborium.specs.inner.FrontItems.{TakesHead, DeniesHead}
+use Rattle.std.proofs.Common.{◌≡◌, ℕ, List, ◌++◌, Option, Some, refl, sym, ap, ◌∙◌, subst, append_assoc, arith, length}
+use Rattle.std.proofs.Common.{length-append}
+use Rattle.ciborium_ll.specs.{declared.header.Header.Header, Header.SpellsHeader, Item.{Item, simple}}
+use Rattle.ciborium_value.specs.{Ahead.end_of, Sources.{Fault, RefusesToTell, TakesNothing, Tells}, Given.is_null}
+use Rattle.ciborium.specs.{declared.de.byte_source.ByteSource.ByteSource, inner.ByteSources.{IsUnread, StandsBefore}}
+use Rattle.ciborium.specs.{inner.ByteSources.{end_at, reader_of, tells_null}, inner.FrontItems.{TakesHead, DeniesHead}}
 use Rattle.ciborium.specs.inner.Unread.{IsRest}
-use Rattle.ciborium.proofs.Items.ItemHeads.{header_of, first-head, first-payload, same-head}
-use Rattle.ciborium.proofs.Items.TakenOnly.{IsKept, kept-reader, rest-end}
+use Rattle.ciborium.proofs.{Items.ItemHeads.{header_of, first-head, first-payload, same-head}, Items.TakenOnly.IsKept}
+use Rattle.ciborium.proofs.Items.TakenOnly.{kept-reader, rest-end}
 
 pub null-head : (h : Header) (i : Item) → header_of i ≡ h → tells_null h ≡ is_null i
 null-head h i e = subst (λ k. tells_null k ≡ is_null i) e (by i)
@@ -25,9 +20,8 @@ module _ {S W : Type 0} (remaining : S → Option (List ℕ)) (old mid new : Byt
     (took : TakesHead (IsUnread remaining) old mid h)
     (back : (b x y : List ℕ) → IsUnread remaining old b → SpellsHeader x h → b ≡ x ++ y → IsUnread remaining mid y →
     IsUnread remaining new b) where
-  pub tells : {A : Type 0} (tell : Item → A) (answer : A) → IsKept remaining old new →
-      new.levels ≡ old.levels → ((i : Item) → header_of i ≡ h → answer ≡ tell i) →
-      Tells (StandsBefore remaining) tell old new answer
+  pub tells : {A : Type 0} (tell : Item → A) (answer : A) → IsKept remaining old new → new.levels ≡ old.levels →
+      ((i : Item) → header_of i ≡ h → answer ≡ tell i) → Tells (StandsBefore remaining) tell old new answer
   tells tell answer kept levels said l i f (b, u, (s, r, sp, rest, e), is, ahead) =
       let (x, y, hd, g, un) = took b u in (
         said i (same-head s r x y i h sp hd (sym e ∙ g)).0,

@@ -1,25 +1,19 @@
 -- The encoding of a tree is its own alone, and the shortest spelling.
 use Rattle.std.proofs.Common.{◌≡◌, ℕ, ◌<◌, ◌⊎◌, inl, inr, List, [], ◌++◌, length, true, false, pos, negsuc, IsUtf8}
 use Rattle.std.proofs.Common.{refl, sym, ap, ◌∙◌, subst, arith, length-append, append-nil, nat_cmp}
-use Rattle.std.proofs.lemmas.Cmp.{tied_itself, nat_cmp_total}
-use Rattle.std.proofs.lemmas.Bool.Decides.{nat_tests}
-use Rattle.std.proofs.Math.Nat.{eq-or-lt_of_le}
-use Rattle.std.specs.Cmp.Lexicographic.{slice_cmp}
-use Rattle.std.specs.Ordering.{ordering_then}
-use Rattle.ciborium_ll.specs.Bytes.{AreBytes}
-use Rattle.ciborium_ll.specs.Head.{IsHead, shortest_head, IsSimple, simple_bytes}
-use Rattle.ciborium_ll.specs.Item.{items_count, pairs_count}
-use Rattle.ciborium_ll.specs.Spells.{IsDefiniteString, IsContainer, Spells, SpellsItems, SpellsPairs}
-use Rattle.ciborium_ll.proofs.ShortestHead.{none_is_shorter, no_other_is_as_short}
-use Rattle.ciborium_ll.proofs.UniqueSpelling.{one_item}
+use Rattle.std.proofs.{lemmas.Cmp.{tied_itself, nat_cmp_total}, lemmas.Bool.Decides.nat_tests, Math.Nat.eq-or-lt_of_le}
+use Rattle.std.specs.{Cmp.Lexicographic.slice_cmp, Ordering.ordering_then}
+use Rattle.ciborium_ll.specs.{Bytes.AreBytes, Head.{IsHead, shortest_head, IsSimple, simple_bytes}, Item.items_count}
+use Rattle.ciborium_ll.specs.{Item.pairs_count, Spells.{IsDefiniteString, IsContainer, Spells, SpellsItems}}
+use Rattle.ciborium_ll.specs.Spells.{SpellsPairs}
+use Rattle.ciborium_ll.proofs.{ShortestHead.{none_is_shorter, no_other_is_as_short}, UniqueSpelling.one_item}
 use Rattle.ciborium_ll.proofs.HeadOrder.{then_equal}
 use Rattle.ciborium_value.specs.Encoding.{item_of, items_of, pairs_of, encoding, items_bytes, pairs_bytes, written_tree}
-use Rattle.ciborium_value.specs.lemmas.ItemsOfTrees.{tree_is_written_as_itself}
-use Rattle.ciborium_value.specs.Tree.{Tree, integer, bytes, text, boolean, null, tag, array, map, Trees, no_trees, tree}
-use Rattle.ciborium_value.specs.Tree.{TreePairs, no_tree_pairs, tree_pair}
+use Rattle.ciborium_value.specs.{lemmas.ItemsOfTrees.tree_is_written_as_itself, Tree.{Tree, integer, bytes, text}}
+use Rattle.ciborium_value.specs.Tree.{boolean, null, tag, array, map, Trees, no_trees, tree, TreePairs, no_tree_pairs}
+use Rattle.ciborium_value.specs.Tree.{tree_pair}
 use Rattle.ciborium.specs.laws.EncodingLaws.{OneTree, EncodingSpells, OthersAreLonger, HeadsRise}
-use Rattle.ciborium_value.proofs.Orders.HeadsInOrder.{heads_decide}
-use Rattle.ciborium_value.proofs.Orders.TreeEncodings.{encoding-spells}
+use Rattle.ciborium_value.proofs.{Orders.HeadsInOrder.heads_decide, Orders.TreeEncodings.encoding-spells}
 
 pub encoding_spells : EncodingSpells
 encoding_spells = encoding-spells
@@ -54,14 +48,12 @@ head_longer major n s h = by_length (eq-or-lt_of_le (none_is_shorter s major n h
 
 string_longer : (major : ℕ) (IsAllowed : List ℕ → Type 0) (s b : List ℕ) → IsDefiniteString major IsAllowed s b →
     IsOrLonger (shortest_head major (length b) ++ b) s
-string_longer major IsAllowed s b (h, spelled, allowed, e) =
-    subst (IsOrLonger (shortest_head major (length b) ++ b)) (sym e)
-    (joined_longer (shortest_head major (length b)) b h b (head_longer major (length b) h spelled) (inl refl))
+string_longer major IsAllowed s b (h, spelled, allowed, e) = subst (IsOrLonger (shortest_head major (length b) ++ b))
+    (sym e) (joined_longer (shortest_head major (length b)) b h b (head_longer major (length b) h spelled) (inl refl))
 
 enclosed_longer : (major count : ℕ) (s r b : List ℕ) → IsContainer false major count s r → IsOrLonger b r →
     IsOrLonger (shortest_head major count ++ b) s
-enclosed_longer major count s r b (h, spelled, e) parts =
-    subst (IsOrLonger (shortest_head major count ++ b)) (sym e)
+enclosed_longer major count s r b (h, spelled, e) parts = subst (IsOrLonger (shortest_head major count ++ b)) (sym e)
     (joined_longer (shortest_head major count) b h r (head_longer major count h spelled) parts)
 
 simple_longer : (n : ℕ) (s : List ℕ) → n < 24 → IsSimple s n → IsOrLonger (simple_bytes n) s
@@ -77,9 +69,8 @@ mutual
   others_longer (boolean false) s h = simple_longer 20 s (omega arith) h
   others_longer (boolean true) s h = simple_longer 21 s (omega arith) h
   others_longer null s h = simple_longer 22 s (omega arith) h
-  others_longer (tag t v) s (h, r, spelled, content, e) =
-      subst (IsOrLonger (encoding (tag t v))) (sym e) (joined_longer (shortest_head 6 t) (encoding v) h r
-      (head_longer 6 t h spelled) (others_longer v r content))
+  others_longer (tag t v) s (h, r, spelled, content, e) = subst (IsOrLonger (encoding (tag t v))) (sym e)
+      (joined_longer (shortest_head 6 t) (encoding v) h r (head_longer 6 t h spelled) (others_longer v r content))
   others_longer (array vs) s h = enclosed_longer 4 (items_count (items_of vs)) s h.0 (items_bytes (items_of vs)) h.2
       (other_items_longer vs h.0 h.1)
   others_longer (map ps) s h = enclosed_longer 5 (pairs_count (pairs_of ps)) s h.0 (pairs_bytes (pairs_of ps)) h.2
@@ -88,16 +79,14 @@ mutual
   other_items_longer : (vs : Trees) (s : List ℕ) → SpellsItems s (items_of vs) →
       IsOrLonger (items_bytes (items_of vs)) s
   other_items_longer no_trees s h = inl h
-  other_items_longer (tree v vs) s (t, r, first, more, e) =
-      subst (IsOrLonger (items_bytes (items_of (tree v vs)))) (sym e)
-      (joined_longer (encoding v) (items_bytes (items_of vs)) t r (others_longer v t first)
+  other_items_longer (tree v vs) s (t, r, first, more, e) = subst (IsOrLonger (items_bytes (items_of (tree v vs))))
+      (sym e) (joined_longer (encoding v) (items_bytes (items_of vs)) t r (others_longer v t first)
       (other_items_longer vs r more))
 
   other_pairs_longer : (ps : TreePairs) (s : List ℕ) → SpellsPairs s (pairs_of ps) →
       IsOrLonger (pairs_bytes (pairs_of ps)) s
   other_pairs_longer no_tree_pairs s h = inl h
-  other_pairs_longer (tree_pair k v ps) s h =
-      subst (IsOrLonger (pairs_bytes (pairs_of (tree_pair k v ps)))) (sym h.6)
+  other_pairs_longer (tree_pair k v ps) s h = subst (IsOrLonger (pairs_bytes (pairs_of (tree_pair k v ps)))) (sym h.6)
       (joined_longer (encoding k) (encoding v ++ pairs_bytes (pairs_of ps)) h.0 (h.1 ++ h.2) (others_longer k h.0 h.3)
       (joined_longer (encoding v) (pairs_bytes (pairs_of ps)) h.1 h.2 (others_longer v h.1 h.4)
       (other_pairs_longer ps h.2 h.5)))
@@ -109,8 +98,7 @@ others_are_longer v s h spelled = others_longer v s spelled
 
 pub heads_rise : HeadsRise
 heads_rise major n k h l =
-    ap (λ b. slice_cmp nat_cmp b (shortest_head major k)) (sym (append-nil (shortest_head major n)))
-    ∙ ap (slice_cmp nat_cmp (shortest_head major n ++ [])) (sym (append-nil (shortest_head major k)))
-    ∙ heads_decide major major n k [] [] h l
-    ∙ then_equal (ordering_then (nat_cmp major major) (nat_cmp n k))
-    ∙ ap (λ o. ordering_then o (nat_cmp n k)) (tied_itself nat_cmp_total major)
+    ap (λ b. slice_cmp nat_cmp b (shortest_head major k)) (sym (append-nil (shortest_head major n))) ∙
+    ap (slice_cmp nat_cmp (shortest_head major n ++ [])) (sym (append-nil (shortest_head major k))) ∙
+    heads_decide major major n k [] [] h l ∙ then_equal (ordering_then (nat_cmp major major) (nat_cmp n k)) ∙
+    ap (λ o. ordering_then o (nat_cmp n k)) (tied_itself nat_cmp_total major)

@@ -2,17 +2,14 @@
 use Rattle.std.proofs.Common.{◌≡◌, ℕ, ◌⊎◌, List, [], ◌∷◌, Option, Some, None, option_map, Ok, Err, sym, ap, ◌∙◌, inl}
 use Rattle.std.proofs.Common.{inr, refl}
 use Rattle.std.specs.declared.io.Error.{Error as IoError}
-use Rattle.ciborium_ll.specs.Refusal as refusal
 use Rattle.ciborium_ll.specs.Refusal.{Refusal}
-use Rattle.ciborium_value.specs.Refuses.{Refuses}
-use Rattle.ciborium_value.specs.Spelling.{any}
-use Rattle.ciborium_value.specs.View.{tree_of}
+use Rattle.ciborium_value.specs.{Refuses.Refuses, Spelling.any, View.tree_of}
 use Rattle.ciborium_value.proofs.GoodItems.Outcome.{never_both, one_reading, one_refusal}
-use Rattle.ciborium.specs.declared.de.error.Error.{Error}
-use Rattle.ciborium.specs.declared.de.error.Error.TheVariants as errors
-use Rattle.ciborium.specs.laws.AnswerLaws.{refusal_of, OneAnswer}
+use Rattle.ciborium.specs.{declared.de.error.Error.Error, laws.AnswerLaws.{refusal_of, OneAnswer}}
 use Rattle.ciborium.specs.ValueAnswers.{IsFailed, IsRefusedBy, IsNamed, refusal_kind_of}
 use Rattle.ciborium.proofs.Readers.Outcomes.{only-fails}
+use Rattle.ciborium_ll.specs.Refusal as refusal
+use Rattle.ciborium.specs.declared.de.error.Error.TheVariants as errors
 
 -- an error is a failure, or names a refusal of which P holds
 names : (left : Option (List ℕ)) (e : Error IoError) (P : Refusal → Type 0) → IsRefusedBy left e P →
@@ -53,6 +50,5 @@ one_answer b l left right (Err e) (Err f) bytes h k = by (names left e (λ r. Re
         IsFailed left e ⊎ IsFailed right f ⊎ (refusal_of e ≡ refusal_of f)
     by (inl x) y = inl x
     by (inr x) (inl y) = inr (inl y)
-    by (inr (r, is, x)) (inr (s, at, y)) = inr (inr (is ∙ ap (λ z. Some z) (one_refusal any b 0 (Some l) r s bytes x y)
-        ∙
-        sym at))
+    by (inr (r, is, x))
+        (inr (s, at, y)) = inr (inr (is ∙ ap (λ z. Some z) (one_refusal any b 0 (Some l) r s bytes x y) ∙ sym at))

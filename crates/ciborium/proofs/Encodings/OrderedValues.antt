@@ -1,23 +1,14 @@
 -- Of values that a program holds, the order of ordered values is that of their encodings.
-use Rattle.std.proofs.Common.{◌≡◌, refl, sym, ap, ◌∙◌, Ordering, Equal, nat_cmp}
-use Rattle.std.specs.Cmp.Lexicographic.{slice_cmp}
-use Rattle.std.specs.Ordering.{ordering_then}
-use Rattle.ciborium_value.specs.Canonical.{key_order}
-use Rattle.ciborium_value.specs.OrderedValues.{ordered_value_cmp}
-use Rattle.ciborium_value.specs.Derived.{value_cmp}
-use Rattle.ciborium_value.specs.Encoding.{encoding, encoded_size}
-use Rattle.ciborium_value.specs.ProperTrees.{IsProperTree}
-use Rattle.ciborium_value.specs.Tree.{Tree}
-use Rattle.ciborium_value.specs.View.{tree_of}
+use Rattle.std.proofs.{Common.{◌≡◌, refl, sym, ap, ◌∙◌, Ordering, Equal, nat_cmp}, lemmas.Cmp.tied_itself}
+use Rattle.std.specs.{Cmp.Lexicographic.slice_cmp, Ordering.ordering_then}
+use Rattle.ciborium_value.specs.{Canonical.key_order, OrderedValues.ordered_value_cmp, Derived.value_cmp}
+use Rattle.ciborium_value.specs.{Encoding.{encoding, encoded_size}, ProperTrees.IsProperTree, Tree.Tree, View.tree_of}
 use Rattle.ciborium_value.specs.declared.key_order.KeyOrder.{KeyOrder}
 use Rattle.ciborium_value.specs.declared.key_order.KeyOrder.TheVariants.{LengthFirst, Bytewise}
-use Rattle.ciborium_value.specs.declared.tree.Value.{Value}
-use Rattle.ciborium_value.specs.lemmas.DerivedOrder.{value_cmp-is}
-use Rattle.ciborium_value.proofs.Orders.OrderedTrees.{tied_where_equal}
-use Rattle.ciborium.specs.laws.OrdersOfValues.{IsOrderOfTrees, TiesEqualOnes}
-use Rattle.ciborium_value.proofs.Orders.TotalOrders.{key_order_total}
-use Rattle.std.proofs.lemmas.Cmp.{tied_itself}
+use Rattle.ciborium_value.specs.{declared.tree.Value.Value, lemmas.DerivedOrder.value_cmp-is}
+use Rattle.ciborium_value.proofs.{Orders.OrderedTrees.tied_where_equal, Orders.TotalOrders.key_order_total}
 use Rattle.ciborium_value.proofs.Orders.TreeEncodings.{tied_encodings}
+use Rattle.ciborium.specs.laws.OrdersOfValues.{IsOrderOfTrees, TiesEqualOnes}
 use Rattle.ciborium.proofs.Encodings.EncodingLaws.{one_tree}
 
 -- a first order whose ties are those of the second decides
@@ -39,8 +30,7 @@ key_order-tied Bytewise v w h k e = one_tree v w h k (tied_encodings v w e)
 -- where values that are tied are one, it is the order of their trees
 pub ordered_value_cmp-is : (k : KeyOrder) (v w : Value) (o : Ordering) → (o ≡ Equal → tree_of v ≡ tree_of w) →
     o ≡ key_order k (tree_of v) (tree_of w) → o ≡ ordered_value_cmp k v w
-ordered_value_cmp-is k v w o ties e =
-    e ∙ first_decides (key_order k (tree_of v) (tree_of w)) (value_cmp v w)
+ordered_value_cmp-is k v w o ties e = e ∙ first_decides (key_order k (tree_of v) (tree_of w)) (value_cmp v w)
     (λ t. value_cmp-is v w ∙ (tied_where_equal (tree_of v) (tree_of w)).1 (ties (e ∙ t)))
 
 pub is_order_of_trees : (o : KeyOrder) → IsOrderOfTrees o

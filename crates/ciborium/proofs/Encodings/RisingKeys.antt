@@ -1,25 +1,15 @@
 -- The keys of a map by ordered values rise in the order of their encodings.
 use Rattle.std.proofs.Common.{false, Less, ◌≡◌, List, [], ◌∷◌, map, Result, Ok, Err, refl, sym, ◌∙◌, ap, subst}
-use Rattle.std.specs.List.Sorted.{IsStrictlySortedBy}
-use Rattle.std.specs.List.{AllByRecursion}
-use Rattle.std.specs.Map.{keys_of}
+use Rattle.std.specs.{List.Sorted.IsStrictlySortedBy, List.AllByRecursion, Map.keys_of}
 use Rattle.ciborium_ll.specs.Item.{Item}
-use Rattle.ciborium_value.specs.Canonical.{key_order}
-use Rattle.ciborium_value.specs.OrderedValues.{ordered_value_cmp}
-use Rattle.ciborium_value.specs.Encoding.{item_of}
-use Rattle.ciborium_value.specs.Places.{dictionary, pairs_from}
-use Rattle.ciborium_value.specs.ProperTrees.{IsProperTree}
-use Rattle.ciborium_value.specs.Sinks.{Named, and_then, all_named, contained, container_of, in_turn, named_value}
-use Rattle.ciborium_value.specs.View.{tree_of}
-use Rattle.ciborium_value.specs.WrittenItems.{IsWritten, PairsAreWritten}
-use Rattle.ciborium_value.specs.declared.kind.Kind.{Kind}
-use Rattle.ciborium_value.specs.declared.key_order.KeyOrder.{KeyOrder}
-use Rattle.ciborium_value.specs.declared.tree.Value.{Value}
-use Rattle.ciborium_value.proofs.Writing.Progress.{and_then_is}
-use Rattle.ciborium_value.proofs.Writing.ReadBack.{written_tree_is_proper}
+use Rattle.ciborium_value.specs.{Canonical.key_order, OrderedValues.ordered_value_cmp, Encoding.item_of}
+use Rattle.ciborium_value.specs.{Places.{dictionary, pairs_from}, ProperTrees.IsProperTree, Sinks.{Named, and_then}}
+use Rattle.ciborium_value.specs.{Sinks.{all_named, contained, container_of, in_turn, named_value}, View.tree_of}
+use Rattle.ciborium_value.specs.{WrittenItems.{IsWritten, PairsAreWritten}, declared.kind.Kind.Kind}
+use Rattle.ciborium_value.specs.{declared.key_order.KeyOrder.KeyOrder, declared.tree.Value.Value}
+use Rattle.ciborium_value.proofs.{Writing.Progress.and_then_is, Writing.ReadBack.written_tree_is_proper}
 use Rattle.ciborium.proofs.Encodings.OrderedValues.{is_order_of_trees}
-use Rattle.ciborium.specs.laws.OrdersOfValues.{KeysRise}
-use Rattle.ciborium.specs.Writes.{IsNamedWritten}
+use Rattle.ciborium.specs.{laws.OrdersOfValues.KeysRise, Writes.IsNamedWritten}
 
 -- the keys of a map that can be written are trees that a program can hold
 proper_keys : {A : Type 0} (f : A → Named) (es : List (Value × A)) (is : List Item) →
@@ -53,9 +43,8 @@ module _ (o : KeyOrder) where
   rising [] proper h = tt
   rising (v ∷ vs) proper h = (below_all v vs proper.0 proper.1 h.0, rising vs proper.1 h.1)
 
-  pub keys-rise : {A : Type 0} (f : A → Named) (es : List (Value × A)) →
-      IsStrictlySortedBy (ordered_value_cmp o) (keys_of es) →
-      IsNamedWritten (container_of dictionary (in_turn named_value f es)) → KeysRise o es
+  pub keys-rise : {A : Type 0} (f : A → Named) (es : List (Value × A)) → IsStrictlySortedBy (ordered_value_cmp o)
+      (keys_of es) → IsNamedWritten (container_of dictionary (in_turn named_value f es)) → KeysRise o es
   keys-rise f es h w = by (all_named (in_turn named_value f es)) refl w
     where
       by : (r : Result (List Item) Kind) → all_named (in_turn named_value f es) ≡ r →

@@ -1,22 +1,15 @@
 -- What an exit says behind the next head that is not a tag.
 use Rattle.std.proofs.Common.{Bool, ◌≡◌, ℕ, List, Option, Some, false, ap, subst}
-use Rattle.ciborium_ll.specs.declared.header.Header.{Header}
-use Rattle.ciborium_ll.specs.Item.{Item}
-use Rattle.ciborium_ll.specs.StringRefusal.{StringKind}
-use Rattle.ciborium_value.specs.Sources.{Fault, TakesOnly, of_kind}
-use Rattle.ciborium_value.specs.Given.{Given, gives, nests, outcome, refuses}
+use Rattle.ciborium_ll.specs.{declared.header.Header.Header, Item.Item, StringRefusal.StringKind}
+use Rattle.ciborium_value.specs.{Sources.{Fault, TakesOnly, of_kind}, Given.{Given, gives, nests, outcome, refuses}}
 use Rattle.ciborium_value.specs.declared.kind.Kind.{Kind}
-use Rattle.ciborium.specs.declared.de.byte_source.ByteSource.{ByteSource}
-use Rattle.ciborium.specs.declared.de.error.Error.{Error}
-use Rattle.ciborium.specs.declared.de.error.Error.TheVariants.{RecursionLimitExceeded}
-use Rattle.ciborium.specs.inner.ByteSources.{HasTaken, IsUnread, end_at, fault_at}
-use Rattle.ciborium.specs.inner.FrontItems.{Denies, DeniesItem, Reads}
-use Rattle.ciborium.specs.inner.Skips.{AreSkipped, TakesBare, under}
-use Rattle.ciborium.specs.inner.StringContents.{DeniesContent, TakesContent, head_of, string_item}
-use Rattle.ciborium.proofs.Items.ItemHeads.{header_of}
-use Rattle.ciborium.proofs.Items.SkippedTags.{denies-bare, denies-nested, denies-of-item}
-use Rattle.ciborium.proofs.Items.TakenOnly.{same-end}
-use Rattle.ciborium.proofs.Payloads.StringPayloads.{denies-string, reads-string}
+use Rattle.ciborium.specs.{declared.de.byte_source.ByteSource.ByteSource, declared.de.error.Error.Error}
+use Rattle.ciborium.specs.{declared.de.error.Error.TheVariants.RecursionLimitExceeded, inner.ByteSources.HasTaken}
+use Rattle.ciborium.specs.{inner.ByteSources.{IsUnread, end_at, fault_at}, inner.FrontItems.{Denies, DeniesItem, Reads}}
+use Rattle.ciborium.specs.{inner.Skips.{AreSkipped, TakesBare, under}, inner.StringContents.DeniesContent}
+use Rattle.ciborium.specs.inner.StringContents.{TakesContent, head_of, string_item}
+use Rattle.ciborium.proofs.{Items.ItemHeads.header_of, Items.SkippedTags.{denies-bare, denies-nested, denies-of-item}}
+use Rattle.ciborium.proofs.{Items.TakenOnly.same-end, Payloads.StringPayloads.{denies-string, reads-string}}
 
 module _ {S W A : Type 0} (remaining : S → Option (List ℕ)) (old : ByteSource S W) (taken : Given A) where
   abbrev pub IsDenied : Fault → Type 0
@@ -36,8 +29,7 @@ module _ {S W A : Type 0} (remaining : S → Option (List ℕ)) (old : ByteSourc
 
     -- no level is left for what it begins
     pub nested-denied : (can_fail : Bool) (new : ByteSource S W) (k : Header) → h ≡ k → (e : Error Unit) →
-        e ≡ RecursionLimitExceeded →
-        ((ts : List ℕ) (i : Item) → AreSkipped false ts → header_of i ≡ k →
+        e ≡ RecursionLimitExceeded → ((ts : List ℕ) (i : Item) → AreSkipped false ts → header_of i ≡ k →
         outcome (Some old.levels) (taken (under ts i)) ≡ nests) → IsDenied (fault_at can_fail remaining new e)
     nested-denied can_fail new k is e err nested = denies-nested (IsUnread remaining) false k (Some old.levels) taken
         (end_at remaining) old mid (fault_at can_fail remaining new e) (ap (fault_at can_fail remaining new) err)
@@ -49,13 +41,11 @@ module _ {S W A : Type 0} (remaining : S → Option (List ℕ)) (old : ByteSourc
           DeniesContent (IsUnread remaining mid) (end_at remaining mid) kind len fault → IsDenied fault
       string-denied only fault content =
           denies-string (IsUnread remaining) (end_at remaining) (Some old.levels) taken old mid kind len fault
-          (same-end remaining old mid only)
-          (subst (TakesBare (IsUnread remaining) old mid false) is head) content
+          (same-end remaining old mid only) (subst (TakesBare (IsUnread remaining) old mid false) is head) content
 
       -- it was taken, and the string gives v
-      pub string-read : (new : ByteSource S W) (payload : List ℕ) (v : A) →
-          TakesContent (IsUnread remaining mid) (IsUnread remaining new) kind len payload →
-          ((ts : List ℕ) → AreSkipped false ts →
+      pub string-read : (new : ByteSource S W) (payload : List ℕ) (v : A) → TakesContent (IsUnread remaining mid)
+          (IsUnread remaining new) kind len payload → ((ts : List ℕ) → AreSkipped false ts →
           outcome (Some old.levels) (taken (under ts (string_item kind len payload))) ≡ gives v) →
           Reads (IsUnread remaining) old new (Some old.levels) taken v
       string-read new payload v content give = reads-string (IsUnread remaining) old mid new kind len (Some old.levels)

@@ -1,23 +1,17 @@
 -- Numbers, booleans and null behind skipped tags.
 use Rattle.std.proofs.Common.{◌≡◌, ℕ, Bool, true, false, List, None, Result, Ok, Err, refl, sym, ap, ◌∙◌, subst, ◌==◌}
-use Rattle.std.proofs.Common.{arith}
-use Rattle.std.proofs.lemmas.Bool.Decides.{nat_tests}
-use Rattle.ciborium_ll.specs.declared.header.Header.{Header}
-use Rattle.ciborium_ll.specs.declared.header.Header.TheVariants as header
-use Rattle.ciborium_ll.specs.Item.{Item, tag, simple}
-use Rattle.ciborium_value.specs.Meaning.{is_bignum_tag}
-use Rattle.ciborium_value.specs.Nesting.{Limit}
-use Rattle.ciborium_value.specs.Sources.{Fault, IsFaultOf}
-use Rattle.ciborium_value.specs.Given.{gives, refuses, outcome, settled, untagged, number_of, bignum_of, bare_boolean}
+use Rattle.std.proofs.{Common.arith, lemmas.Bool.Decides.nat_tests}
+use Rattle.ciborium_ll.specs.{declared.header.Header.Header, Item.{Item, tag, simple}}
+use Rattle.ciborium_value.specs.{Meaning.is_bignum_tag, Nesting.Limit, Sources.{Fault, IsFaultOf}, Given.gives}
+use Rattle.ciborium_value.specs.Given.{refuses, outcome, settled, untagged, number_of, bignum_of, bare_boolean}
 use Rattle.ciborium_value.specs.Given.{bare_unit, boolean_of, is_null_simple, given_bignum, given_boolean}
-use Rattle.ciborium_value.specs.Given.{given_integer, given_unit, with_sign}
-use Rattle.ciborium_value.specs.declared.kind.Kind.{Kind}
+use Rattle.ciborium_value.specs.{Given.{given_integer, given_unit, with_sign}, declared.kind.Kind.Kind}
 use Rattle.ciborium_value.proofs.Sources.Sequences.{fault_map}
-use Rattle.ciborium_value.specs.declared.kind.Kind.TheVariants as kinds
-use Rattle.ciborium.specs.inner.FrontItems.{Reads, Denies}
-use Rattle.ciborium.specs.inner.Skips.{under, AreSkipped, IsBare, TakesBare}
+use Rattle.ciborium.specs.{inner.FrontItems.{Reads, Denies}, inner.Skips.{under, AreSkipped, IsBare, TakesBare}}
 use Rattle.ciborium.proofs.Items.ItemHeads.{header_of, tag-front, by-shape, no-bare-tag}
 use Rattle.ciborium.proofs.Items.SkippedTags.{ReadsBehind, number-under, untagged-under}
+use Rattle.ciborium_ll.specs.declared.header.Header.TheVariants as header
+use Rattle.ciborium_value.specs.declared.kind.Kind.TheVariants as kinds
 
 -- ---- integers
 
@@ -70,9 +64,8 @@ module _ {S : Type 0} (IsUnread : S → List ℕ → Type 0) (t : ℕ) (l : Limi
       number-under ts (tag t k) all))) blamed
 
 pub integer-other : (l : Limit) (h : Header) → ((n : ℕ) → h ≡ header.Positive n → ⊥) →
-    ((n : ℕ) → h ≡ header.Negative n → ⊥) → ((n : ℕ) → h ≡ header.Tag n → ⊥) →
-    (ts : List ℕ) (i : Item) → AreSkipped true ts → header_of i ≡ h →
-    outcome l (given_integer (under ts i)) ≡ refuses kinds.Integer
+    ((n : ℕ) → h ≡ header.Negative n → ⊥) → ((n : ℕ) → h ≡ header.Tag n → ⊥) → (ts : List ℕ) (i : Item) →
+    AreSkipped true ts → header_of i ≡ h → outcome l (given_integer (under ts i)) ≡ refuses kinds.Integer
 integer-other l h p q r ts i all e = ap settled (number-under ts i all ∙
     by-shape (λ j. number_of j ≡ Err kinds.Integer) h (λ n k. absurd (p n k)) (λ n k. absurd (q n k))
     (λ o b k. refl) (λ o b k. refl) (λ o is k. refl) (λ o ps k. refl) (λ n k. refl) (λ raw k. refl)
@@ -84,10 +77,9 @@ pub boolean-gives : (l : Limit) (n : ℕ) (v : Bool) → boolean_of n ≡ Ok v �
     outcome l (given_boolean (under ts (simple n))) ≡ gives v
 boolean-gives l n v e ts all = ap settled (ap bare_boolean (untagged-under ts (simple n)) ∙ e)
 
-pub boolean-other : (l : Limit) (h : Header) → IsBare false h →
-    ((n : ℕ) → h ≡ header.Simple n → boolean_of n ≡ Err kinds.Bool) →
-    (ts : List ℕ) (i : Item) → AreSkipped false ts → header_of i ≡ h →
-    outcome l (given_boolean (under ts i)) ≡ refuses kinds.Bool
+pub boolean-other : (l : Limit) (h : Header) →
+    IsBare false h → ((n : ℕ) → h ≡ header.Simple n → boolean_of n ≡ Err kinds.Bool) → (ts : List ℕ) (i : Item) →
+    AreSkipped false ts → header_of i ≡ h → outcome l (given_boolean (under ts i)) ≡ refuses kinds.Bool
 boolean-other l h bare nope ts i all e = ap settled (ap bare_boolean (untagged-under ts i) ∙
     by-shape (λ j. bare_boolean (untagged j) ≡ Err kinds.Bool) h (λ n k. refl) (λ n k. refl) (λ o b k. refl)
     (λ o b k. refl) (λ o is k. refl) (λ o ps k. refl) nope (λ raw k. refl) (λ t j k. no-bare-tag h t bare k) i e)
@@ -105,10 +97,9 @@ pub unit-gives : (l : Limit) (n : ℕ) → is_null_simple n ≡ true → (ts : L
     outcome l (given_unit (under ts (simple n))) ≡ gives tt
 unit-gives l n e ts all = ap (λ j. settled (bare_unit j)) (untagged-under ts (simple n)) ∙ rw e refl
 
-pub unit-other : (l : Limit) (h : Header) → IsBare false h →
-    ((n : ℕ) → h ≡ header.Simple n → is_null_simple n ≡ false) →
-    (ts : List ℕ) (i : Item) → AreSkipped false ts → header_of i ≡ h →
-    outcome l (given_unit (under ts i)) ≡ refuses kinds.Unit
+pub unit-other : (l : Limit) (h : Header) →
+    IsBare false h → ((n : ℕ) → h ≡ header.Simple n → is_null_simple n ≡ false) → (ts : List ℕ) (i : Item) →
+    AreSkipped false ts → header_of i ≡ h → outcome l (given_unit (under ts i)) ≡ refuses kinds.Unit
 unit-other l h bare nope ts i all e = ap settled (ap bare_unit (untagged-under ts i) ∙
     by-shape (λ j. bare_unit (untagged j) ≡ Err kinds.Unit) h (λ n k. refl) (λ n k. refl) (λ o b k. refl)
     (λ o b k. refl) (λ o is k. refl) (λ o ps k. refl) (λ n k. let no = nope n k in rw no refl) (λ raw k. refl)

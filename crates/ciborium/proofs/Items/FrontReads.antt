@@ -3,37 +3,28 @@ use Rattle.std.proofs.Common.{◌≡◌, ℕ, suc, ◌+◌, ◌-◌, ◌*◌, ad
 use Rattle.std.proofs.Common.{false, ◌&&◌, List, [], ◌∷◌, ◌++◌, length, Option, Some, None, refl, sym, ap, ◌∙◌, subst}
 use Rattle.std.proofs.Common.{arith, ne_eqb, ◌⊎◌, inl, inr, length-append, ltb-true, ltb-false, le-ltb, Err}
 use Rattle.std.proofs.lemmas.Nat.{div-mul-add, mod-mul-add}
-use Rattle.ciborium_ll.specs.declared.header.Header.{Header}
-use Rattle.ciborium_ll.specs.declared.header.Header.TheVariants as header
-use Rattle.ciborium_ll.specs.declared.header.Error.{Error as LlError}
-use Rattle.ciborium_ll.specs.declared.header.Error.TheVariants as ll
-use Rattle.ciborium_ll.specs.declared.decoder.Decoder.{Decoder}
-use Rattle.ciborium_ll.specs.Accesses.{HasEnded, IsUsedUp, left_at_failure}
-use Rattle.ciborium_ll.specs.Bytes.{greatest_offset}
-use Rattle.ciborium_ll.specs.Decoding.{IsAhead, IsAheadBy, PullsTo, Takes, left_of}
-use Rattle.ciborium_ll.specs.Head.{initial_byte}
-use Rattle.ciborium_ll.specs.Header.{SpellsHeader, announced_length}
-use Rattle.ciborium_ll.specs.ReaderSteps as reading
-use Rattle.ciborium_ll.specs.ReaderSteps.{IsFillTaken, IsHeadTaken}
-use Rattle.ciborium_ll.specs.Refusal.{Refusal, io, syntax, too_long, argument_length, payload_length, is_reserved}
-use Rattle.ciborium_ll.specs.Refusal.{is_low_simple, initial_refusal, HeadRefuses, IsUsable, head_refusal}
+use Rattle.ciborium_ll.specs.{declared.header.Header.Header, declared.header.Error.Error as LlError}
+use Rattle.ciborium_ll.specs.{declared.decoder.Decoder.Decoder, Accesses.{HasEnded, IsUsedUp, left_at_failure}}
+use Rattle.ciborium_ll.specs.{Bytes.greatest_offset, Decoding.{IsAhead, IsAheadBy, PullsTo, Takes, left_of}}
+use Rattle.ciborium_ll.specs.{Head.initial_byte, Header.{SpellsHeader, announced_length}, ReaderSteps.IsFillTaken}
+use Rattle.ciborium_ll.specs.{ReaderSteps.IsHeadTaken, Refusal.{Refusal, io, syntax, too_long, argument_length}}
+use Rattle.ciborium_ll.specs.Refusal.{payload_length, is_reserved, is_low_simple, initial_refusal, HeadRefuses}
+use Rattle.ciborium_ll.specs.Refusal.{IsUsable, head_refusal}
 use Rattle.ciborium_ll.proofs.HeadAnswers.{header-begins, header-fits, Begins, Facts, head-some}
-use Rattle.ciborium_ll.proofs.MoreBytes.{payload_length-more}
-use Rattle.ciborium_ll.proofs.OneHeader.{one_header_at_front}
-use Rattle.ciborium_ll.proofs.UsableHeads.{and_false}
+use Rattle.ciborium_ll.proofs.{MoreBytes.payload_length-more, OneHeader.one_header_at_front, UsableHeads.and_false}
 use Rattle.ciborium_value.specs.Sources.{IsGrantedFault, IsOutsideFault}
-use Rattle.ciborium.specs.declared.de.byte_source.ByteSource.{ByteSource}
-use Rattle.ciborium.specs.declared.de.error.Error.{Error}
+use Rattle.ciborium.specs.{declared.de.byte_source.ByteSource.ByteSource, declared.de.error.Error.Error}
+use Rattle.ciborium.specs.{Errors.{HasEndedBy, fault_of, from_ll, io_fault}, inner.ByteSources.IsHeadCounted}
+use Rattle.ciborium.specs.inner.ByteSources.{IsUnreadBy, bytes_weight, pending_head_weight, head_weight, weight_left}
+use Rattle.ciborium_ll.specs.declared.header.Header.TheVariants as header
+use Rattle.ciborium_ll.specs.declared.header.Error.TheVariants as ll
+use Rattle.ciborium_ll.specs.ReaderSteps as reading
 use Rattle.ciborium.specs.declared.de.error.Error.TheVariants as errors
-use Rattle.ciborium.specs.Errors.{HasEndedBy, fault_of, from_ll, io_fault}
-use Rattle.ciborium.specs.inner.ByteSources.{IsHeadCounted, IsUnreadBy, bytes_weight, pending_head_weight, head_weight}
-use Rattle.ciborium.specs.inner.ByteSources.{weight_left}
 
 -- ---- a head that is spelled is refused only as too long
 
-initial-only : (t u v w : Bool) (p : ℕ) (e : Refusal) → t ≡ false → v ≡ false →
-    cond t (Some (syntax p)) (cond u (Some too_long) (cond v (Some io) (cond w (Some too_long) None))) ≡ Some e →
-    e ≡ too_long
+initial-only : (t u v w : Bool) (p : ℕ) (e : Refusal) → t ≡ false → v ≡ false → cond t (Some (syntax p))
+    (cond u (Some too_long) (cond v (Some io) (cond w (Some too_long) None))) ≡ Some e → e ≡ too_long
 initial-only true u v w p e f g h = cc
 initial-only false true v w p e f g h = cc
 initial-only false false true w p e f g h = cc
@@ -102,8 +93,7 @@ head-passes x y h p s r = by (header-begins x h s)
         (initial_refusal (i / 32) (i % 32) (c ++ y) p) p
         (and_false _ _ (low-more m a c y f.below f.size f.high)) t)
       where
-        from : (m a : ℕ) (c : List ℕ) (f : Facts m a c (announced_length h)) →
-            length x ≡ suc (length c) →
+        from : (m a : ℕ) (c : List ℕ) (f : Facts m a c (announced_length h)) → length x ≡ suc (length c) →
             (ltb p greatest_offset ≡ false) ⊎ (initial_refusal (initial_byte m a / 32) (initial_byte m a % 32) (c ++ y)
             p ≡ Some too_long) → greatest_offset < p + length x + announced_length h
         from m a c f size (inl past) = let over = ltb-false p greatest_offset past in omega (arith, over, size)

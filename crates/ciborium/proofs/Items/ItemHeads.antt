@@ -1,18 +1,15 @@
 -- The head with which an item begins, and what stands behind it.
 use Rattle.std.proofs.Common.{◌≡◌, ℕ, suc, Bool, true, false, List, [], ◌∷◌, ◌++◌, length, Option, Some, None, refl}
 use Rattle.std.proofs.Common.{sym, ap, ◌∙◌, subst, append_assoc, append-nil, ◌≤◌, arith}
-use Rattle.ciborium_ll.specs.declared.header.Header.{Header}
-use Rattle.ciborium_ll.specs.declared.header.Header.TheVariants as header
-use Rattle.ciborium_ll.specs.Head.{open_byte, break_byte}
-use Rattle.ciborium_ll.specs.Header.{SpellsHeader, announced_length}
-use Rattle.ciborium_ll.specs.Item as items
-use Rattle.ciborium_ll.specs.Item.{Item, Items, Pairs, unsigned, negative, bytes, text, array, tag, simple, float}
-use Rattle.ciborium_ll.specs.Item.{items_count, pairs_count}
-use Rattle.ciborium_ll.specs.Spells.{Spells, SpellsItems, SpellsPairs}
+use Rattle.ciborium_ll.specs.{declared.header.Header.Header, Head.{open_byte, break_byte}, Header.SpellsHeader}
+use Rattle.ciborium_ll.specs.{Header.announced_length, Item.{Item, Items, Pairs, unsigned, negative, bytes, text}}
+use Rattle.ciborium_ll.specs.{Item.{array, tag, simple, float, items_count, pairs_count}, Spells.{Spells, SpellsItems}}
+use Rattle.ciborium_ll.specs.Spells.{SpellsPairs}
 use Rattle.ciborium_ll.proofs.OneHeader.{one_header_at_front}
 use Rattle.ciborium_value.specs.Given.{unpack, unpack_pairs}
-use Rattle.ciborium.specs.inner.Skips.{IsBare}
-use Rattle.ciborium.specs.inner.Unread.{AreSpelled, SpellsPair}
+use Rattle.ciborium.specs.{inner.Skips.IsBare, inner.Unread.{AreSpelled, SpellsPair}}
+use Rattle.ciborium_ll.specs.declared.header.Header.TheVariants as header
+use Rattle.ciborium_ll.specs.Item as items
 
 abbrev pub size_of : Bool → ℕ → Option ℕ
 size_of false n = Some n
@@ -124,10 +121,9 @@ unpacked-count items.no_items = refl
 unpacked-count (items.item i is) = ap suc (unpacked-count is)
 
 -- behind the head of a definite array its items stand
-pub counted-front : (s r x y : List ℕ) (i : Item) (n : ℕ) → Spells s i → SpellsHeader x (header.Array (Some n)) →
-    s ++ r ≡ x ++ y →
-    (is : Items) × (c : List ℕ) × (i ≡ array false is) × AreSpelled Spells c (unpack is) × (length (unpack is) ≡ n) ×
-    (y ≡ c ++ r)
+pub counted-front : (s r x y : List ℕ) (i : Item) (n : ℕ) →
+    Spells s i → SpellsHeader x (header.Array (Some n)) → s ++ r ≡ x ++ y → (is : Items) ×
+    (c : List ℕ) × (i ≡ array false is) × AreSpelled Spells c (unpack is) × (length (unpack is) ≡ n) × (y ≡ c ++ r)
 counted-front s r x y i n sp hd e = by i sp (same-head s r x y i (header.Array (Some n)) sp hd e).0
   where
     by : (i : Item) → Spells s i → header_of i ≡ header.Array (Some n) → (is : Items) × (c : List ℕ) ×
@@ -174,10 +170,9 @@ unpacked-pairs-count items.no_pairs = refl
 unpacked-pairs-count (items.pair k v ps) = ap suc (unpacked-pairs-count ps)
 
 -- behind the head of a definite map its pairs stand
-pub counted-pairs-front : (s r x y : List ℕ) (i : Item) (n : ℕ) → Spells s i → SpellsHeader x (header.Map (Some n)) →
-    s ++ r ≡ x ++ y →
-    (ps : Pairs) × (c : List ℕ) × (i ≡ items.map false ps) × AreSpelled SpellsPair c (unpack_pairs ps) ×
-    (length (unpack_pairs ps) ≡ n) × (y ≡ c ++ r)
+pub counted-pairs-front : (s r x y : List ℕ) (i : Item) (n : ℕ) →
+    Spells s i → SpellsHeader x (header.Map (Some n)) → s ++ r ≡ x ++ y → (ps : Pairs) × (c : List ℕ) ×
+    (i ≡ items.map false ps) × AreSpelled SpellsPair c (unpack_pairs ps) × (length (unpack_pairs ps) ≡ n) × (y ≡ c ++ r)
 counted-pairs-front s r x y i n sp hd e = by i sp (same-head s r x y i (header.Map (Some n)) sp hd e).0
   where
     by : (i : Item) → Spells s i → header_of i ≡ header.Map (Some n) → (ps : Pairs) × (c : List ℕ) ×

@@ -1,24 +1,20 @@
 -- An item that is passed over within a limit: what may stand within the levels that are left, and tags that fold.
 use Rattle.std.proofs.Common.{◌≡◌, ℕ, suc, ◌≤◌, max, List, [], ◌∷◌, ◌++◌, length, Option, Some, None, Bool, true, false}
-use Rattle.std.proofs.Common.{refl, sym, ap, subst, arith, cond, leb, option_map, append_assoc}
-use Rattle.std.proofs.lemmas.Bool.{le-leb, leb-true}
-use Rattle.ciborium_ll.specs.declared.header.Header.{Header}
-use Rattle.ciborium_ll.specs.declared.header.Header.TheVariants as heads
-use Rattle.ciborium_ll.specs.declared.levels.Level.{Level}
-use Rattle.ciborium_ll.specs.declared.levels.Level.TheVariants.{Items}
-use Rattle.ciborium_ll.specs.Header.{SpellsHeader, announced_length}
-use Rattle.ciborium_ll.specs.Head.{IsHead}
-use Rattle.ciborium_ll.specs.Item as items
-use Rattle.ciborium_ll.specs.Item.{Item, bytes, array, tag}
-use Rattle.ciborium_ll.specs.Levels.{IsPayloadOf, behind_head, behind_item}
-use Rattle.ciborium_ll.proofs.LevelFronts.{behind-open, behind-to}
-use Rattle.ciborium_ll.proofs.LevelHeads.{TakesLevel, to-behind}
+use Rattle.std.proofs.{Common.{refl, sym, ap, subst, arith, cond, leb, option_map, append_assoc}, lemmas.Bool.le-leb}
+use Rattle.std.proofs.lemmas.Bool.{leb-true}
+use Rattle.ciborium_ll.specs.{declared.header.Header.Header, declared.levels.Level.Level}
+use Rattle.ciborium_ll.specs.{declared.levels.Level.TheVariants.Items, Header.{SpellsHeader, announced_length}}
+use Rattle.ciborium_ll.specs.{Head.IsHead, Item.{Item, bytes, array, tag}, Levels.{IsPayloadOf, behind_head}}
+use Rattle.ciborium_ll.specs.Levels.{behind_item}
+use Rattle.ciborium_ll.proofs.{LevelFronts.{behind-open, behind-to}, LevelHeads.{TakesLevel, to-behind}}
 use Rattle.ciborium_ll.proofs.LevelsTo.{Standing, IsFlat, around, done, item-to}
-use Rattle.ciborium_value.specs.lemmas.ReadsBackParts.{within-left, within-right}
-use Rattle.ciborium_value.specs.Meaning.{folding_bytes, short_string, is_bignum_tag}
-use Rattle.ciborium_value.specs.Nesting.{Limit, IsWithin, nesting, items_nesting, pairs_nesting, tag_nesting}
+use Rattle.ciborium_value.specs.{lemmas.ReadsBackParts.{within-left, within-right}, Meaning.folding_bytes}
+use Rattle.ciborium_value.specs.{Meaning.{short_string, is_bignum_tag}, Nesting.{Limit, IsWithin, nesting}}
+use Rattle.ciborium_value.specs.Nesting.{items_nesting, pairs_nesting, tag_nesting}
 use Rattle.ciborium_value.proofs.GoodItems.Parts.{within-max, within-zero}
 use Rattle.ciborium.specs.inner.PassedOver.{left_inside, takes_one, LevelsTo, HasRoom}
+use Rattle.ciborium_ll.specs.declared.header.Header.TheVariants as heads
+use Rattle.ciborium_ll.specs.Item as items
 
 -- ---- nesting within the levels that are left
 
@@ -141,9 +137,8 @@ module _ (l : Limit) where
       by false d e f = absurd cc
 
   pub to-folded : (t k : ℕ) (h x p y z : List ℕ) (levels next : List Level) → SpellsHeader h (heads.Tag t) →
-      is_bignum_tag t ≡ true → SpellsHeader x (heads.Bytes (Some k)) → k ≤ 16 →
-      IsPayloadOf (heads.Bytes (Some k)) p → behind_item levels ≡ Some next → LevelsTo l next y z →
-      LevelsTo l levels (h ++ (x ++ (p ++ y))) z
+      is_bignum_tag t ≡ true → SpellsHeader x (heads.Bytes (Some k)) → k ≤ 16 → IsPayloadOf (heads.Bytes (Some k)) p →
+      behind_item levels ≡ Some next → LevelsTo l next y z → LevelsTo l levels (h ++ (x ++ (p ++ y))) z
   to-folded t k h x p y z levels next hd big xd le content behind ends =
       let short : length p ≤ 16 = subst (λ n. n ≤ 16) (sym content.0) le in
       item-to (within l) levels next (h ++ (x ++ (p ++ y))) y z behind (

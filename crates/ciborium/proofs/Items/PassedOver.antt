@@ -1,31 +1,23 @@
 -- An item that is passed over head by head: what is said of each, and then of the item.
 use Rattle.std.proofs.Common.{◌≡◌, ℕ, suc, ◌+◌, ◌≤◌, ◌<◌, Bool, true, false, List, [], ◌∷◌, ◌++◌, length, length-append}
 use Rattle.std.proofs.Common.{Option, Some, None, refl, sym, ap, ◌∙◌, subst, arith, ltb, ltb-true, ltb-false}
-use Rattle.ciborium_ll.specs.declared.header.Header.{Header}
-use Rattle.ciborium_ll.specs.declared.header.Header.TheVariants as heads
-use Rattle.ciborium_ll.specs.declared.levels.Level.{Level}
-use Rattle.ciborium_ll.specs.declared.levels.Level.TheVariants.{Items}
-use Rattle.ciborium_ll.specs.declared.levels.Step.{Step}
-use Rattle.ciborium_ll.specs.declared.levels.Step.TheVariants as step
-use Rattle.ciborium_ll.specs.Header.{SpellsHeader}
-use Rattle.ciborium_ll.specs.Item.{Item}
-use Rattle.ciborium_ll.specs.Levels.{IsPayloadOf, behind_head, behind_item, incomplete, levels_by, opened}
+use Rattle.ciborium_ll.specs.{declared.header.Header.Header, declared.levels.Level.Level}
+use Rattle.ciborium_ll.specs.{declared.levels.Level.TheVariants.Items, declared.levels.Step.Step, Header.SpellsHeader}
+use Rattle.ciborium_ll.specs.{Item.Item, Levels.{IsPayloadOf, behind_head, behind_item, incomplete, levels_by, opened}}
 use Rattle.ciborium_ll.specs.Spells.{Spells}
-use Rattle.ciborium_ll.proofs.LevelFronts.{AreOpen, are-open, behind-to, front, misplaced}
-use Rattle.ciborium_ll.proofs.LevelHeads.{opened-inner}
+use Rattle.ciborium_ll.proofs.{LevelFronts.{AreOpen, are-open, behind-to, front, misplaced}, LevelHeads.opened-inner}
 use Rattle.ciborium_ll.proofs.LevelsTo.{around, behind-around, done, from-incomplete, longer, not-done, start, started}
-use Rattle.ciborium_ll.proofs.LevelsTo.{to-incomplete}
-use Rattle.ciborium_ll.proofs.OneHeader.{one_header_at_front}
-use Rattle.ciborium_value.specs.Nesting.{nesting}
-use Rattle.ciborium_value.specs.Sources.{Fault, IsFaultOf, IsOutsideFault, of_kind, of_nesting}
+use Rattle.ciborium_ll.proofs.{LevelsTo.to-incomplete, OneHeader.one_header_at_front}
+use Rattle.ciborium_value.specs.{Nesting.nesting, Sources.{Fault, IsFaultOf, IsOutsideFault, of_kind, of_nesting}}
 use Rattle.ciborium_value.specs.Given.{gives, nests, outcome, given_skip}
 use Rattle.ciborium_value.proofs.Sources.SkippedItems.{skip-gives, skip-nests}
-use Rattle.ciborium.specs.inner.FrontItems.{DeniesHead}
-use Rattle.ciborium.specs.inner.PassedOver.{LevelsTo, HasRoom, PassesHeads}
-use Rattle.ciborium.specs.inner.PassedOver.{IsLevelFault, DeniesLevels, limit_if, takes_one}
-use Rattle.ciborium.specs.inner.PassedOver.{IsBignumBehind, TakesBignum, DeniesBignum, TakesPayload, DeniesPayload}
+use Rattle.ciborium.specs.{inner.FrontItems.DeniesHead, inner.PassedOver.{LevelsTo, HasRoom, PassesHeads, IsLevelFault}}
+use Rattle.ciborium.specs.inner.PassedOver.{DeniesLevels, limit_if, takes_one, IsBignumBehind, TakesBignum}
+use Rattle.ciborium.specs.inner.PassedOver.{DeniesBignum, TakesPayload, DeniesPayload}
 use Rattle.ciborium.proofs.Items.PassedItems.{announced, folded, to-folded, to-within, within}
 use Rattle.ciborium.proofs.Items.PassedRoom.{no-room, no-room-tag}
+use Rattle.ciborium_ll.specs.declared.header.Header.TheVariants as heads
+use Rattle.ciborium_ll.specs.declared.levels.Step.TheVariants as step
 
 pub open-levels : (level : Level) (around : List Level) → incomplete (level ∷ around) ≡ level ∷ around →
     AreOpen (level ∷ around)
@@ -127,8 +119,7 @@ pub string-denied : (P Q : List ℕ → Type 0) (all ahead : ℕ) (header conten
     DeniesPayload Q ahead content fault → DeniesBignum P all header fault
 string-denied P Q all ahead header content t fault is takes same denied y z end levels u to fits =
     outside-level end fault _ (payload-outside P Q all ahead content takes same fault denied (Items 1 ∷ levels) tt y z
-    end u
-    (to t is) fits)
+    end u (to t is) fits)
 
 -- ---- a head that was passed over
 
@@ -262,8 +253,7 @@ module _ (P Q R : List ℕ → Type 0) (m : ℕ) where
           LevelsTo (Some m) (level ∷ levels) (x ++ r) z → IsBignumBehind h r
       stands (heads.Tag n) x r z spelled one within = tag_at (heads.Tag n) x r z n refl spelled within
       stands (heads.Array n) x r z spelled one within = absurd (no-room (Some m) m (heads.Array n) x r z level levels
-          one
-          (λ t e. absurd cc) spelled some refl full within)
+          one (λ t e. absurd cc) spelled some refl full within)
       stands (heads.Map n) x r z spelled one within = absurd (no-room (Some m) m (heads.Map n) x r z level levels one
           (λ t e. absurd cc) spelled some refl full within)
       stands header x r z spelled one within = absurd cc

@@ -1,22 +1,17 @@
 -- Where no level is left, no head stands that takes one, but that of a tag that folds.
-use Rattle.std.proofs.Common.{◌≡◌, ℕ, suc, ◌≤◌, List, [], ◌∷◌, ◌++◌, length, Option, Some, None}
-use Rattle.std.proofs.Common.{true, false, refl, sym, ap, ◌∙◌, subst, append_assoc, arith, ◌-◌}
-use Rattle.ciborium_ll.specs.declared.header.Header.{Header}
-use Rattle.ciborium_ll.specs.declared.header.Header.TheVariants as heads
-use Rattle.ciborium_ll.specs.declared.levels.Level.{Level}
-use Rattle.ciborium_ll.specs.Header.{SpellsHeader}
-use Rattle.ciborium_ll.specs.Item as items
-use Rattle.ciborium_ll.specs.Item.{Item, unsigned, negative, bytes, text, array, tag, simple, float}
-use Rattle.ciborium_ll.specs.Item.{items_count, pairs_count}
-use Rattle.ciborium_ll.specs.Spells.{Spells}
-use Rattle.ciborium_ll.specs.StringRefusal.{of_bytes, of_text}
+use Rattle.std.proofs.Common.{◌≡◌, ℕ, suc, ◌≤◌, List, [], ◌∷◌, ◌++◌, length, Option, Some, None, true, false, refl, sym}
+use Rattle.std.proofs.Common.{ap, ◌∙◌, subst, append_assoc, arith, ◌-◌}
+use Rattle.ciborium_ll.specs.{declared.header.Header.Header, declared.levels.Level.Level, Header.SpellsHeader}
+use Rattle.ciborium_ll.specs.Item.{Item, unsigned, negative, bytes, text, array, tag, simple, float, items_count}
+use Rattle.ciborium_ll.specs.{Item.pairs_count, Spells.Spells, StringRefusal.{of_bytes, of_text}}
 use Rattle.ciborium_ll.proofs.LevelFronts.{AreOpen, FirstOf, of_item, of_part, of_break, first-of}
 use Rattle.ciborium_ll.proofs.OneHeader.{one_header_at_front}
-use Rattle.ciborium_value.specs.Meaning.{folding_bytes, is_bignum_tag}
-use Rattle.ciborium_value.specs.Nesting.{Limit, IsWithin, nesting, items_nesting, pairs_nesting, tag_nesting}
+use Rattle.ciborium_value.specs.{Meaning.{folding_bytes, is_bignum_tag}, Nesting.{Limit, IsWithin, nesting}}
+use Rattle.ciborium_value.specs.Nesting.{items_nesting, pairs_nesting, tag_nesting}
 use Rattle.ciborium.specs.inner.PassedOver.{left_inside, takes_one, ItemTo, LevelsTo}
-use Rattle.ciborium.proofs.Items.ItemHeads.{header_of, same-head, tag-front}
-use Rattle.ciborium.proofs.Items.PassedItems.{folds-over, within}
+use Rattle.ciborium.proofs.{Items.ItemHeads.{header_of, same-head, tag-front}, Items.PassedItems.{folds-over, within}}
+use Rattle.ciborium_ll.specs.declared.header.Header.TheVariants as heads
+use Rattle.ciborium_ll.specs.Item as items
 
 module _ (l : Limit) where
   none-left : (o : Limit) (m n k : ℕ) → o ≡ Some m → m ≤ n → IsWithin (left_inside o n) (suc k) → ⊥
@@ -71,9 +66,8 @@ module _ (l : Limit) where
       (subst (λ k. IsWithin (left_inside l (length levels)) (nesting k)) is w)
     where
       by : (j : Item) (d c : List ℕ) → Spells d j → y ≡ d ++ c → (o : Option (List ℕ)) → folding_bytes t j ≡ o →
-          IsWithin (left_inside l (length levels)) (tag_nesting o (nesting j)) →
-          (is_bignum_tag t ≡ true) × ((k : ℕ) × (x : List ℕ) × (r : List ℕ) ×
-          SpellsHeader x (heads.Bytes (Some k)) × (k ≤ 16) × (y ≡ x ++ r))
+          IsWithin (left_inside l (length levels)) (tag_nesting o (nesting j)) → (is_bignum_tag t ≡ true) ×
+          ((k : ℕ) × (x : List ℕ) × (r : List ℕ) × SpellsHeader x (heads.Bytes (Some k)) × (k ≤ 16) × (y ≡ x ++ r))
       by j d c sq behind None e w = absurd (none-left l m (length levels) (nesting j) limit full w)
       by j d c sq behind (Some b) e w =
           let (big, is, le) = folds-over t j b e in

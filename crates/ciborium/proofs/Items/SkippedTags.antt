@@ -1,19 +1,14 @@
 -- Tags that are skipped, and what is read behind them.
 use Rattle.std.proofs.Common.{◌≡◌, ℕ, Bool, true, false, List, [], ◌∷◌, ◌++◌, refl, sym, ap, ◌∙◌, subst, append_assoc}
 use Rattle.std.proofs.Common.{append-nil, arith, length, length-append, ◌+◌, ◌≤◌}
-use Rattle.ciborium_ll.specs.declared.header.Header.{Header}
-use Rattle.ciborium_ll.specs.declared.header.Header.TheVariants as header
-use Rattle.ciborium_ll.specs.Header.{SpellsHeader}
-use Rattle.ciborium_ll.specs.Item.{Item, tag}
-use Rattle.ciborium_ll.specs.Spells.{Spells}
-use Rattle.ciborium_value.specs.Meaning.{is_bignum_tag}
-use Rattle.ciborium_value.specs.Nesting.{Limit}
-use Rattle.ciborium_value.specs.Sources.{Fault, IsFaultOf, of_nesting}
+use Rattle.ciborium_ll.specs.{declared.header.Header.Header, Header.SpellsHeader, Item.{Item, tag}, Spells.Spells}
+use Rattle.ciborium_value.specs.{Meaning.is_bignum_tag, Nesting.Limit, Sources.{Fault, IsFaultOf, of_nesting}}
 use Rattle.ciborium_value.specs.Given.{Given, gives, nests, number_of, number_under, outcome, untagged}
 use Rattle.ciborium_value.proofs.Sources.Sequences.{fault_outside}
-use Rattle.ciborium.specs.inner.FrontItems.{TakesHead, DeniesHead, DeniesItem, Reads, Denies}
-use Rattle.ciborium.specs.inner.Skips.{under, IsSkipped, AreSkipped, IsTagged, Skips, TakesBare}
+use Rattle.ciborium.specs.{inner.FrontItems.{TakesHead, DeniesHead, DeniesItem, Reads, Denies}, inner.Skips.under}
+use Rattle.ciborium.specs.inner.Skips.{IsSkipped, AreSkipped, IsTagged, Skips, TakesBare}
 use Rattle.ciborium.proofs.Items.ItemHeads.{header_of, first-head, first-payload, same-head, tag-front, no-break-head}
+use Rattle.ciborium_ll.specs.declared.header.Header.TheVariants as header
 
 pub untagged-under : (ts : List ℕ) (i : Item) → untagged (under ts i) ≡ untagged i
 untagged-under [] i = refl

@@ -1,22 +1,14 @@
 -- A call takes a beginning of what is unread, and nothing else.
 use Rattle.std.proofs.Common.{◌≡◌, ◌≤◌, ℕ, ◌+◌, List, [], ◌++◌, length, Option, Some, None, refl, ◌∙◌, sym, ap, subst}
-use Rattle.std.proofs.Common.{arith, length-append}
-use Rattle.std.specs.Borrow.{GName}
-use Rattle.std.specs.Io.KnownBytes.{Consumes}
-use Rattle.std.proofs.KnownBytes.{Consumes-nil}
-use Rattle.ciborium_ll.specs.declared.decoder.Decoder.{Decoder}
-use Rattle.ciborium_ll.specs.declared.header.Header.{Header}
-use Rattle.ciborium_ll.specs.Decoding.{HasBegun, HasSameReader, Takes, left_of}
-use Rattle.ciborium_ll.proofs.Advancing.{Advances-then}
-use Rattle.ciborium_ll.proofs.Decoders.{begun-left}
-use Rattle.ciborium_ll.proofs.Unread.{rest-of}
-use Rattle.ciborium_value.specs.Ahead.{Span, Rest, bottom, parts, pairs, entry, level_due, end_of}
-use Rattle.ciborium_value.specs.Sources.{TakesOnly}
-use Rattle.ciborium.specs.declared.de.byte_source.ByteSource.{ByteSource}
-use Rattle.ciborium.specs.inner.ByteSources.{HasTaken, IsUnread, IsUnreadBy, end_at, known_end, reader_of}
-use Rattle.ciborium.specs.inner.Unread.{IsRest, ending}
-use Rattle.ciborium.specs.NextItems.{TakesTo}
-use Rattle.ciborium.specs.TypedAnswers.{TakesBeginning}
+use Rattle.std.proofs.{Common.{arith, length-append}, KnownBytes.Consumes-nil}
+use Rattle.std.specs.{Borrow.GName, Io.KnownBytes.Consumes}
+use Rattle.ciborium_ll.specs.{declared.decoder.Decoder.Decoder, declared.header.Header.Header, Decoding.HasBegun}
+use Rattle.ciborium_ll.specs.Decoding.{HasSameReader, Takes, left_of}
+use Rattle.ciborium_ll.proofs.{Advancing.Advances-then, Decoders.begun-left, Unread.rest-of}
+use Rattle.ciborium_value.specs.{Ahead.{Span, Rest, bottom, parts, pairs, entry, level_due, end_of}, Sources.TakesOnly}
+use Rattle.ciborium.specs.{declared.de.byte_source.ByteSource.ByteSource, inner.ByteSources.{HasTaken, IsUnread}}
+use Rattle.ciborium.specs.{inner.ByteSources.{IsUnreadBy, end_at, known_end, reader_of}, inner.Unread.{IsRest, ending}}
+use Rattle.ciborium.specs.{NextItems.TakesTo, TypedAnswers.TakesBeginning}
 
 -- whatever holds of the bytes
 pub takes-only : {S W : Type 0} (remaining : S → Option (List ℕ)) (old new : Decoder S W) (P : List ℕ → Type 0) →
@@ -100,6 +92,14 @@ abbrev pub IsKept : {S W : Type 0} → (S → Option (List ℕ)) → ByteSource 
 IsKept remaining old new = HasSameReader old.decoder new.decoder ×
     TakesOnly (HasTaken remaining) old.decoder new.decoder
 
+-- the bytes were left alone
+pub kept-alone : {S W : Type 0} (remaining : S → Option (List ℕ)) (old mid new : ByteSource S W) →
+    new.decoder ≡ mid.decoder → IsKept remaining old mid → IsKept remaining old new
+kept-alone {S = S} {W = W} remaining old mid new same kept = (
+  ap (λ (d : Decoder S W). d.reader.ghost_name) same ∙ kept.0,
+  λ first t. subst (HasTaken remaining first) (sym same) (kept.1 first t),
+)
+
 pub known-unread : {S W : Type 0} (remaining : S → Option (List ℕ)) (d : Decoder S W) (pending : Option (Header × ℕ))
     (b : List ℕ) → IsUnreadBy remaining d pending b → (u : List ℕ) × (left_of remaining d ≡ Some u)
 known-unread remaining d None b e = (b, e)
@@ -127,8 +127,7 @@ same-end remaining old new only b u =
 pub kept-reader : {S W : Type 0} (remaining : S → Option (List ℕ)) (old new : ByteSource S W) →
     IsKept remaining old new →
     (b : List ℕ) → IsUnread remaining old b → reader_of remaining new.decoder ≡ reader_of remaining old.decoder
-kept-reader remaining old new (same, only) b u =
-    ap (λ n. (n, end_at remaining new)) same ∙
+kept-reader remaining old new (same, only) b u = ap (λ n. (n, end_at remaining new)) same ∙
     ap (λ n. (old.decoder.reader.ghost_name, n)) (same-end remaining old new only b u)
 
 -- what follows in the open containers begins where the outermost item ends, or before that

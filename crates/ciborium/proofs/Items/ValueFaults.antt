@@ -1,46 +1,37 @@
 -- What refuses where an item stands is what the item refuses.
-use Rattle.std.proofs.Common.{◌≡◌, ◌⊎◌, ℕ, ◌+◌, ◌*◌, ◌^◌, ◌<◌, ◌≤◌, cond, ◌/◌, ◌%◌, ltb, Bool, true, false}
-use Rattle.std.proofs.Common.{◌&&◌, List, [], ◌∷◌, ◌++◌, length, Option, Some, None, refl, sym, ap, ◌∙◌, subst}
-use Rattle.std.proofs.Common.{append_assoc, append-nil, length-append, arith, inl, inr, ltb-true, ltb-false}
-use Rattle.std.proofs.Common.{option_and_then, suc, zero}
-use Rattle.ciborium_ll.specs.declared.header.Header.{Header}
-use Rattle.ciborium_ll.specs.declared.header.Header.TheVariants as header
-use Rattle.ciborium_ll.specs.Bytes.{greatest_offset}
-use Rattle.ciborium_ll.specs.Head.{IsHead, within, one_byte, two_bytes, four_bytes, eight_bytes, open_byte, break_byte}
-use Rattle.ciborium_ll.specs.Header.{SpellsHeader}
+use Rattle.std.proofs.Common.{◌≡◌, ◌⊎◌, ℕ, ◌+◌, ◌*◌, ◌^◌, ◌<◌, ◌≤◌, cond, ◌/◌, ◌%◌, ltb, Bool, true, false, ◌&&◌, List}
+use Rattle.std.proofs.Common.{[], ◌∷◌, ◌++◌, length, Option, Some, None, refl, sym, ap, ◌∙◌, subst, append_assoc}
+use Rattle.std.proofs.Common.{append-nil, length-append, arith, inl, inr, ltb-true, ltb-false, option_and_then, suc}
+use Rattle.std.proofs.Common.{zero}
+use Rattle.ciborium_ll.specs.{declared.header.Header.Header, Bytes.greatest_offset, Head.{IsHead, within, one_byte}}
+use Rattle.ciborium_ll.specs.{Head.{two_bytes, four_bytes, eight_bytes, open_byte, break_byte}, Header.SpellsHeader}
 use Rattle.ciborium_ll.specs.Item.{Item, Items, Pairs, no_items, item, no_pairs, pair, unsigned, negative, bytes, text}
-use Rattle.ciborium_ll.specs.Item as maps
-use Rattle.ciborium_ll.specs.Item.{array, tag, simple, float, items_count, pairs_count}
-use Rattle.ciborium_ll.specs.Refusal as refusal
-use Rattle.ciborium_ll.specs.Refusal.{Refusal, io, syntax, too_long, semantic, recursion_limit_exceeded, HeadRefuses}
-use Rattle.ciborium_ll.specs.Refusal.{IsUsable, HasHead, IsAtFront, head_refusal}
-use Rattle.ciborium_ll.specs.Spells.{Spells, SpellsItems, SpellsPairs}
-use Rattle.ciborium_ll.specs.StringRefusal.{StringKind, of_bytes, of_text, string_major, StringRefuses}
-use Rattle.ciborium_ll.specs.StringRefusal.{ChunksRefuse, OpenStringRefuses}
-use Rattle.ciborium_ll.proofs.OneHeader.{one_header_at_front}
-use Rattle.ciborium_ll.proofs.UniqueSpelling.{one_at_front}
-use Rattle.ciborium_value.specs.Meaning.{folding_bytes, big_endian, meaning}
-use Rattle.ciborium_value.specs.Nesting.{Limit, IsOneLess}
+use Rattle.ciborium_ll.specs.{Item.{array, tag, simple, float, items_count, pairs_count}, Refusal.{Refusal, io, syntax}}
+use Rattle.ciborium_ll.specs.Refusal.{too_long, semantic, recursion_limit_exceeded, HeadRefuses, IsUsable, HasHead}
+use Rattle.ciborium_ll.specs.{Refusal.{IsAtFront, head_refusal}, Spells.{Spells, SpellsItems, SpellsPairs}}
+use Rattle.ciborium_ll.specs.StringRefusal.{StringKind, of_bytes, of_text, string_major, StringRefuses, ChunksRefuse}
+use Rattle.ciborium_ll.specs.StringRefusal.{OpenStringRefuses}
+use Rattle.ciborium_ll.proofs.{OneHeader.one_header_at_front, UniqueSpelling.one_at_front}
+use Rattle.ciborium_value.specs.{Meaning.{folding_bytes, big_endian, meaning}, Nesting.{Limit, IsOneLess}}
 use Rattle.ciborium_value.specs.Refuses.{AreReadAs, Due, items, keys, values, next_due, due_after, IsDue}
-use Rattle.ciborium_value.specs.Refuses.{BeginsContainer, IsTagAt, Refuses}
-use Rattle.ciborium_value.specs.Sources.{Fault, of_kind, of_nesting, of_syntax, of_memory, of_device, of_end}
-use Rattle.ciborium_value.specs.Sources.{of_length, IsFaultOf, IsOutsideFault}
+use Rattle.ciborium_value.specs.{Refuses.{BeginsContainer, IsTagAt, Refuses}, Sources.{Fault, of_kind, of_nesting}}
+use Rattle.ciborium_value.specs.Sources.{of_syntax, of_memory, of_device, of_end, of_length, IsFaultOf, IsOutsideFault}
 use Rattle.ciborium_value.specs.Given.{Outcome, Steps, gives, leveled, mapped, nests, of_meaning, outcome, outcome_map}
-use Rattle.ciborium_value.specs.Given.{refuses, given_items, given_tag, given_tree_pairs, given_value}
-use Rattle.ciborium_value.specs.Spelling.{any}
-use Rattle.ciborium_value.specs.Tree as trees
-use Rattle.ciborium_value.specs.Tree.{Tree, Trees, TreePairs}
-use Rattle.ciborium_value.specs.declared.kind.Kind.TheVariants as kinds
-use Rattle.ciborium_value.proofs.GoodItems.Bignums.{large-none}
-use Rattle.ciborium_value.proofs.GoodItems.Spelled.{folding-over, folding-string, folds-none}
-use Rattle.ciborium_value.proofs.Sources.Sequences.{fault_map, fault_outside, fault_then}
+use Rattle.ciborium_value.specs.{Given.{refuses, given_items, given_tag, given_tree_pairs, given_value}, Spelling.any}
+use Rattle.ciborium_value.specs.{Tree.{Tree, Trees, TreePairs}, lemmas.GivenOutcomes.{pair_first, tree_first}}
+use Rattle.ciborium_value.proofs.{GoodItems.Bignums.large-none, GoodItems.Spelled.{folding-over, folding-string}}
+use Rattle.ciborium_value.proofs.{GoodItems.Spelled.folds-none, Sources.Sequences.{fault_map, fault_outside}}
+use Rattle.ciborium_value.proofs.Sources.Sequences.{fault_then}
 use Rattle.ciborium.specs.inner.StringContents.{head_of}
-use Rattle.ciborium.proofs.Items.FrontReads.{head-passes, only-long}
-use Rattle.ciborium.proofs.Items.ItemHeads.{header_of, first-head, first-payload, same-head, no-break-head, tag-front}
+use Rattle.ciborium.proofs.{Items.FrontReads.{head-passes, only-long}, Items.ItemHeads.{header_of, first-head}}
+use Rattle.ciborium.proofs.Items.ItemHeads.{first-payload, same-head, no-break-head, tag-front}
 use Rattle.ciborium.proofs.Payloads.SpelledStrings.{definite-never, content-long, content-only, string-spells}
-use Rattle.ciborium.proofs.Payloads.StringPayloads.{string-only}
-use Rattle.ciborium_value.specs.lemmas.GivenOutcomes.{pair_first, tree_first}
-use Rattle.ciborium.proofs.Items.ValuesGiven.{level-taken, value-gives}
+use Rattle.ciborium.proofs.{Payloads.StringPayloads.string-only, Items.ValuesGiven.{level-taken, value-gives}}
+use Rattle.ciborium_ll.specs.declared.header.Header.TheVariants as header
+use Rattle.ciborium_ll.specs.Item as maps
+use Rattle.ciborium_ll.specs.Refusal as refusal
+use Rattle.ciborium_value.specs.Tree as trees
+use Rattle.ciborium_value.specs.declared.kind.Kind.TheVariants as kinds
 
 not-break : (s r y : List ℕ) (i : Item) → Spells s i → s ++ r ≡ break_byte ∷ y → ⊥
 not-break s r y i sp e = no-break-head i (same-head s r (break_byte ∷ []) y i header.Break sp refl e).0
@@ -404,8 +395,7 @@ items-faults o [] (item i is) w now c good r end z p l f (s, t, si, ts, ce) g e 
 items-faults o (v ∷ vs) no_items w now c good r end z p l f sp
     (s, t, (j, sj, means, nests-in, fits, so), ts, ge) e all next due rec br =
     absurd (none-more w (due-behind w now v vs next).0 j s (t ++ r) end z all (due-behind w now v vs next).1 sj
-    (sym (append_assoc s t r) ∙ ap (λ (k : List ℕ). k ++ r) (sym ge) ∙ e ∙
-    ap (λ (k : List ℕ). k ++ (end ++ z)) sp))
+    (sym (append_assoc s t r) ∙ ap (λ (k : List ℕ). k ++ r) (sym ge) ∙ e ∙ ap (λ (k : List ℕ). k ++ (end ++ z)) sp))
 items-faults o (v ∷ vs) (item i is) w now c good r end z p l f (s', t', si, ts', ce)
     (s, t, (j, sj, means, nests-in, fits, so), ts, ge) e all next due rec br =
     let one = one_at_front s s' (t ++ r) (t' ++ (end ++ z)) j i sj si
@@ -491,9 +481,8 @@ opening-size {b = b} {r = r} {k = k} (BeginsContainer.open_map e g) = let size :
 
 tag-faults : (end : ℕ) (t : ℕ) (i : Item) (f : Fault) (l m : Limit) → folding_bytes t i ≡ None → IsOneLess l m →
     IsFaultOf end f (outcome m (given_value i)) → IsFaultOf end f (outcome l (given_value (tag t i)))
-tag-faults end t i f l m none one b =
-    subst (λ o. IsFaultOf end f (outcome l (given_tag t o (given_value i)))) (sym none)
-    (level-faults end f l m (mapped (trees.tag t) (given_value i)) one
+tag-faults end t i f l m none one b = subst (λ o. IsFaultOf end f (outcome l (given_tag t o (given_value i))))
+    (sym none) (level-faults end f l m (mapped (trees.tag t) (given_value i)) one
     (fault_map end f (trees.tag t) (outcome m (given_value i)) b))
 
 -- the string of a tag that folds is there
@@ -507,9 +496,8 @@ given-outside end u v h = cc
 
 large-refuses : (l : Limit) (y : List ℕ) → length y ≤ 16 → 2 ^ 127 ≤ big_endian y →
     outcome l (given_value (tag 3 (bytes false y))) ≡ refuses kinds.TooLarge
-large-refuses l y small large =
-    ap (λ o. outcome l (given_tag 3 o (given_value (bytes false y)))) (folding-over 3 y refl small) ∙
-    ap (of_meaning kinds.TooLarge) (large-none y large)
+large-refuses l y small large = ap (λ o. outcome l (given_tag 3 o (given_value (bytes false y))))
+    (folding-over 3 y refl small) ∙ ap (of_meaning kinds.TooLarge) (large-none y large)
 
 -- ---- every refusal
 
@@ -554,9 +542,8 @@ value-faults {b} {p} {l} {e} (Refuses.open_string kind u w) i s z end sp f fits 
 value-faults {l = l} (Refuses.float {x} {b = b} u lo hi) i s z end sp f fits =
     let (raw, is) = float-only x b s z i sp f lo hi in
     ap (λ j. outcome l (given_value j)) is
-value-faults {l = l} (Refuses.simple t n r u si none g) i s z end sp f fits =
-    ap (λ j. outcome l (given_value j)) (simple-only i n (same-head s z t r i (header.Simple n) sp si (sym f ∙ g)).0) ∙
-    ap (of_meaning kinds.Simple) none
+value-faults {l = l} (Refuses.simple t n r u si none g) i s z end sp f fits = ap (λ j. outcome l (given_value j))
+    (simple-only i n (same-head s z t r i (header.Simple n) sp si (sym f ∙ g)).0) ∙ ap (of_meaning kinds.Simple) none
 value-faults (Refuses.break {b = b} u) i s z end sp f fits = absurd (not-break s z b i sp (sym f))
 value-faults (Refuses.no_level k r w u o) i s z end sp f fits =
     let h = opens-at o i s z sp f in container-nests i h.is h.holds

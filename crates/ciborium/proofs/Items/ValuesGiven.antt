@@ -1,19 +1,17 @@
 -- What an item gives as a value.
 use Rattle.std.proofs.Common.{◌≡◌, ℕ, zero, suc, max, List, Option, Some, None, option_map, refl, ap, ◌∙◌, arith}
-use Rattle.ciborium_ll.specs.Item as items
 use Rattle.ciborium_ll.specs.Item.{Item, Items, Pairs, no_items, no_pairs, pair}
 use Rattle.ciborium_value.specs.Meaning.{meaning, items_meaning, pairs_meaning, trees_more, tree_pairs_more}
-use Rattle.ciborium_value.specs.Meaning.{folding_bytes, tag_meaning}
-use Rattle.ciborium_value.specs.Nesting.{Limit, IsWithin, IsOneLess, nesting, items_nesting, pairs_nesting, tag_nesting}
-use Rattle.ciborium_value.specs.Given.{Steps, gives, leveled, mapped, of_meaning, outcome}
-use Rattle.ciborium_value.specs.Given.{outcome_map, given_items, given_tag, given_tree_pairs, given_value}
+use Rattle.ciborium_value.specs.{Meaning.{folding_bytes, tag_meaning}, Nesting.{Limit, IsWithin, IsOneLess, nesting}}
+use Rattle.ciborium_value.specs.{Nesting.{items_nesting, pairs_nesting, tag_nesting}, Given.{Steps, gives, leveled}}
+use Rattle.ciborium_value.specs.Given.{mapped, of_meaning, outcome, outcome_map, given_items, given_tag}
+use Rattle.ciborium_value.specs.{Given.{given_tree_pairs, given_value}, Tree.{Tree, Trees, TreePairs}}
+use Rattle.ciborium_value.specs.{lemmas.GivenOutcomes.{pair_first, tree_first}, lemmas.ReadsBackParts.within-left}
+use Rattle.ciborium_value.specs.lemmas.ReadsBackParts.{within-right}
+use Rattle.ciborium_value.proofs.{GoodItems.Parts.lower, Forms.OwnForms.mapped_same}
+use Rattle.ciborium_ll.specs.Item as items
 use Rattle.ciborium_value.specs.Tree as trees
-use Rattle.ciborium_value.specs.Tree.{Tree, Trees, TreePairs}
 use Rattle.ciborium_value.specs.declared.kind.Kind.TheVariants as kinds
-use Rattle.ciborium_value.specs.lemmas.GivenOutcomes.{pair_first, tree_first}
-use Rattle.ciborium_value.specs.lemmas.ReadsBackParts.{within-left, within-right}
-use Rattle.ciborium_value.proofs.GoodItems.Parts.{lower}
-use Rattle.ciborium_value.proofs.Forms.OwnForms.{mapped_same}
 
 -- with a level, what is inside decides
 pub level-taken : {A : Type 0} (l m : Limit) (s : Steps A) → IsOneLess l m → outcome l (leveled s) ≡ outcome m s
@@ -44,8 +42,7 @@ container-gives f o n l s v h k rec =
 
 tag-gives : (t : ℕ) (o : Option (List ℕ)) (c : Option Tree) (n : ℕ) (l : Limit) (s : Steps Tree) (v : Tree) →
     tag_meaning t o c ≡ Some v → IsWithin l (tag_nesting o n) →
-    ((m : Limit) (a : Tree) → c ≡ Some a → IsWithin m n → outcome m s ≡ gives a) →
-    outcome l (given_tag t o s) ≡ gives v
+    ((m : Limit) (a : Tree) → c ≡ Some a → IsWithin m n → outcome m s ≡ gives a) → outcome l (given_tag t o s) ≡ gives v
 tag-gives t (Some b) c n l s v h k rec = ap (of_meaning kinds.TooLarge) h
 tag-gives t None c n l s v h k rec = container-gives (trees.tag t) c n l s v h k rec
 

@@ -17,11 +17,17 @@ weight-bounds (header.Simple n) = (omega arith, omega arith)
 weight-bounds (header.Float n) = (omega arith, omega arith)
 weight-bounds header.Break = (omega arith, omega arith)
 
+-- a head was taken, and what is read behind it
+pub taken-fewer : {S W : Type 0} (old mid new : ByteSource S W) (h : Header) → bytes_weight new ≤ bytes_weight mid →
+    new.pending ≡ None → bytes_weight mid + head_weight h ≤ weight_left old → weight_left new < weight_left old
+taken-fewer old mid new h behind none fewer =
+    let (some, two) = weight-bounds h in
+    let no-weight : pending_head_weight new.pending ≡ 0 = ap pending_head_weight none in
+    omega (arith, fewer, some, behind, no-weight)
+
 -- a container was entered
 pub entered-fewer : {S W : Type 0} (old mid new : ByteSource S W) (h : Header) → new.decoder ≡ mid.decoder →
     new.pending ≡ None → bytes_weight mid + head_weight h ≤ weight_left old → weight_left new < weight_left old
-entered-fewer old mid new h same none fewer =
-    let (some, two) = weight-bounds h in
+entered-fewer old mid new h same =
     let count = ap (λ d. d.counter.count) same in
-    let no-weight : pending_head_weight new.pending ≡ 0 = ap pending_head_weight none in
-    omega (arith, fewer, some, count, no-weight)
+    taken-fewer old mid new h (omega (arith, count))

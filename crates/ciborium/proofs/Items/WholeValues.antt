@@ -2,40 +2,24 @@
 use Rattle.std.proofs.Common.{◌≡◌, ℕ, ◌+◌, Bool, true, false, List, ◌++◌, length, Option, Some, None, Result, Ok, Err}
 use Rattle.std.proofs.Common.{refl, sym, ap, ◌∙◌, subst, arith, eqb, eqb-true, ◌||◌, ◌≤◌, ℤ, pos, length-append}
 use Rattle.std.specs.Io.KnownBytes.{Consumes}
-use Rattle.ciborium_ll.specs.declared.header.Header.{Header}
-use Rattle.ciborium_ll.specs.declared.header.Header.TheVariants as header
-use Rattle.ciborium_ll.specs.declared.decoder.Decoder.{Decoder}
-use Rattle.ciborium_ll.specs.Decoding.{IsAhead, IsAheadBy, TakesBeforeAny, next_offset, with_left, left_of}
-use Rattle.ciborium_ll.specs.Decoding.{ReadsNothing}
-use Rattle.ciborium_ll.specs.Header.{SpellsHeader}
-use Rattle.ciborium_ll.specs.Item.{Item, unsigned, simple}
-use Rattle.ciborium_ll.specs.Spells.{Spells}
-use Rattle.ciborium_ll.proofs.Decoders.{unread-left, unread-count}
-use Rattle.ciborium_ll.proofs.Unread.{rest-of}
-use Rattle.ciborium_value.specs.declared.kind.Kind.{Kind}
-use Rattle.ciborium_value.specs.declared.kind.Kind.TheVariants as kinds
-use Rattle.ciborium_value.specs.declared.tree.Value.{Value}
-use Rattle.ciborium_value.specs.Meaning.{simple_meaning}
-use Rattle.ciborium_value.specs.Nesting.{Limit, IsWithin, nesting}
-use Rattle.ciborium_value.specs.Refuses.{Refuses}
-use Rattle.ciborium_value.specs.Sources.{IsFaultOf, of_kind}
-use Rattle.ciborium_value.specs.View.{read_as, tree_of}
-use Rattle.ciborium_value.specs.Given.{gives, given_value, outcome}
-use Rattle.ciborium_value.specs.Tree as trees
-use Rattle.ciborium_value.specs.Tree.{Tree}
-use Rattle.ciborium.specs.declared.de.error.Error.{Error}
-use Rattle.ciborium.specs.declared.de.error.Error.TheVariants as errors
-use Rattle.ciborium.specs.inner.Turns.{IsTreeRead, IsValueRead}
+use Rattle.ciborium_ll.specs.{declared.header.Header.Header, declared.decoder.Decoder.Decoder, Decoding.IsAhead}
+use Rattle.ciborium_ll.specs.Decoding.{IsAheadBy, TakesBeforeAny, next_offset, with_left, left_of, ReadsNothing}
+use Rattle.ciborium_ll.specs.{Header.SpellsHeader, Item.{Item, unsigned, simple}, Spells.Spells}
+use Rattle.ciborium_ll.proofs.{Decoders.{unread-left, unread-count}, Unread.rest-of}
+use Rattle.ciborium_value.specs.{declared.kind.Kind.Kind, declared.tree.Value.Value, Meaning.simple_meaning}
+use Rattle.ciborium_value.specs.{Nesting.{Limit, IsWithin, nesting}, Refuses.Refuses, Sources.{IsFaultOf, of_kind}}
+use Rattle.ciborium_value.specs.{View.{read_as, tree_of}, Given.{gives, given_value, outcome}, Tree.Tree, Spelling.any}
+use Rattle.ciborium.specs.{declared.de.error.Error.Error, inner.Turns.{IsTreeRead, IsValueRead}}
 use Rattle.ciborium.specs.inner.ByteSources.{MeansTree, is_portable, IsUnreadBy, known_end, reader_of}
-use Rattle.ciborium.specs.Errors.{fault_of, io_fault}
+use Rattle.ciborium.specs.{Errors.{fault_of, io_fault}, ValueAnswers.{IsRefusedBy, IsNamed, refusal_kind_of}}
 use Rattle.ciborium_value.proofs.Sources.Sequences.{fault_outside}
-use Rattle.ciborium.proofs.Items.FrontReads.{io-outside}
-use Rattle.ciborium.specs.ValueAnswers.{IsRefusedBy, IsNamed, refusal_kind_of}
-use Rattle.ciborium_value.specs.Spelling.{any}
-use Rattle.ciborium.proofs.Turns.Fronts.{ahead-at, front-fits}
-use Rattle.ciborium.proofs.Readers.WhateverFollows.{ahead-same, so-unread}
-use Rattle.ciborium.proofs.Items.ValueFaults.{value-faults}
+use Rattle.ciborium.proofs.{Items.FrontReads.io-outside, Turns.Fronts.{ahead-at, front-fits}}
+use Rattle.ciborium.proofs.{Readers.WhateverFollows.{ahead-same, so-unread}, Items.ValueFaults.value-faults}
 use Rattle.ciborium.proofs.Items.ValuesGiven.{value-gives}
+use Rattle.ciborium_ll.specs.declared.header.Header.TheVariants as header
+use Rattle.ciborium_value.specs.declared.kind.Kind.TheVariants as kinds
+use Rattle.ciborium_value.specs.Tree as trees
+use Rattle.ciborium.specs.declared.de.error.Error.TheVariants as errors
 
 null-22 : simple_meaning 22 ≡ Some trees.null
 unfolding simple_meaning
@@ -166,10 +150,9 @@ no-level (Some l) n flat = omega arith
 
 -- a head that stands for an item is that item
 pub portable-reads : {S W : Type 0} (remaining : S → Option (List ℕ)) (d : Decoder S W) (pending : Option (Header × ℕ))
-    (h : Header) (p : ℕ) (b : List ℕ) (v : Tree) (l : Limit) → pending ≡ Some (h, p) → MeansTree h v →
-    IsUnreadBy remaining d pending b →
-    (i : Item) × (s : List ℕ) × (z : List ℕ) × Spells s i × (b ≡ s ++ z) × (outcome l (given_value i) ≡ gives v) ×
-    (left_of remaining d ≡ Some z)
+    (h : Header) (p : ℕ) (b : List ℕ) (v : Tree) (l : Limit) →
+    pending ≡ Some (h, p) → MeansTree h v → IsUnreadBy remaining d pending b → (i : Item) × (s : List ℕ) ×
+    (z : List ℕ) × Spells s i × (b ≡ s ++ z) × (outcome l (given_value i) ≡ gives v) × (left_of remaining d ≡ Some z)
 portable-reads remaining d pending h p b v l is for u =
     let (x, y, hd, e, left, counted) = subst (λ o. IsUnreadBy remaining d o b) is u in
     let (i, sp, means, flat) = for x hd in
@@ -185,9 +168,8 @@ ReadSo {W} {E} l pending d e r = (xs : List ℕ) (p : ℕ) → IsAheadBy Some d 
 
 -- a head that stands for an item is read without a byte
 pub portable-ahead : (E : Type 0) {S W : Type 0} (remaining : S → Option (List ℕ)) (d : Decoder S W)
-    (pending : Option (Header × ℕ)) (h : Header) (at l : ℕ) (v : Tree) → d.pushed ≡ None → pending ≡ Some (h, at) →
-    MeansTree h v →
-    TakesBeforeAny remaining d d (λ f g. ReadSo {E = E} l pending f g (Ok v))
+    (pending : Option (Header × ℕ)) (h : Header) (at l : ℕ) (v : Tree) → d.pushed ≡ None →
+    pending ≡ Some (h, at) → MeansTree h v → TakesBeforeAny remaining d d (λ f g. ReadSo {E = E} l pending f g (Ok v))
 portable-ahead E remaining d pending h at l v none is stands =
     so-unread remaining d d (λ f g. ReadSo {E = E} l pending f g (Ok v)) (refl, refl) (λ u xs p ahead.
     let (here, x, r, sp, usable, split, count, left) = subst (λ o. IsAheadBy Some (with_left d u) xs p o) is ahead in

@@ -1,27 +1,21 @@
 -- Numbers that are read byte by byte.
 use Rattle.std.proofs.Common.{◌≡◌, ◌≢◌, ℕ, zero, suc, ◌+◌, ◌*◌, ◌-◌, ◌^◌, ◌<◌, ◌≤◌, ltb, Bool, true, false, List, []}
 use Rattle.std.proofs.Common.{◌∷◌, ◌++◌, length, Option, Some, None, Ok, Err, refl, sym, ap, ◌∙◌, append_assoc}
-use Rattle.std.proofs.Common.{length-append, arith, lit<, add-one, lt-ltb, le-ltb, ne_eqb}
-use Rattle.std.proofs.Math.Nat.{pow-le-pow_right, pow-suc}
-use Rattle.std.proofs.lemmas.Bool.Decides.{nat_tests}
-use Rattle.std.proofs.lemmas.List.Elements.{All-append, All-head, All-tail}
-use Rattle.ciborium_ll.specs.declared.decoder.Decoder.{Decoder}
-use Rattle.ciborium_ll.specs.declared.header.Error.{Error as LlError}
-use Rattle.ciborium_ll.specs.declared.header.Error.TheVariants as ll
-use Rattle.ciborium_ll.specs.Accesses.{HasEnded, left_at_failure}
-use Rattle.ciborium_ll.specs.Bytes.{AreBytes, greatest_offset}
-use Rattle.ciborium_ll.specs.Decoding.{Takes, left_of}
-use Rattle.ciborium_ll.specs.ReaderSteps.{IsFillTaken}
+use Rattle.std.proofs.{Common.{length-append, arith, lit<, add-one, lt-ltb, le-ltb, ne_eqb}, Math.Nat.pow-le-pow_right}
+use Rattle.std.proofs.{Math.Nat.pow-suc, lemmas.Bool.Decides.nat_tests, lemmas.List.Elements.{All-append, All-head}}
+use Rattle.std.proofs.lemmas.List.Elements.{All-tail}
+use Rattle.ciborium_ll.specs.{declared.decoder.Decoder.Decoder, declared.header.Error.Error as LlError}
+use Rattle.ciborium_ll.specs.{Accesses.{HasEnded, left_at_failure}, Bytes.{AreBytes, greatest_offset}, Decoding.Takes}
+use Rattle.ciborium_ll.specs.{Decoding.left_of, ReaderSteps.IsFillTaken}
 use Rattle.ciborium_ll.proofs.Unread.{rest-of}
-use Rattle.ciborium_value.specs.Meaning.{big_endian_behind, big_endian, without_zeros}
-use Rattle.ciborium_value.specs.Sources.{IsOutsideFault}
+use Rattle.ciborium_value.specs.{Meaning.{big_endian_behind, big_endian, without_zeros}, Sources.IsOutsideFault}
 use Rattle.ciborium_value.specs.Given.{magnitude}
-use Rattle.ciborium_value.specs.declared.kind.Kind.TheVariants as kinds
-use Rattle.ciborium.specs.inner.ByteSources.{known_end, reader_of}
-use Rattle.ciborium.specs.Errors.{fault_of, from_ll}
+use Rattle.ciborium.specs.{inner.ByteSources.{known_end, reader_of}, Errors.{fault_of, from_ll}}
 use Rattle.ciborium.specs.inner.StringContents.{one_digit_more, digits_of}
 use Rattle.ciborium.proofs.Items.FrontReads.{failed-end, io-outside}
 use Rattle.ciborium_value.proofs.FoldedTrees.BigEndian.{bound-more}
+use Rattle.ciborium_ll.specs.declared.header.Error.TheVariants as ll
+use Rattle.ciborium_value.specs.declared.kind.Kind.TheVariants as kinds
 
 pub digits-append : (o : Option ℕ) (c d : List ℕ) → digits_of o (c ++ d) ≡ digits_of (digits_of o c) d
 digits-append o [] d = refl
@@ -144,12 +138,10 @@ fill-fewer E remaining d e buffer (b, takes, count, taken, small) = let fits = e
 
 pub digit-more : (E : Type 0) {S W : Type 0} (remaining : S → Option (List ℕ)) (d e : Decoder S W) (buffer : List ℕ)
     (x left n : ℕ) (start value next : Option ℕ) (y : List ℕ) → buffer ≡ x ∷ [] → 0 < left →
-    next ≡ one_digit_more value x →
-    Takes remaining d e (λ b. IsFillTaken {E = E} b d.counter.count buffer (Ok tt)) →
+    next ≡ one_digit_more value x → Takes remaining d e (λ b. IsFillTaken {E = E} b d.counter.count buffer (Ok tt)) →
     ((c : List ℕ) × (z : List ℕ) × (length c + left ≡ n) × AreBytes c × (value ≡ digits_of start c) × (y ≡ c ++ z) ×
-    (left_of remaining d ≡ Some z)) →
-    (c : List ℕ) × (z : List ℕ) × (length c + (left - 1) ≡ n) × AreBytes c × (next ≡ digits_of start c) × (y ≡ c ++ z) ×
-    (left_of remaining e ≡ Some z)
+    (left_of remaining d ≡ Some z)) → (c : List ℕ) × (z : List ℕ) × (length c + (left - 1) ≡ n) ×
+    AreBytes c × (next ≡ digits_of start c) × (y ≡ c ++ z) × (left_of remaining e ≡ Some z)
 digit-more E remaining d e buffer x left n start value next y one some is (b, takes, count, taken, small)
     (c, z, len, low, val, split, known) =
     let (r, left', f) = rest-of (left_of remaining d) (left_of remaining e) z b known takes in

@@ -2,27 +2,20 @@
 use Rattle.std.proofs.Common.{Bool, ◌≡◌, ℕ, ◌+◌, List, [], ◌∷◌, ◌++◌, length, take, drop, Option, Some, None, refl, sym}
 use Rattle.std.proofs.Common.{ap, ◌∙◌, subst, append_assoc, inl, inr, ◌<◌, ◌≤◌, arith, length-append, suc}
 use Rattle.std.proofs.Math.Seq.{take-append_seam, drop-append_seam}
-use Rattle.ciborium_ll.specs.declared.decoder.Decoder.{Decoder}
-use Rattle.ciborium_ll.specs.declared.header.Header.{Header}
-use Rattle.ciborium_ll.specs.declared.header.Header.TheVariants as header
-use Rattle.ciborium_ll.specs.Decoding.{left_of}
-use Rattle.ciborium_ll.specs.declared.header.Error.{Error as LlError}
-use Rattle.ciborium_ll.specs.declared.header.Error.TheVariants as ll
-use Rattle.ciborium_ll.specs.Accesses.{HasEnded, left_at_failure}
-use Rattle.ciborium_ll.specs.Bytes.{greatest_offset}
-use Rattle.ciborium_ll.specs.Head.{IsHead, open_byte, break_byte}
-use Rattle.ciborium_ll.specs.Header.{SpellsHeader, announced_length}
-use Rattle.ciborium_ll.specs.ReaderSteps as reading
-use Rattle.ciborium_ll.specs.Refusal.{Refusal, io, syntax, too_long, HeadRefuses}
-use Rattle.ciborium_ll.specs.Spells.{Spells, AreChunks}
-use Rattle.ciborium_ll.specs.StringRefusal.{StringKind, of_bytes, of_text, string_major, IsAllowed, PayloadRefuses}
-use Rattle.ciborium_ll.specs.StringRefusal.{ChunkRefuses, ContentRefuses}
+use Rattle.ciborium_ll.specs.{declared.decoder.Decoder.Decoder, declared.header.Header.Header, Decoding.left_of}
+use Rattle.ciborium_ll.specs.{declared.header.Error.Error as LlError, Accesses.{HasEnded, left_at_failure}}
+use Rattle.ciborium_ll.specs.{Bytes.greatest_offset, Head.{IsHead, open_byte, break_byte}, Header.SpellsHeader}
+use Rattle.ciborium_ll.specs.{Header.announced_length, Refusal.{Refusal, io, syntax, too_long, HeadRefuses}}
+use Rattle.ciborium_ll.specs.{Spells.{Spells, AreChunks}, StringRefusal.{StringKind, of_bytes, of_text, string_major}}
+use Rattle.ciborium_ll.specs.StringRefusal.{IsAllowed, PayloadRefuses, ChunkRefuses, ContentRefuses}
 use Rattle.ciborium_ll.proofs.OneHeader.{one_header_at_front}
 use Rattle.ciborium_value.specs.Sources.{IsOutsideFault}
-use Rattle.ciborium.specs.Errors.{fault_of, from_ll}
-use Rattle.ciborium.specs.inner.ByteSources.{IsUnreadBy, known_end}
+use Rattle.ciborium.specs.{Errors.{fault_of, from_ll}, inner.ByteSources.{IsUnreadBy, known_end}}
 use Rattle.ciborium.specs.inner.StringContents.{DeniesContent, head_of, string_item}
 use Rattle.ciborium.proofs.Items.FrontReads.{ended-ll, failed-fault, head-passes, io-outside, only-long}
+use Rattle.ciborium_ll.specs.declared.header.Header.TheVariants as header
+use Rattle.ciborium_ll.specs.declared.header.Error.TheVariants as ll
+use Rattle.ciborium_ll.specs.ReaderSteps as reading
 
 -- ---- one head, and behind it one payload
 
@@ -85,9 +78,8 @@ break-only kind p r z e f (ChunkRefuses.chunk u (n, k, r', (h, hd, len, g), w)) 
 break-only kind p r z e f (ChunkRefuses.other u string end) = absurd (end (z, f))
 
 -- at a good part
-part-only : (kind : StringKind) (p : ℕ) (r h payload z : List ℕ) (e : Refusal) →
-    IsHead h (string_major kind) (length payload) → IsAllowed kind payload → r ≡ h ++ (payload ++ z) →
-    ChunkRefuses kind r p e → e ≡ too_long
+part-only : (kind : StringKind) (p : ℕ) (r h payload z : List ℕ) (e : Refusal) → IsHead h (string_major kind)
+    (length payload) → IsAllowed kind payload → r ≡ h ++ (payload ++ z) → ChunkRefuses kind r p e → e ≡ too_long
 part-only kind p r h payload z e hd ok f (ChunkRefuses.no_head w) =
     only-long h (payload ++ z) (head_of kind (Some (length payload))) p e (string-spells kind (length payload) h hd)
     (subst (λ (k : List ℕ). HeadRefuses k p e) f w)

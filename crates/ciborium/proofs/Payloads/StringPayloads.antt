@@ -1,27 +1,20 @@
 -- Payloads that were taken behind the heads of strings.
 use Rattle.std.proofs.Common.{◌≡◌, ℕ, ◌+◌, ◌-◌, ◌*◌, ◌≤◌, Bool, true, false, List, [], ◌∷◌, ◌++◌, length, Option, Some}
 use Rattle.std.proofs.Common.{None, Ok, refl, sym, ap, ◌∙◌, subst, arith, inl, inr, length-append}
-use Rattle.ciborium_ll.specs.declared.header.Header.{Header}
-use Rattle.ciborium_ll.specs.declared.header.Header.TheVariants as header
-use Rattle.ciborium_ll.specs.declared.decoder.Decoder.{Decoder}
-use Rattle.ciborium_ll.specs.Bytes.{greatest_offset}
-use Rattle.ciborium_ll.specs.Decoding.{Takes, left_of}
-use Rattle.ciborium_ll.specs.Head.{IsHead, open_byte, break_byte}
-use Rattle.ciborium_ll.specs.Item.{Item, bytes, text}
-use Rattle.ciborium_ll.specs.Spells.{Spells, AreChunks, joined}
-use Rattle.ciborium_ll.specs.StringRefusal.{StringKind, of_bytes, of_text, string_major, IsAllowed}
-use Rattle.ciborium_ll.specs.Strings.{IsStringTaken}
+use Rattle.ciborium_ll.specs.{declared.header.Header.Header, declared.decoder.Decoder.Decoder, Bytes.greatest_offset}
+use Rattle.ciborium_ll.specs.{Decoding.{Takes, left_of}, Head.{IsHead, open_byte, break_byte}, Item.{Item, bytes, text}}
+use Rattle.ciborium_ll.specs.{Spells.{Spells, AreChunks, joined}, StringRefusal.{StringKind, of_bytes, of_text}}
+use Rattle.ciborium_ll.specs.{StringRefusal.{string_major, IsAllowed}, Strings.IsStringTaken}
 use Rattle.ciborium_ll.proofs.Unread.{rest-of}
-use Rattle.ciborium_value.specs.Nesting.{Limit}
-use Rattle.ciborium_value.specs.Sources.{Fault}
-use Rattle.ciborium_value.specs.Given.{Given, bare_text, gives, outcome, refuses, settled, given_text, untagged}
-use Rattle.ciborium_value.specs.declared.kind.Kind.TheVariants as kinds
-use Rattle.ciborium.specs.inner.ByteSources.{IsUnreadBy}
-use Rattle.ciborium.specs.inner.FrontItems.{DeniesItem, Denies, Reads}
-use Rattle.ciborium.specs.inner.Skips.{under, AreSkipped, IsBare, TakesBare}
-use Rattle.ciborium.specs.inner.StringContents.{head_of, string_item, IsContent, TakesContent, DeniesContent}
+use Rattle.ciborium_value.specs.{Nesting.Limit, Sources.Fault, Given.{Given, bare_text, gives, outcome, refuses}}
+use Rattle.ciborium_value.specs.Given.{settled, given_text, untagged}
+use Rattle.ciborium.specs.{inner.ByteSources.IsUnreadBy, inner.FrontItems.{DeniesItem, Denies, Reads}}
+use Rattle.ciborium.specs.{inner.Skips.{under, AreSkipped, IsBare, TakesBare}, inner.StringContents.head_of}
+use Rattle.ciborium.specs.inner.StringContents.{string_item, IsContent, TakesContent, DeniesContent}
 use Rattle.ciborium.proofs.Items.ItemHeads.{header_of, same-head, by-shape, no-bare-tag}
 use Rattle.ciborium.proofs.Items.SkippedTags.{ReadsBehind, untagged-under, denies-of-item, reads-bare}
+use Rattle.ciborium_ll.specs.declared.header.Header.TheVariants as header
+use Rattle.ciborium_value.specs.declared.kind.Kind.TheVariants as kinds
 
 -- the payload that was taken makes a string with its head
 content-spelled : (E : Type 0) (kind : StringKind) (len : Option ℕ) (p q : ℕ) (added c : List ℕ) →
@@ -46,9 +39,8 @@ content-spelled E of_text None p q added c (ps, s, parts, room, split, same) x h
 
 -- a string that was appended to an empty one
 pub content-taken : (E : Type 0) {S W : Type 0} (remaining : S → Option (List ℕ)) (d e : Decoder S W)
-    (pending : Option (Header × ℕ)) (kind : StringKind) (len : Option ℕ) (start out : List ℕ) → pending ≡ None →
-    start ≡ [] →
-    Takes remaining d e (λ b. (added : List ℕ) × (out ≡ start ++ added) ×
+    (pending : Option (Header × ℕ)) (kind : StringKind) (len : Option ℕ) (start out : List ℕ) →
+    pending ≡ None → start ≡ [] → Takes remaining d e (λ b. (added : List ℕ) × (out ≡ start ++ added) ×
     IsStringTaken {E = E} kind len d.last b d.counter.count (Ok tt) added) →
     TakesContent (IsUnreadBy remaining d pending) (IsUnreadBy remaining e pending) kind len out
 content-taken E remaining d e pending kind len start out none empty (b, takes, count, (added, is, taken), small) y u =
@@ -86,9 +78,8 @@ denies-content IsUnread End numbers old mid kind len fault same bare none b s z 
 -- so the item that the string is in is refused
 pub denies-string : {S A : Type 0} (IsUnread : S → List ℕ → Type 0) (End : S → ℕ) (l : Limit) (taken : Given A)
     (old mid : S) (kind : StringKind) (len : Option ℕ) (fault : Fault) →
-    ((b : List ℕ) → IsUnread old b → End mid ≡ End old) →
-    TakesBare IsUnread old mid false (head_of kind len) → DeniesContent (IsUnread mid) (End mid) kind len fault →
-    Denies IsUnread End old l taken fault
+    ((b : List ℕ) → IsUnread old b → End mid ≡ End old) → TakesBare IsUnread old mid false (head_of kind len) →
+    DeniesContent (IsUnread mid) (End mid) kind len fault → Denies IsUnread End old l taken fault
 denies-string IsUnread End l taken old mid kind len fault same bare none =
     denies-of-item IsUnread End l taken old fault (denies-content IsUnread End false old mid kind len fault same bare
     none)
@@ -117,9 +108,8 @@ content-long E kind None p q added c (ps, s, parts, room, split, same) =
     omega (arith, k, l, m)
 
 pub content-fewer : (E : Type 0) {S W : Type 0} (remaining : S → Option (List ℕ)) (d e : Decoder S W)
-    (kind : StringKind)
-    (len : Option ℕ) (start out : List ℕ) → start ≡ [] →
-    Takes remaining d e (λ b. (added : List ℕ) × (out ≡ start ++ added) ×
+    (kind : StringKind) (len : Option ℕ) (start out : List ℕ) →
+    start ≡ [] → Takes remaining d e (λ b. (added : List ℕ) × (out ≡ start ++ added) ×
     IsStringTaken {E = E} kind len d.last b d.counter.count (Ok tt) added) →
     3 * (greatest_offset - e.counter.count) + length out ≤ 3 * (greatest_offset - d.counter.count)
 content-fewer E remaining d e kind len start out empty (b, takes, count, (added, is, taken), small) =
@@ -135,25 +125,22 @@ pub string-behind : {S A : Type 0} (IsUnread : S → List ℕ → Type 0) (mid n
     (l : Limit) (taken : Given A) (payload : List ℕ) (v : A) →
     TakesContent (IsUnread mid) (IsUnread new) kind len payload →
     ((ts : List ℕ) → AreSkipped false ts → outcome l (taken (under ts (string_item kind len payload))) ≡ gives v) →
-    (y : List ℕ) →
-    IsUnread mid y → ReadsBehind IsUnread new false (head_of kind len) l taken v y
+    (y : List ℕ) → IsUnread mid y → ReadsBehind IsUnread new false (head_of kind len) l taken v y
 string-behind IsUnread mid new kind len l taken payload v content give y un =
     let (c, z, make, f, un') = content y un in
     (string_item kind len payload, c, z, make, f, give, un')
 
 pub reads-string : {S A : Type 0} (IsUnread : S → List ℕ → Type 0) (old mid new : S) (kind : StringKind)
     (len : Option ℕ) (l : Limit) (taken : Given A) (payload : List ℕ) (v : A) →
-    TakesBare IsUnread old mid false (head_of kind len) →
-    TakesContent (IsUnread mid) (IsUnread new) kind len payload →
+    TakesBare IsUnread old mid false (head_of kind len) → TakesContent (IsUnread mid) (IsUnread new) kind len payload →
     ((ts : List ℕ) → AreSkipped false ts → outcome l (taken (under ts (string_item kind len payload))) ≡ gives v) →
     Reads IsUnread old new l taken v
 reads-string IsUnread old mid new kind len l taken payload v bare content give =
     reads-bare IsUnread false (head_of kind len) l taken old mid new v bare
     (string-behind IsUnread mid new kind len l taken payload v content give)
 
-pub text-other : (l : Limit) (h : Header) → IsBare false h → ((n : Option ℕ) → h ≡ header.Text n → ⊥) →
-    (ts : List ℕ) (i : Item) → AreSkipped false ts → header_of i ≡ h →
-    outcome l (given_text (under ts i)) ≡ refuses kinds.Text
+pub text-other : (l : Limit) (h : Header) → IsBare false h → ((n : Option ℕ) → h ≡ header.Text n → ⊥) → (ts : List ℕ)
+    (i : Item) → AreSkipped false ts → header_of i ≡ h → outcome l (given_text (under ts i)) ≡ refuses kinds.Text
 text-other l h bare p ts i all e = ap (λ j. settled (bare_text j)) (untagged-under ts i) ∙
     by-shape (λ j. settled (bare_text (untagged j)) ≡ refuses kinds.Text) h (λ n k. refl) (λ n k. refl) (λ o b k. refl)
     (λ o b k. absurd (p _ k)) (λ o is k. refl) (λ o ps k. refl) (λ n k. refl) (λ raw k. refl)

@@ -1,17 +1,13 @@
 -- Payloads that are visited where they are held.
-use Rattle.std.proofs.Common.{◌≡◌, ℕ, ◌+◌, ◌≤◌, List, ◌++◌, length, take, Option, IsUtf8, Some, ◌∙◌, sym, ap}
-use Rattle.std.proofs.Common.{arith, length-append, subst, IfErr, Result, Ok, Err}
-use Rattle.std.proofs.Math.Seq.{take-append_seam}
-use Rattle.ciborium_ll.specs.declared.header.Header.{Header}
-use Rattle.ciborium_ll.specs.declared.header.Header.TheVariants as header
-use Rattle.ciborium_ll.specs.Levels.{IsPayloadOf}
-use Rattle.ciborium_ll.specs.StringRefusal.{StringKind}
+use Rattle.std.proofs.Common.{◌≡◌, ℕ, ◌+◌, ◌≤◌, List, ◌++◌, length, take, Option, IsUtf8, Some, ◌∙◌, sym, ap, arith}
+use Rattle.std.proofs.{Common.{length-append, subst, IfErr, Result, Ok, Err}, Math.Seq.take-append_seam}
+use Rattle.ciborium_ll.specs.{declared.header.Header.Header, Levels.IsPayloadOf, StringRefusal.StringKind}
 use Rattle.ciborium_value.specs.Sources.{Fault, TakesOnly}
-use Rattle.ciborium.specs.declared.de.byte_source.ByteSource.{ByteSource}
-use Rattle.ciborium.specs.inner.ByteSources.{HasTaken, IsUnread, end_at}
-use Rattle.ciborium.specs.inner.PassedOver.{DeniesPayload}
-use Rattle.ciborium.specs.inner.StringContents.{DeniesContent, DeniesJust, TakesJust}
+use Rattle.ciborium.specs.{declared.de.byte_source.ByteSource.ByteSource, inner.ByteSources.{HasTaken, IsUnread}}
+use Rattle.ciborium.specs.{inner.ByteSources.end_at, inner.PassedOver.DeniesPayload, inner.StringContents.DeniesContent}
+use Rattle.ciborium.specs.inner.StringContents.{DeniesJust, TakesJust}
 use Rattle.ciborium.proofs.Items.TakenOnly.{same-end}
+use Rattle.ciborium_ll.specs.declared.header.Header.TheVariants as header
 
 -- so many bytes were refused, and the payload is these
 pub payload-denied : (P : List ℕ → Type 0) (end n : ℕ) (fault : Fault) (h : Header) →
@@ -37,8 +33,7 @@ module _ {S W X E : Type 0} (remaining : S → Option (List ℕ)) (old new : Byt
       IfErr result (λ e. DeniesPayload (IsUnread remaining new) (end_at remaining new) h (fault_of e)) →
       IfErr result (λ e. DeniesPayload (IsUnread remaining old) (end_at remaining old) h (fault_of e))
   payload-denied-then h (Ok v) denied = tt
-  payload-denied-then h (Err x) denied = λ y p r m e u pay split there fits.
-      denied y p r m e (none y u) pay split there
+  payload-denied-then h (Err x) denied = λ y p r m e u pay split there fits. denied y p r m e (none y u) pay split there
       (subst (λ k. k ≤ e + m) (sym (same-end remaining old new only y u)) fits)
 
   pub content-denied-then : (kind : StringKind) (len : Option ℕ) (result : Result X E) →

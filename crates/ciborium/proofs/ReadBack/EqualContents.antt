@@ -1,17 +1,12 @@
 -- Equal contents are written as equal bytes, and what was read back is written again.
-use Rattle.std.proofs.Common.{◌≡◌, ℕ, List, [], ◌++◌, Some, Ok, sym, ap, ◌∙◌}
+use Rattle.std.proofs.Common.{◌≡◌, ℕ, List, [], ◌++◌, Some, Ok, refl, sym, ap, ◌∙◌}
 use Rattle.std.specs.declared.io.Error.{Error as IoError}
 use Rattle.ciborium_ll.proofs.UniqueSpelling.{one_at_front}
-use Rattle.ciborium_value.specs.Encoding.{written_bytes}
-use Rattle.ciborium_value.specs.Readings.{Reading}
-use Rattle.ciborium_value.specs.ReadsBack.{IsReadBack, by_bytes}
-use Rattle.ciborium_value.specs.Sinks.{Named}
-use Rattle.ciborium_value.specs.Given.{gives, outcome}
-use Rattle.ciborium_value.specs.WrittenContents.{IsWrittenByContent}
+use Rattle.ciborium_value.specs.{Encoding.written_bytes, Readings.Reading, ReadsBack.{IsPlainlyReadBack, by_bytes}}
+use Rattle.ciborium_value.specs.{Sinks.Named, Given.{gives, outcome}, WrittenContents.IsWrittenByContent}
 use Rattle.ciborium_value.proofs.Writing.ReadBack.{written_spells_item}
 use Rattle.ciborium.specs.laws.RoundTrips.{AreRefusedAlike, BytesWrittenAgain, LeaveSameBytes, TreeWrittenAgain}
-use Rattle.ciborium.specs.laws.RoundTrips.{WriteSameBytes}
-use Rattle.ciborium.specs.Writes.{WritesNamed}
+use Rattle.ciborium.specs.{laws.RoundTrips.WriteSameBytes, Writes.WritesNamed}
 use Rattle.ciborium.specs.declared.ser.error.Error.{Error as WriteError}
 use Rattle.ciborium.proofs.ReadBack.RoundTrips.{one-content, tree_gives_content}
 
@@ -40,13 +35,13 @@ module _ {T C : Type 0} (written : T → Named) (content : T → C) (alike : IsW
       same-left (written v) (written w) old new before after (alike v w same) first second none neither
 
 module _ {T C : Type 0} (IsValid : T → Type 0) (written : T → Named) (reading : Reading T C) (levels : T → ℕ)
-    (law : IsReadBack IsValid written reading.taken reading.content levels)
+    (law : IsPlainlyReadBack IsValid written reading.taken reading.content levels)
     (alike : IsWrittenByContent written reading.content) where
   pub bytes_written_again : BytesWrittenAgain IsValid written reading levels
   bytes_written_again v w i l rest after valid names fits within (j, s, left, sp, e, give, is) =
       let one = one_at_front (written_bytes i) s rest left i j (written_spells_item i fits) sp e in
       let given : outcome (Some l) (reading.taken i) ≡ gives (reading.content v) =
-      (law v valid).back by_bytes i names (Some l) within in
+      (law by_bytes tt v valid).back i names i refl (Some l) within in
       let taken : outcome (Some l) (reading.taken i) ≡ gives (reading.content w) =
       ap (λ j. outcome (Some l) (reading.taken j)) one.2 ∙ give in
       alike w v (one-content (outcome (Some l) (reading.taken i)) (reading.content v) (reading.content w) given taken) ∙

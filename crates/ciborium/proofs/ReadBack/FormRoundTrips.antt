@@ -2,38 +2,24 @@
 use Rattle.std.proofs.Common.{◌≡◌, ℕ, List, [], ◌++◌, Option, Some, None, Ok, Err, refl, sym, ap, ◌∙◌, subst}
 use Rattle.std.proofs.Common.{append-nil, arith}
 use Rattle.ciborium_ll.proofs.UniqueSpelling.{one_at_front}
-use Rattle.ciborium_value.specs.DeterministicForms.{deterministic_form}
-use Rattle.ciborium_value.specs.Encoding.{encoding, item_of, written_tree}
-use Rattle.ciborium_value.specs.FormsReadBack.{IsReadFromForm}
-use Rattle.ciborium_value.specs.lemmas.ItemsOfTrees.{tree_is_written_as_itself}
-use Rattle.ciborium_value.specs.Readings.{Reading}
-use Rattle.ciborium_value.specs.ReadsBack.{IsReadBack, by_tree}
-use Rattle.ciborium_value.specs.Sinks.{Named}
-use Rattle.ciborium_value.specs.Given.{Outcome, Given, gives, outcome}
-use Rattle.ciborium_value.specs.Tree.{Tree}
-use Rattle.ciborium_value.specs.View.{tree_of}
-use Rattle.ciborium_value.specs.WrittenItems.{IsWritten}
-use Rattle.ciborium_value.specs.declared.key_order.KeyOrder.{KeyOrder}
-use Rattle.ciborium_value.specs.declared.tree.Value.{Value}
+use Rattle.ciborium_value.specs.{DeterministicForms.deterministic_form, Encoding.{encoding, item_of, written_tree}}
+use Rattle.ciborium_value.specs.{lemmas.ItemsOfTrees.tree_is_written_as_itself, Nesting.{Limit, IsWithin}}
+use Rattle.ciborium_value.specs.{Readings.Reading, ReadsBack.{IsPlainlyReadBack, IsReadFromForm, by_tree}, Sinks.Named}
+use Rattle.ciborium_value.specs.{Given.{Outcome, Given, gives, outcome, outcome_map}, Tree.Tree, View.tree_of}
+use Rattle.ciborium_value.specs.{WrittenItems.IsWritten, declared.key_order.KeyOrder.KeyOrder}
+use Rattle.ciborium_value.specs.{declared.tree.Value.Value, Spelling.deterministic}
 use Rattle.ciborium_value.proofs.Forms.OwnForms.{accepted_where_own_form, form_is_its_own}
-use Rattle.ciborium_value.proofs.Forms.ProperForms.{form_is_proper}
-use Rattle.ciborium_value.proofs.Writing.ReadBack.{written_spells_item}
-use Rattle.ciborium.specs.ValueClauses.{TakesValue}
-use Rattle.ciborium.specs.DeterministicWrites.{named_form}
-use Rattle.ciborium.specs.laws.FormRoundTrips.{FormIsReadBack, IsFormContentGiven, IsFormContentReadBack}
-use Rattle.ciborium.specs.laws.FormRoundTrips.{IsFormReadAlike, IsFormReadBack, IsOwnForm}
-use Rattle.ciborium_value.specs.Spelling.{deterministic}
-use Rattle.ciborium.specs.TypedAnswers.{TakesGiving}
-use Rattle.ciborium.proofs.ReadBack.RoundTrips.{one-content}
-use Rattle.ciborium_value.proofs.GoodItems.Accepted.{written-item}
-use Rattle.ciborium.proofs.ReadBack.SourcesAgree.{without-gives}
-use Rattle.ciborium_value.proofs.Sources.Limits.{same-within}
+use Rattle.ciborium_value.proofs.{Forms.ProperForms.form_is_proper, Writing.ReadBack.written_spells_item}
+use Rattle.ciborium_value.proofs.{GoodItems.Accepted.written-item, Sources.Limits.same-within}
+use Rattle.ciborium.specs.{ValueClauses.TakesValue, DeterministicWrites.named_form, laws.FormRoundTrips.FormIsReadBack}
+use Rattle.ciborium.specs.laws.FormRoundTrips.{IsFormContentGiven, IsFormContentReadBack, IsFormReadAlike}
+use Rattle.ciborium.specs.{laws.FormRoundTrips.{IsFormReadBack, IsOwnForm}, TypedAnswers.TakesGiving}
+use Rattle.ciborium.proofs.{ReadBack.RoundTrips.one-content, ReadBack.SourcesAgree.without-gives}
 
 -- the encoding of the form stands at the front, and is the one that is accepted
 pub form_is_read_back : FormIsReadBack
-form_is_read_back o v t l rest after r proper form within fits answers =
-    answers (encoding t ++ rest) (encoding t) rest t refl
-    ((accepted_where_own_form o t 0 l (form_is_proper o v t proper form)).1
+form_is_read_back o v t l rest after r proper form within fits answers = answers (encoding t ++ rest)
+    (encoding t) rest t refl ((accepted_where_own_form o t 0 l (form_is_proper o v t proper form)).1
     (form_is_its_own o v t form, within, omega (arith, fits))) refl
 
 -- the bytes that were written into nothing are just the encoding of the form
@@ -93,26 +79,27 @@ module _ {T C : Type 0} (written : T → Named) (reading : Reading T C) where
       (form-bytes t old new bytes out none same) (given t form) (takes bytes refl)
 
 -- of a type to which the order of pairs and folding make no difference
-module _ {T C : Type 0} (IsValid : T → Type 0) (written : T → Named) (reading : Reading T C)
-    (law : (o : KeyOrder) → IsReadFromForm o IsValid written reading.taken reading.content) where
+module _ {T C : Type 0} (IsValid : T → Type 0) (written : T → Named) (reading : Reading T C) (levels : T → ℕ)
+    (law : IsReadFromForm IsValid written reading.taken reading.content levels) where
   pub from-form : (o : KeyOrder) (v : T) → IsValid v → (n : Named) → written v ≡ n → (t : Tree) →
-      named_form o n ≡ gives t →
-      outcome None (reading.taken (item_of t)) ≡ gives (reading.content v)
-  from-form o v valid (Ok i) names t form = (law o v valid).back i names t form
+      named_form o n ≡ gives t → (m : Limit) → IsWithin m (levels v) →
+      outcome m (reading.taken (item_of t)) ≡ gives (reading.content v)
+  from-form o v valid (Ok i) names t form = (law o v valid).back i names (item_of t) (ap (outcome_map item_of) form)
   from-form o v valid (Err k) names t form = absurd cc
 
   pub form_gives_content : (o : KeyOrder) (l : ℕ) (v again : T) (bytes rest : List ℕ) →
       IsFormContentGiven IsValid written reading o l v again bytes rest
   form_gives_content o l v again bytes rest old new valid out fits takes none same =
       content-read_back written reading o l v again bytes rest
-      (from-form o v valid (written v) refl) old new tt out fits takes none same
+      (λ t form. from-form o v valid (written v) refl t form None tt) old new tt out fits takes none same
 
 module _ {T C : Type 0} (IsValid : T → Type 0) (written : T → Named) (reading : Reading T C) (levels : T → ℕ)
-    (law : IsReadBack IsValid written reading.taken reading.content levels) where
+    (law : IsPlainlyReadBack IsValid written reading.taken reading.content levels) where
   -- reading takes the content from the form of what is named
   form-content : (o : KeyOrder) (v : T) → IsValid v → (n : Named) → written v ≡ n → IsFormReadAlike reading.taken o n →
       (t : Tree) → named_form o n ≡ gives t → outcome None (reading.taken (item_of t)) ≡ gives (reading.content v)
-  form-content o v valid (Ok i) names alike t form = alike t form ∙ (law v valid).back by_tree i names None tt
+  form-content o v valid (Ok i) names alike t form = alike t form ∙
+      (law by_tree tt v valid).back i names (item_of (written_tree i)) refl None tt
   form-content o v valid (Err k) names alike t form = absurd alike
 
   pub alike_read_back : (o : KeyOrder) (l : ℕ) (v again : T) (bytes rest : List ℕ) →

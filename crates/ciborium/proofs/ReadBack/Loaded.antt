@@ -2,50 +2,35 @@
 use Rattle.std.proofs.Common.{◌≡◌, ℕ, ◌≤◌, false, List, [], ◌∷◌, ◌++◌, length, map, Option, Some, None, option_map}
 use Rattle.std.proofs.Common.{Result, Ok, Err, refl, sym, ap, ◌∙◌, subst, append-nil, arith}
 use Rattle.std.proofs.lemmas.List.Elements.{All-head, All-tail, All-weaker}
-use Rattle.std.specs.BTreeMap.{BTreeMap, IsOrdered}
-use Rattle.std.specs.List.Sorted.{IsStrictlySortedBy}
-use Rattle.std.specs.Map.{keys_of}
+use Rattle.std.specs.{BTreeMap.{BTreeMap, IsOrdered}, List.Sorted.IsStrictlySortedBy, Map.keys_of}
 use Rattle.std.specs.declared.io.Error.{Error as IoError}
-use Rattle.ciborium_ll.specs.Bytes.{greatest_offset}
-use Rattle.ciborium_ll.specs.Item as items
-use Rattle.ciborium_ll.specs.Item.{Item}
+use Rattle.ciborium_ll.specs.{Bytes.greatest_offset, Item.Item}
 use Rattle.ciborium_ll.proofs.UniqueSpelling.{one_at_front}
-use Rattle.ciborium_value.specs.Canonical.{key_order}
-use Rattle.ciborium_value.specs.OrderedValues.{ordered_value_cmp}
-use Rattle.ciborium_value.specs.Encoding.{encoding, item_of, pairs_of, written_bytes}
-use Rattle.ciborium_value.specs.Folded.{folded, tree_pairs_folded}
-use Rattle.ciborium_value.specs.Meaning.{tree_pairs_more}
-use Rattle.ciborium_value.specs.Places.{dictionary, pairs_from}
-use Rattle.ciborium_value.specs.Readings.{Reading}
-use Rattle.ciborium_value.specs.ReadsBack.{IsReadBack, by_bytes}
-use Rattle.ciborium_value.specs.Sinks.{Named, all_named, and_then, contained, container_of, in_turn, named_value}
-use Rattle.ciborium_value.specs.Given.{gives, outcome}
-use Rattle.ciborium_value.specs.Tree as trees
-use Rattle.ciborium_value.specs.Tree.{Tree, TreePairs}
-use Rattle.ciborium_value.specs.View.{tree_of, tree_pairs_of}
-use Rattle.ciborium_value.specs.declared.key_order.KeyOrder.{KeyOrder}
-use Rattle.ciborium_value.specs.WrittenItems.{IsWritten}
-use Rattle.ciborium_value.specs.declared.tree.Value.{Value}
+use Rattle.ciborium_value.specs.{Canonical.key_order, OrderedValues.ordered_value_cmp, Encoding.{encoding, item_of}}
+use Rattle.ciborium_value.specs.{Encoding.{pairs_of, written_bytes}, Folded.{folded, tree_pairs_folded}}
+use Rattle.ciborium_value.specs.{Meaning.tree_pairs_more, Places.{dictionary, pairs_from}, Readings.Reading}
+use Rattle.ciborium_value.specs.{ReadsBack.{IsPlainlyReadBack, by_bytes}, Sinks.{Named, all_named, and_then, contained}}
+use Rattle.ciborium_value.specs.{Sinks.{container_of, in_turn, named_value}, Given.{gives, outcome}, Tree.Tree}
+use Rattle.ciborium_value.specs.{Tree.TreePairs, View.{tree_of, tree_pairs_of}, declared.key_order.KeyOrder.KeyOrder}
+use Rattle.ciborium_value.specs.{WrittenItems.IsWritten, declared.tree.Value.Value, Deterministic.AreRising}
+use Rattle.ciborium_value.specs.Deterministic.{HasRisingKeys, PairsHaveRisingKeys}
+use Rattle.ciborium_value.specs.{DeterministicTrees.IsDeterministicTree, Spelling.deterministic}
 use Rattle.ciborium_value.proofs.Writing.ReadBack.{written_spells_item, written_tree_is_proper}
-use Rattle.ciborium.specs.declared.de.error.Error.{Error}
-use Rattle.ciborium.specs.ValueAnswers.{AnswersGoodItem, GivesTree}
-use Rattle.ciborium.specs.ValueClauses.{TakesValue}
-use Rattle.ciborium_value.specs.Deterministic as rising
-use Rattle.ciborium_value.specs.Deterministic.{AreRising, HasRisingKeys, PairsHaveRisingKeys}
-use Rattle.ciborium_value.specs.DeterministicTrees.{IsDeterministicTree}
-use Rattle.ciborium.specs.laws.Loaded.{AreDeterministicParts, IsContentLoaded, IsDeterministicStore, IsLoaded}
-use Rattle.ciborium.specs.laws.Loaded.{IsStoreValid, LoadedAsSaved, LoadingGivesContent, store_tree}
-use Rattle.ciborium_value.specs.Spelling.{deterministic}
-use Rattle.ciborium.specs.declared.ser.error.Error.{Error as WriteError}
-use Rattle.ciborium.specs.Writes.{IsNamedWritten, WritesNamed}
-use Rattle.ciborium.proofs.Encodings.RisingKeys.{keys-rise}
-use Rattle.ciborium.proofs.ReadBack.RoundTrips.{one-content}
 use Rattle.ciborium_value.proofs.GoodItems.Accepted.{accepted, written-item}
+use Rattle.ciborium.specs.{declared.de.error.Error.Error, ValueAnswers.{AnswersGoodItem, GivesTree}}
+use Rattle.ciborium.specs.{ValueClauses.TakesValue, laws.Loaded.{AreDeterministicParts, IsContentLoaded}}
+use Rattle.ciborium.specs.laws.Loaded.{IsDeterministicStore, IsLoaded, IsStoreValid, LoadedAsSaved, LoadingGivesContent}
+use Rattle.ciborium.specs.{laws.Loaded.store_tree, declared.ser.error.Error.Error as WriteError, Writes.IsNamedWritten}
+use Rattle.ciborium.specs.Writes.{WritesNamed}
+use Rattle.ciborium.proofs.{Encodings.RisingKeys.keys-rise, ReadBack.RoundTrips.one-content}
+use Rattle.ciborium_ll.specs.Item as items
+use Rattle.ciborium_value.specs.Tree as trees
+use Rattle.ciborium_value.specs.Deterministic as rising
 
 -- ---- any type
 
 pub loaded_as_saved : {T C : Type 0} (IsValid : T → Type 0) (written : T → Named) (reading : Reading T C)
-    (levels : T → ℕ) → IsReadBack IsValid written reading.taken reading.content levels →
+    (levels : T → ℕ) → IsPlainlyReadBack IsValid written reading.taken reading.content levels →
     LoadedAsSaved IsValid written reading
 loaded_as_saved {T} {C} IsValid written reading levels law o v t l rest after r valid names determined nests fits
     answers =
@@ -58,7 +43,7 @@ loaded_as_saved {T} {C} IsValid written reading levels law o v t l rest after r 
     by (Ok w) (same, left) = (
       left,
       ap (λ u. outcome None (reading.taken (item_of u))) (sym same) ∙
-          (law v valid).back by_bytes (item_of t) names None tt,
+          (law by_bytes tt v valid).back (item_of t) names (item_of t) refl None tt,
     )
     by (Err e) failed = failed
 
@@ -77,7 +62,7 @@ loading_gives_content IsValid written reading law o v t w l old new bytes after 
     one-content (outcome None (reading.taken (item_of w))) (reading.content v) c loaded.1 give
 
 module _ {T C : Type 0} (IsValid : T → Type 0) (written : T → Named) (reading : Reading T C) (levels : T → ℕ)
-    (law : IsReadBack IsValid written reading.taken reading.content levels) where
+    (law : IsPlainlyReadBack IsValid written reading.taken reading.content levels) where
   -- an item that is named was written whole: a tree that is read at its front has just that item
   front-content : (o : KeyOrder) (v : T) (l : ℕ) (w : Tree) (bytes : List ℕ) (after : Option (List ℕ)) (c : C) →
       IsValid v → (i : Item) → written v ≡ Ok i → IsWritten i → bytes ≡ written_bytes i →
@@ -86,15 +71,15 @@ module _ {T C : Type 0} (IsValid : T → Type 0) (written : T → Named) (readin
   front-content o v l w bytes after c valid i names fits same (s, left, good, e, is) give =
       let one = one_at_front (written_bytes i) s [] left i (item_of w) (written_spells_item i fits)
       (written-item o s 0 (Some l) w good) (append-nil (written_bytes i) ∙ sym same ∙ e) in
-      one-content (outcome None (reading.taken i)) (reading.content v) c ((law v valid).back by_bytes i names None tt)
+      one-content (outcome None (reading.taken i)) (reading.content v) c
+      ((law by_bytes tt v valid).back i names i refl None tt)
       (ap (λ j. outcome None (reading.taken j)) one.2 ∙ give)
 
   -- the same, by cases on what is named
   by-name : (o : KeyOrder) (v : T) (l : ℕ) (w : Tree) (old new bytes : List ℕ) (after : Option (List ℕ)) (c : C) →
       IsValid v → (n : Named) → written v ≡ n → WritesNamed {E = WriteError IoError} (Some old) (Some new) (Ok tt) n →
-      IsNamedWritten n →
-      TakesValue (deterministic o) bytes l w after → outcome None (reading.taken (item_of w)) ≡ gives c → old ≡ [] →
-      bytes ≡ new → c ≡ reading.content v
+      IsNamedWritten n → TakesValue (deterministic o) bytes l w after →
+      outcome None (reading.taken (item_of w)) ≡ gives c → old ≡ [] → bytes ≡ new → c ≡ reading.content v
   by-name o v l w old new bytes after c valid (Ok i) names appends fits takes give none same =
       let all : new ≡ written_bytes i = appends ∙ ap (λ (b : List ℕ). b ++ written_bytes i) none in
       front-content o v l w bytes after c valid i names fits (same ∙ all) takes give
@@ -157,10 +142,9 @@ unfolding IsStrictlySortedBy
 neighbours-rise o (k ∷ j ∷ ts) h = (h.0.0, neighbours-rise o (j ∷ ts) h.1)
 neighbours-rise o u h = tt
 
-pub deterministic_store : (o : KeyOrder) (es : List (Value × Value)) →
-    IsStrictlySortedBy (ordered_value_cmp o) (keys_of es) →
-    IsNamedWritten (container_of dictionary (in_turn named_value named_value es)) → AreDeterministicParts o es →
-    IsDeterministicStore o es
+pub deterministic_store : (o : KeyOrder) (es : List (Value × Value)) → IsStrictlySortedBy (ordered_value_cmp o)
+    (keys_of es) → IsNamedWritten (container_of dictionary (in_turn named_value named_value es)) →
+    AreDeterministicParts o es → IsDeterministicStore o es
 deterministic_store o es sorted written parts = (
   store-named es,
   record {

@@ -1,29 +1,18 @@
 -- What is loaded from all of the bytes: one encoding of each content, and what was saved.
-use Rattle.std.proofs.Common.{◌≡◌, ℕ, suc, ◌≤◌, List, [], ◌++◌, length, take, Some, None, Result, Ok, Err, refl, sym}
-use Rattle.std.proofs.Common.{ap}
-use Rattle.std.proofs.Common.{◌∙◌, subst, append-nil, arith, ◌⊎◌, inl, inr, ◌≢◌}
-use Rattle.std.specs.declared.io.Error.{Error as IoError}
-use Rattle.ciborium_ll.specs.Bytes.{greatest_offset}
-use Rattle.ciborium_ll.specs.Spells.{Spells}
-use Rattle.ciborium_value.specs.Encoding.{encoding, item_of}
-use Rattle.ciborium_value.specs.FormsReadBack.{IsReadFromForm}
-use Rattle.ciborium_value.specs.Readings.{Reading}
-use Rattle.ciborium_value.specs.Sinks.{Named}
-use Rattle.ciborium_value.specs.Sources.{IsFaultOf}
-use Rattle.ciborium_value.specs.Given.{Outcome, gives, nests, outcome}
-use Rattle.ciborium_value.specs.Tree.{Tree}
-use Rattle.ciborium_value.specs.WrittenItems.{IsWritten}
-use Rattle.ciborium_value.specs.declared.key_order.KeyOrder.{KeyOrder}
-use Rattle.ciborium_value.proofs.Sources.Limits.{same-within}
-use Rattle.ciborium_value.proofs.Writing.ReadBack.{written_spells_item}
-use Rattle.ciborium.specs.DeterministicWrites.{named_form}
-use Rattle.ciborium.specs.Errors.{fault_of}
-use Rattle.ciborium.specs.LoadedAnswers.{AreFormOf, RefusesOther}
-use Rattle.ciborium.specs.SliceAnswers.{ReadsAll}
-use Rattle.ciborium.specs.declared.de.error.Error.{Error}
-use Rattle.ciborium.specs.declared.de.error.Error.TheVariants as errors
-use Rattle.ciborium.specs.laws.Loaded.{IsSavedLoaded, NestsDeeper, OneEncoding, SavedIsLoaded}
+use Rattle.std.proofs.Common.{◌≡◌, ℕ, suc, ◌<◌, ◌≤◌, Bool, true, false, List, [], ◌++◌, length, take, Some, None}
+use Rattle.std.proofs.Common.{Result, Ok, Err, refl, sym, ap, ◌∙◌, subst, append-nil, arith, ◌⊎◌, inl, inr, ◌≢◌}
+use Rattle.std.proofs.lemmas.Bool.{leb-false, leb-true}
+use Rattle.std.specs.{Prelude.nat_le, declared.io.Error.Error as IoError}
+use Rattle.ciborium_ll.specs.{Bytes.greatest_offset, Spells.Spells}
+use Rattle.ciborium_value.specs.{Encoding.{encoding, item_of}, ReadsBack.IsReadFromForm, Nesting.{Limit, IsWithin}}
+use Rattle.ciborium_value.specs.{Readings.Reading, Sinks.Named, Sources.IsFaultOf, Given.{Outcome, gives, nests}}
+use Rattle.ciborium_value.specs.{Given.outcome, Tree.Tree, WrittenItems.IsWritten, declared.key_order.KeyOrder.KeyOrder}
+use Rattle.ciborium_value.proofs.{Sources.Limits.same-within, Writing.ReadBack.written_spells_item}
+use Rattle.ciborium.specs.{DeterministicWrites.named_form, Errors.fault_of, LoadedAnswers.{AreFormOf, RefusesOther}}
+use Rattle.ciborium.specs.{SliceAnswers.ReadsAll, declared.de.error.Error.Error, laws.Loaded.IsSavedLoaded}
+use Rattle.ciborium.specs.laws.Loaded.{NestsDeeper, OneEncoding, SavedIsLoaded}
 use Rattle.ciborium.proofs.ReadBack.FormRoundTrips.{from-form, one-form, read-content}
+use Rattle.ciborium.specs.declared.de.error.Error.TheVariants as errors
 
 one-encoded : (o : KeyOrder) (b c : List ℕ) (n m : Named) → n ≡ m → AreFormOf o b n → AreFormOf o c m → b ≡ c
 one-encoded o b c n m e (t, f, is) (u, g, same) =
@@ -50,12 +39,12 @@ no-other o l b named t e form same (RefusesOther.other u k f d r) =
     absurd (d.1 (ap (take (suc k)) (same ∙ ap encoding (one-form (named_form o named) t u form f))))
 no-other o l b named t e form same RefusesOther.no_memory = refl
 
-module _ {T C : Type 0} (IsValid : T → Type 0) (written : T → Named) (reading : Reading T C)
-    (law : (o : KeyOrder) → IsReadFromForm o IsValid written reading.taken reading.content) where
+module _ {T C : Type 0} (IsValid : T → Type 0) (written : T → Named) (reading : Reading T C) (levels : T → ℕ)
+    (law : IsReadFromForm IsValid written reading.taken reading.content levels) where
   module _ (o : KeyOrder) (l : ℕ) (v : T) (t : Tree) (bytes : List ℕ) (valid : IsValid v)
       (form : named_form o (written v) ≡ gives t) (fits : IsWritten (item_of t)) (same : bytes ≡ encoding t) where
-    given : outcome None (reading.taken (item_of t)) ≡ gives (reading.content v)
-    given = from-form IsValid written reading law o v valid (written v) refl t form
+    given : (m : Limit) → IsWithin m (levels v) → outcome m (reading.taken (item_of t)) ≡ gives (reading.content v)
+    given = from-form IsValid written reading levels law o v valid (written v) refl t form
 
     spelled : Spells bytes (item_of t)
     spelled = subst (λ b. Spells b (item_of t)) (sym same) (written_spells_item (item_of t) fits)
@@ -63,13 +52,14 @@ module _ {T C : Type 0} (IsValid : T → Type 0) (written : T → Named) (readin
     pub content-read : (w : T) → ReadsAll {E = IoError} l reading bytes (Ok w) → reading.content w ≡ reading.content v
     content-read w reads =
         let (i, sp, give) = reads.ok in
-        read-content written reading t l bytes (Some []) (reading.content w) (reading.content v) fits same given
+        read-content written reading t l bytes (Some []) (reading.content w) (reading.content v) fits same
+        (given None tt)
         (i, bytes, [], sp, sym (append-nil bytes), give, refl)
 
     -- the refusals that are left
     abbrev IsLimit : Error IoError → Type 0
     IsLimit e = (e ≡ errors.Memory) ⊎
-        ((e ≡ errors.RecursionLimitExceeded) × NestsDeeper reading (named_form o (written v)) l)
+        ((e ≡ errors.RecursionLimitExceeded) × NestsDeeper reading (named_form o (written v)) l × (l < levels v))
 
     refused-read : (e : Error IoError) → length bytes ≤ greatest_offset → ReadsAll l reading bytes (Err e) → IsLimit e
     refused-read e room reads = by (same-within (reading.taken (item_of t)) l)
@@ -82,7 +72,11 @@ module _ {T C : Type 0} (IsValid : T → Type 0) (written : T → Named) (readin
         deeper : outcome (Some l) (reading.taken (item_of t)) ≡ nests →
             (e ≡ errors.Memory) ⊎ (e ≡ errors.RecursionLimitExceeded) → IsLimit e
         deeper is (inl h) = inl h
-        deeper is (inr h) = inr (h, (t, form, is))
+        deeper is (inr h) = inr (h, (t, form, is), above (nat_le (levels v) l) refl)
+          where
+            above : (b : Bool) → nat_le (levels v) l ≡ b → l < levels v
+            above true e = let no = sym is ∙ given (Some l) (leb-true (levels v) l e) in absurd cc
+            above false e = leb-false (levels v) l e
 
         first : {X Y : Type 0} → IsFaultOf (length bytes) (fault_of (Some []) e)
             (outcome (Some l) (reading.taken (item_of t))) ⊎ (◌≢◌ {A = List ℕ} [] [] × X × Y) →
@@ -93,7 +87,7 @@ module _ {T C : Type 0} (IsValid : T → Type 0) (written : T → Named) (readin
         by : (outcome (Some l) (reading.taken (item_of t)) ≡ nests) ⊎
             (outcome (Some l) (reading.taken (item_of t)) ≡ outcome None (reading.taken (item_of t))) → IsLimit e
         by (inl is) = first (reads.refused (item_of t) bytes [] spelled (sym (append-nil bytes))) is
-        by (inr is) = memory (reads.exact (item_of t) (reading.content v) spelled (is ∙ given))
+        by (inr is) = memory (reads.exact (item_of t) (reading.content v) spelled (is ∙ given None tt))
 
   pub saved_loaded : (o : KeyOrder) (l : ℕ) (v again : T) (bytes : List ℕ) →
       IsSavedLoaded IsValid written reading o l v again bytes
@@ -103,7 +97,7 @@ module _ {T C : Type 0} (IsValid : T → Type 0) (written : T → Named) (readin
       (same ∙ out ∙ ap (λ (b : List ℕ). b ++ encoding t) none) again loads.ok.0
 
   pub saved_is_loaded : ((v w : T) → reading.content v ≡ reading.content w → written v ≡ written w) →
-      SavedIsLoaded IsValid written reading
+      SavedIsLoaded IsValid written reading levels
   saved_is_loaded alike o l v old new bytes (Ok w) valid out fits room loads none same =
       saved_loaded o l v w bytes old new valid out fits loads none same
   saved_is_loaded alike o l v old new bytes (Err e) valid (t, form, out) (u, own, fits) room loads none same =

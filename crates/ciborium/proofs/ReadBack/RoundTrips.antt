@@ -4,26 +4,17 @@ use Rattle.std.proofs.Common.{◌+◌, subst, append-nil, arith}
 use Rattle.std.specs.declared.io.Error.{Error as IoError}
 use Rattle.ciborium_ll.specs.Item.{Item}
 use Rattle.ciborium_ll.proofs.UniqueSpelling.{one_at_front}
-use Rattle.ciborium_value.specs.Encoding.{item_of, written_bytes}
-use Rattle.ciborium_value.specs.Nesting.{IsWithin}
-use Rattle.ciborium_value.specs.Readings.{Reading}
-use Rattle.ciborium_value.specs.ReadsBack.{IsReadBack, by_bytes, by_tree}
-use Rattle.ciborium_value.specs.Sinks.{Named}
-use Rattle.ciborium_value.specs.Sources.{Fault, of_syntax, of_memory, of_device, of_end}
-use Rattle.ciborium_value.specs.Sources.{of_length, IsFaultOf, IsOutsideFault}
-use Rattle.ciborium_value.specs.Given.{Outcome, gives, outcome}
-use Rattle.ciborium_value.specs.WrittenItems.{IsWritten}
+use Rattle.ciborium_value.specs.{Encoding.{item_of, written_bytes, written_tree}, Nesting.IsWithin, Readings.Reading}
+use Rattle.ciborium_value.specs.{ReadsBack.{IsPlainlyReadBack, by_bytes, by_tree}, Sinks.Named, Sources.Fault}
+use Rattle.ciborium_value.specs.Sources.{of_syntax, of_memory, of_device, of_end, of_length, IsFaultOf, IsOutsideFault}
+use Rattle.ciborium_value.specs.{Given.{Outcome, gives, outcome}, WrittenItems.IsWritten, TreeAnswers.IsTreeOf}
+use Rattle.ciborium_value.specs.{TreeAnswers.value_item, declared.tree.Value.Value}
 use Rattle.ciborium_value.proofs.Writing.ReadBack.{written_spells_item}
-use Rattle.ciborium.specs.declared.de.error.Error.{Error}
-use Rattle.ciborium.specs.Errors.{fault_of}
-use Rattle.ciborium_value.specs.declared.error.Error.TheVariants as of_tree
-use Rattle.ciborium_value.specs.TreeAnswers.{IsTreeOf, value_item}
-use Rattle.ciborium_value.specs.declared.tree.Value.{Value}
-use Rattle.ciborium.specs.declared.ser.error.Error.{Error as WriteError}
+use Rattle.ciborium.specs.{declared.de.error.Error.Error, Errors.fault_of, declared.ser.error.Error.Error as WriteError}
 use Rattle.ciborium.specs.laws.RoundTrips.{BytesReadBack, IsContentReadBack, IsGivenBack, TreeGivesContent}
-use Rattle.ciborium.specs.laws.RoundTrips.{TreeReadBack}
-use Rattle.ciborium.specs.TypedAnswers.{AnswersBytes, TakesGiving}
+use Rattle.ciborium.specs.{laws.RoundTrips.TreeReadBack, TypedAnswers.{AnswersBytes, TakesGiving}}
 use Rattle.ciborium.specs.Writes.{IsNamedWritten, WritesNamed}
+use Rattle.ciborium_value.specs.declared.error.Error.TheVariants as of_tree
 
 -- where a value is given no item is to blame
 pub not-blamed : {C : Type 0} (end : ℕ) (f : Fault) (o : Outcome C) (c : C) → o ≡ gives c → IsFaultOf end f o →
@@ -39,13 +30,13 @@ pub one-content : {C : Type 0} (o : Outcome C) (c d : C) → o ≡ gives c → o
 one-content o c d h k = cc
 
 pub bytes_read_back : {T C : Type 0} (IsValid : T → Type 0) (written : T → Named) (reading : Reading T C)
-    (levels : T → ℕ) →
-    IsReadBack IsValid written reading.taken reading.content levels → BytesReadBack IsValid written reading levels
+    (levels : T → ℕ) → IsPlainlyReadBack IsValid written reading.taken reading.content levels →
+    BytesReadBack IsValid written reading levels
 bytes_read_back {T} {C} IsValid written reading levels law v i l rest after r valid names fits within answers =
     by r answers
   where
     given : outcome (Some l) (reading.taken i) ≡ gives (reading.content v)
-    given = (law v valid).back by_bytes i names (Some l) within
+    given = (law by_bytes tt v valid).back i names i refl (Some l) within
 
     by : (r : Result C (Error IoError)) → AnswersBytes reading.taken l (written_bytes i ++ rest) after r →
         IsGivenBack (reading.content v) rest (length (written_bytes i)) after r
@@ -64,7 +55,7 @@ bytes_read_back {T} {C} IsValid written reading levels law v i l rest after r va
         (refused (written_bytes i ++ rest) refl i (written_bytes i) rest (written_spells_item i fits) refl))
 
 module _ {T C : Type 0} (IsValid : T → Type 0) (written : T → Named) (reading : Reading T C) (levels : T → ℕ)
-    (law : IsReadBack IsValid written reading.taken reading.content levels) where
+    (law : IsPlainlyReadBack IsValid written reading.taken reading.content levels) where
   -- an item that is named was written whole: what is read at its front is the content
   taken-content : (v : T) (l : ℕ) (bytes : List ℕ) (after : Option (List ℕ)) (c : C) → IsValid v →
       IsWithin (Some l) (levels v) → (i : Item) → written v ≡ Ok i → IsWritten i → bytes ≡ written_bytes i →
@@ -73,7 +64,8 @@ module _ {T C : Type 0} (IsValid : T → Type 0) (written : T → Named) (readin
       let one = one_at_front (written_bytes i) s [] left i j (written_spells_item i fits) sp
       (append-nil (written_bytes i) ∙ sym same ∙ e) in
       one-content (outcome (Some l) (reading.taken i)) (reading.content v) c
-      ((law v valid).back by_bytes i names (Some l) within) (ap (λ j. outcome (Some l) (reading.taken j)) one.2 ∙ give)
+      ((law by_bytes tt v valid).back i names i refl (Some l) within)
+      (ap (λ j. outcome (Some l) (reading.taken j)) one.2 ∙ give)
 
   -- the same, by cases on what is named
   by-name : (v : T) (l : ℕ) (old new bytes : List ℕ) (after : Option (List ℕ)) (c : C) → IsValid v →
@@ -94,7 +86,7 @@ module _ {T C : Type 0} (IsValid : T → Type 0) (written : T → Named) (readin
   made-content : (v : T) (made : Value) → IsValid v → (n : Named) → written v ≡ n → IsTreeOf n made →
       outcome None (reading.taken (value_item made)) ≡ gives (reading.content v)
   made-content v made valid (Ok i) names is = ap (λ t. outcome None (reading.taken (item_of t))) is ∙
-      (law v valid).back by_tree i names None tt
+      (law by_tree tt v valid).back i names (item_of (written_tree i)) refl None tt
   made-content v made valid (Err k) names is = absurd is
 
   pub tree_gives_content : TreeGivesContent IsValid written reading

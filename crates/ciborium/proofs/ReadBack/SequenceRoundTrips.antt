@@ -1,34 +1,21 @@
 -- What is written as a sequence is read back.
 use Rattle.std.proofs.Common.{◌≡◌, ℕ, suc, ◌<◌, ◌≤◌, List, [], ◌∷◌, ◌++◌, length, map, All, Option, Some, None, Result}
-use Rattle.std.proofs.Common.{Ok, Err, ◌+◌, refl, sym, ap, ◌∙◌, subst, arith}
-use Rattle.std.proofs.Math.Nat.{le-max_left, le-max_right}
+use Rattle.std.proofs.{Common.{Ok, Err, ◌+◌, refl, sym, ap, ◌∙◌, subst, arith}, Math.Nat.{le-max_left, le-max_right}}
 use Rattle.std.specs.declared.io.Error.{Error as IoError}
-use Rattle.ciborium_ll.specs.Bytes.{greatest_offset}
-use Rattle.ciborium_ll.specs.Item.{Item}
-use Rattle.ciborium_ll.specs.Spells.{Spells}
+use Rattle.ciborium_ll.specs.{Bytes.greatest_offset, Item.Item, Spells.Spells}
 use Rattle.ciborium_ll.proofs.UniqueSpelling.{one_at_front}
-use Rattle.ciborium_value.specs.Encoding.{items_bytes, written_bytes}
-use Rattle.ciborium_value.specs.Nesting.{Limit, IsWithin}
-use Rattle.ciborium_value.specs.Places.{items_from}
-use Rattle.ciborium_value.specs.Readings.{Reading}
-use Rattle.ciborium_value.specs.Sinks.{Named, all_named}
-use Rattle.ciborium_value.specs.Sources.{Fault, of_kind, of_nesting, of_syntax, of_memory, of_device, of_end, of_length}
-use Rattle.ciborium_value.specs.Sources.{IsOutsideFault}
-use Rattle.ciborium_value.specs.Given.{Given, gives, outcome}
-use Rattle.ciborium_value.specs.WrittenItems.{AreWritten}
-use Rattle.ciborium_value.proofs.Writing.Progress.{and_then_is}
-use Rattle.ciborium_value.proofs.Writing.ReadBack.{written_spells_item}
-use Rattle.ciborium.specs.declared.de.error.Error.{Error}
-use Rattle.ciborium.specs.declared.de.error.Error.TheVariants.{Io}
-use Rattle.ciborium.specs.Errors.{fault_of}
+use Rattle.ciborium_value.specs.{Encoding.{items_bytes, written_bytes}, Nesting.{Limit, IsWithin}, Places.items_from}
+use Rattle.ciborium_value.specs.{Readings.Reading, Sinks.{Named, all_named}, Sources.{Fault, of_kind, of_nesting}}
+use Rattle.ciborium_value.specs.Sources.{of_syntax, of_memory, of_device, of_end, of_length, IsOutsideFault}
+use Rattle.ciborium_value.specs.{Given.{Given, gives, outcome}, WrittenItems.AreWritten}
+use Rattle.ciborium_value.proofs.{Writing.Progress.and_then_is, Writing.ReadBack.written_spells_item}
+use Rattle.ciborium.specs.{declared.de.error.Error.Error, declared.de.error.Error.TheVariants.Io, Errors.fault_of}
 use Rattle.ciborium.specs.SequenceReads.{GivesInTurn, GivesThen, TakesSequence}
 use Rattle.ciborium.specs.laws.SequenceRoundTrips.{AnswersSequence, AreContentsReadBack, AreGivenBack}
-use Rattle.ciborium.specs.laws.SequenceRoundTrips.{SequenceReadsBack, longest}
-use Rattle.ciborium.specs.SequenceWrites.{AllNamed, AreNamedWritten, WritesInTurn}
-use Rattle.ciborium.specs.declared.ser.error.Error.{Error as WriteError}
+use Rattle.ciborium.specs.{laws.SequenceRoundTrips.{SequenceReadsBack, longest}, SequenceWrites.AllNamed}
+use Rattle.ciborium.specs.{SequenceWrites.{AreNamedWritten, WritesInTurn}, declared.ser.error.Error.Error as WriteError}
 use Rattle.ciborium.specs.TypedAnswers.{IsFaultAhead}
-use Rattle.ciborium.proofs.ReadBack.RoundTrips.{not-blamed, one-content}
-use Rattle.ciborium.proofs.Encodings.Sequences.{never-empty}
+use Rattle.ciborium.proofs.{ReadBack.RoundTrips.{not-blamed, one-content}, Encodings.Sequences.never-empty}
 
 -- ---- faults that no item decides
 
@@ -82,11 +69,10 @@ module _ {C : Type 0} (l : Limit) (taken : Given C) where
   given-back u v ds fits given gave = absurd given
 
   -- behind some of the items the fault is one that no item decides, where it is so in front of an item and at the end
-  outside-behind : (front fault : Fault) → ((n : ℕ) → IsOutsideFault n front → IsOutsideFault n fault) →
-      (is : List Item) (cs ds : List C) (u : List ℕ) → AreWritten (items_from is) →
-      AreGiven l taken is cs → GivesThen l taken (items_bytes (items_from is)) ds u →
-      IsFaultAhead 0 l taken u front → (u ≡ [] → IsOutsideFault 0 fault) →
-      IsOutsideFault (longest is) fault
+  outside-behind : (front fault : Fault) →
+      ((n : ℕ) → IsOutsideFault n front → IsOutsideFault n fault) → (is : List Item) (cs ds : List C) (u : List ℕ) →
+      AreWritten (items_from is) → AreGiven l taken is cs → GivesThen l taken (items_bytes (items_from is)) ds u →
+      IsFaultAhead 0 l taken u front → (u ≡ [] → IsOutsideFault 0 fault) → IsOutsideFault (longest is) fault
   outside-behind front fault so [] [] [] u fits given gave ahead end = end (sym gave)
   outside-behind front fault so [] [] (d ∷ ds) u fits given (j, s, left, spelled, split, gave, more) ahead end =
       absurd (never-empty [] s left j spelled refl split)
@@ -142,9 +128,8 @@ module _ {T C : Type 0} (IsValid : T → Type 0) (written : T → Named) (readin
   contents_read_back vs again bytes rest old new valid within out fits taken none same =
       by (all_named (map written vs)) refl out fits
     where
-      by : (r : AllNamed) → all_named (map written vs) ≡ r →
-          WritesInTurn {E = WriteError IoError} (Some old) (Some new) (Ok tt) r → AreNamedWritten r →
-          map reading.content again ≡ map reading.content vs
+      by : (r : AllNamed) → all_named (map written vs) ≡ r → WritesInTurn {E = WriteError IoError} (Some old)
+          (Some new) (Ok tt) r → AreNamedWritten r → map reading.content again ≡ map reading.content vs
       by (Ok is) named out fits =
           let whole : bytes ≡ items_bytes (items_from is) = same ∙ out ∙
           ap (λ (b : List ℕ). b ++ items_bytes (items_from is)) none in

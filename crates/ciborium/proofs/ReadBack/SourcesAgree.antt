@@ -2,18 +2,14 @@
 use Rattle.std.proofs.Common.{◌≡◌, ℕ, [], Some, None, Result, Ok, Err, refl, sym, ap, ◌∙◌, append-nil, ◌⊎◌, inl, inr}
 use Rattle.std.specs.declared.io.Error.{Error as IoError}
 use Rattle.ciborium_ll.proofs.UniqueSpelling.{one_at_front}
-use Rattle.ciborium_value.specs.Encoding.{encoding, item_of}
-use Rattle.ciborium_value.specs.Sources.{Fault, of_kind, of_nesting, of_syntax, of_memory, of_device, of_end}
-use Rattle.ciborium_value.specs.Sources.{of_length, IsFaultOf}
-use Rattle.ciborium_value.specs.Given.{Outcome, Given, gives, nests, outcome, refuses}
-use Rattle.ciborium_value.proofs.Sources.Limits.{same-within}
-use Rattle.ciborium_value.specs.declared.kind.Kind.{Kind}
+use Rattle.ciborium_value.specs.{Encoding.{encoding, item_of}, Sources.{Fault, of_kind, of_nesting, of_syntax}}
+use Rattle.ciborium_value.specs.{Sources.{of_memory, of_device, of_end, of_length, IsFaultOf}, Given.{Outcome, Given}}
+use Rattle.ciborium_value.specs.{Given.{gives, nests, outcome, refuses}, declared.kind.Kind.Kind}
 use Rattle.ciborium_value.specs.declared.error.Error.{Error as TreeError}
+use Rattle.ciborium_value.proofs.{Sources.Limits.same-within, Orders.TreeEncodings.encoding-spells}
+use Rattle.ciborium.specs.{Errors.fault_of, TypedAnswers.{AnswersTree, AnswersBytes, AreOneAnswer, IsExcused}}
+use Rattle.ciborium.specs.{TypedAnswers.{IsSameKind, SourcesAgree}, declared.de.error.Error.Error}
 use Rattle.ciborium_value.specs.declared.error.Error.TheVariants as of_tree
-use Rattle.ciborium.specs.Errors.{fault_of}
-use Rattle.ciborium.specs.TypedAnswers.{AnswersTree, AnswersBytes, AreOneAnswer, IsExcused, IsSameKind, SourcesAgree}
-use Rattle.ciborium.specs.declared.de.error.Error.{Error}
-use Rattle.ciborium_value.proofs.Orders.TreeEncodings.{encoding-spells}
 
 -- what an item gives within a limit it gives without one
 pub without-gives : {A : Type 0} (o p : Outcome A) (v : A) → (o ≡ nests) ⊎ (o ≡ p) → o ≡ gives v → p ≡ gives v

@@ -1,26 +1,16 @@
 -- From a source that was begun on a lent reader to the reader.
-use Rattle.std.proofs.Common.{◌≡◌, ℕ, ◌+◌, Bool, List, ◌++◌, Option, Some, None, Result, Ok, Err, IfOk, IfErr}
-use Rattle.std.proofs.Common.{IfSome, OnOk, length, length-append, refl, sym, ap, ◌∙◌, subst, arith}
+use Rattle.std.proofs.Common.{◌≡◌, ℕ, ◌+◌, Bool, List, ◌++◌, Option, Some, None, Result, Ok, Err, IfOk, IfErr, IfSome}
+use Rattle.std.proofs.Common.{OnOk, length, length-append, refl, sym, ap, ◌∙◌, subst, arith}
 use Rattle.std.specs.Io.KnownBytes.{Consumes}
-use Rattle.ciborium_ll.specs.Decoding.{HasBegun, IsAheadBy, with_left, left_of}
-use Rattle.ciborium_ll.proofs.Decoders.{begun-left}
-use Rattle.ciborium_ll.specs.Accesses.{left_at_failure}
-use Rattle.ciborium_ll.specs.Item.{Item}
+use Rattle.ciborium_ll.specs.{Decoding.{HasBegun, IsAheadBy, with_left, left_of}, Accesses.left_at_failure, Item.Item}
 use Rattle.ciborium_ll.specs.Spells.{Spells}
-use Rattle.ciborium_value.specs.Ahead.{bottom, item}
-use Rattle.ciborium_value.specs.Readings.{Reading}
-use Rattle.ciborium_value.specs.Sources.{Fault, IsGrantedFault, RefusesAhead, TakesAhead, TakesItem}
-use Rattle.ciborium_value.specs.View.{read_as}
-use Rattle.ciborium_value.specs.Given.{Given}
-use Rattle.ciborium_value.specs.Tree.{Tree}
-use Rattle.ciborium.specs.declared.de.byte_source.ByteSource.{ByteSource}
-use Rattle.ciborium.specs.declared.de.error.Error.{Error}
-use Rattle.ciborium.specs.ValueAnswers.{TakesBytes}
-use Rattle.ciborium.specs.inner.ByteSources.{IsUnread, IsUnreadBy, ReadsValue, StandsBefore, end_at, known_end}
-use Rattle.ciborium.specs.Errors.{HasEndedBy, fault_of}
-use Rattle.ciborium.specs.NextItems.{IsReadFrom}
+use Rattle.ciborium_ll.proofs.Decoders.{begun-left}
+use Rattle.ciborium_value.specs.{Ahead.{bottom, item}, Readings.Reading, Sources.{Fault, IsGrantedFault, RefusesAhead}}
+use Rattle.ciborium_value.specs.{Sources.{TakesAhead, TakesItem}, View.read_as, Given.Given, Tree.Tree, Spelling.any}
+use Rattle.ciborium.specs.{declared.de.byte_source.ByteSource.ByteSource, declared.de.error.Error.Error}
+use Rattle.ciborium.specs.{ValueAnswers.TakesBytes, inner.ByteSources.{IsUnread, IsUnreadBy, ReadsValue, StandsBefore}}
+use Rattle.ciborium.specs.{inner.ByteSources.{end_at, known_end}, Errors.{HasEndedBy, fault_of}, NextItems.IsReadFrom}
 use Rattle.ciborium.specs.TypedAnswers.{IsFaultAhead, ReadsAsTypeFrom, TakesGiving}
-use Rattle.ciborium_value.specs.Spelling.{any}
 use Rattle.ciborium.proofs.Items.TakenOnly.{taken-beginning, taken-name, taken-none}
 use Rattle.ciborium.proofs.Readers.WhateverFollows.{taken-tree}
 
@@ -58,11 +48,10 @@ module _ {S W A : Type 0} (remaining : S → Option (List ℕ)) (old : ByteSourc
       (bottom (old.decoder.reader.ghost_name, p + length s) z) (ahead i s z sp e)
 
 -- the same, of what was read from the source
-pub handed-given : {S W T A : Type 0} (E : Type 0) (can_fail : Bool) (remaining : S →
-    Option (List ℕ)) (reading : Reading T A)
-    (old new : ByteSource S W) (b : List ℕ) (p : ℕ) → IsUnread remaining old b →
-    end_at remaining old ≡ p + length b → (x : S) →
-    (old.decoder.reader.ghost_name ≡ new.decoder.reader.ghost_name → x ≡ new.decoder.reader.now) →
+pub handed-given : {S W T A : Type 0} (E : Type 0) (can_fail : Bool)
+    (remaining : S → Option (List ℕ)) (reading : Reading T A) (old new : ByteSource S W) (b : List ℕ) (p : ℕ) →
+    IsUnread remaining old b → end_at remaining old ≡ p + length b →
+    (x : S) → (old.decoder.reader.ghost_name ≡ new.decoder.reader.ghost_name → x ≡ new.decoder.reader.now) →
     (r : Result T (Error E)) → IsReadFrom {E = E} can_fail remaining reading old new r →
     IfOk (read_as reading.content r) (λ v. TakesGiving (Some old.levels) reading.taken b v (remaining x))
 handed-given E can_fail remaining reading old new b p front ends x back (Ok v) h =
@@ -70,21 +59,19 @@ handed-given E can_fail remaining reading old new b p front ends x back (Ok v) h
 handed-given E can_fail remaining reading old new b p front ends x back (Err e) h = tt
 
 -- the reader that was lent is what the source is left with
-handed-back : {S W T A : Type 0} (E : Type 0) (can_fail : Bool) (remaining : S →
-    Option (List ℕ)) (reading : Reading T A)
-    (old new : ByteSource S W) (x : S) →
+handed-back : {S W T A : Type 0} (E : Type 0)
+    (can_fail : Bool) (remaining : S → Option (List ℕ)) (reading : Reading T A) (old new : ByteSource S W) (x : S) →
     (old.decoder.reader.ghost_name ≡ new.decoder.reader.ghost_name → x ≡ new.decoder.reader.now) →
     (r : Result T (Error E)) → IsReadFrom {E = E} can_fail remaining reading old new r → x ≡ new.decoder.reader.now
 handed-back E can_fail remaining reading old new x back r h =
     back (sym (taken-name remaining old.decoder new.decoder (h.only old (taken-none remaining old.decoder))))
 
-pub handed-denied : {S W T A : Type 0} (E : Type 0) (can_fail : Bool) (remaining : S →
-    Option (List ℕ)) (reading : Reading T A)
-    (old new : ByteSource S W) (b : List ℕ) (p : ℕ) → IsUnread remaining old b →
-    end_at remaining old ≡ p + length b → (x : S) →
-    (old.decoder.reader.ghost_name ≡ new.decoder.reader.ghost_name → x ≡ new.decoder.reader.now) →
-    (r : Result T (Error E)) → IsReadFrom {E = E} can_fail remaining reading old new r →
-    IfErr (read_as reading.content r)
+pub handed-denied : {S W T A : Type 0} (E : Type 0) (can_fail : Bool)
+    (remaining : S → Option (List ℕ)) (reading : Reading T A) (old new : ByteSource S W) (b : List ℕ) (p : ℕ) →
+    IsUnread remaining old b → end_at remaining old ≡ p + length b →
+    (x : S) → (old.decoder.reader.ghost_name ≡ new.decoder.reader.ghost_name → x ≡ new.decoder.reader.now) →
+    (r : Result T (Error E)) →
+    IsReadFrom {E = E} can_fail remaining reading old new r → IfErr (read_as reading.content r)
     (λ e. IsFaultAhead p (Some old.levels) reading.taken b (fault_of (left_at_failure can_fail (remaining x)) e))
 handed-denied E can_fail remaining reading old new b p front ends x back (Ok v) h = tt
 handed-denied E can_fail remaining reading old new b p front ends x back (Err e) h =
@@ -93,9 +80,8 @@ handed-denied E can_fail remaining reading old new b p front ends x back (Err e)
     (subst (λ y. RefusesAhead (StandsBefore remaining) old reading.taken (fault_of (left_at_failure can_fail
     (remaining y)) e)) (sym given) h.refused)
 
-pub handed-memory : {S W T A : Type 0} (E : Type 0) (can_fail : Bool) (remaining : S →
-    Option (List ℕ)) (reading : Reading T A)
-    (old new : ByteSource S W) (x : S) →
+pub handed-memory : {S W T A : Type 0} (E : Type 0)
+    (can_fail : Bool) (remaining : S → Option (List ℕ)) (reading : Reading T A) (old new : ByteSource S W) (x : S) →
     (old.decoder.reader.ghost_name ≡ new.decoder.reader.ghost_name → x ≡ new.decoder.reader.now) →
     (r : Result T (Error E)) → IsReadFrom {E = E} can_fail remaining reading old new r →
     IfErr r (λ e. IsGrantedFault (fault_of (left_at_failure can_fail (remaining x)) e) reading.needs_memory)
@@ -110,12 +96,10 @@ pub on-ok : {T E : Type 0} {P : Type 0} (r : Result T E) → P → OnOk r P
 on-ok (Ok v) p = p
 on-ok (Err e) p = tt
 
-pub handed-from : (E : Type 0) {S W : Type 0} (can_fail : Bool) (remaining : S →
-    Option (List ℕ)) (old new : ByteSource S W) (lent x : S)
-    (p : ℕ) (r : Result Tree (Error E)) → HasBegun old.decoder lent p → old.pending ≡ None →
-    (old.decoder.reader.ghost_name ≡ new.decoder.reader.ghost_name → x ≡ new.decoder.reader.now) →
-    ReadsValue can_fail remaining old new r →
-    TakesBytes {E = E} any p (remaining lent) old.levels (remaining x) r
+pub handed-from : (E : Type 0) {S W : Type 0} (can_fail : Bool) (remaining : S → Option (List ℕ))
+    (old new : ByteSource S W) (lent x : S) (p : ℕ) (r : Result Tree (Error E)) → HasBegun old.decoder lent p →
+    old.pending ≡ None → (old.decoder.reader.ghost_name ≡ new.decoder.reader.ghost_name → x ≡ new.decoder.reader.now) →
+    ReadsValue can_fail remaining old new r → TakesBytes {E = E} any p (remaining lent) old.levels (remaining x) r
 handed-from E {S} {W} can_fail remaining old new lent x p r begins none back reads =
     let (same, ended, (s, taken, count, h, bytes)) = reads in
     let begun : old.decoder.counter.count ≡ p = begins.count in
@@ -153,10 +137,9 @@ handed-ended E can_fail remaining reading old new x back r h =
     (err-read (λ v. tree (reading.content v)) (λ e. HasEndedBy can_fail (left_of remaining new.decoder) e) r reads.1))
 
 -- all that a call says that reads one value from a source of its own
-pub handed-all : {S W T A : Type 0} (E : Type 0) (can_fail : Bool) (remaining : S →
-    Option (List ℕ)) (reading : Reading T A)
-    (old new : ByteSource S W) (lent x : S) (p : ℕ) → HasBegun old.decoder lent p → old.pending ≡ None →
-    (old.decoder.reader.ghost_name ≡ new.decoder.reader.ghost_name → x ≡ new.decoder.reader.now) →
+pub handed-all : {S W T A : Type 0} (E : Type 0) (can_fail : Bool) (remaining : S → Option (List ℕ))
+    (reading : Reading T A) (old new : ByteSource S W) (lent x : S) (p : ℕ) → HasBegun old.decoder lent p →
+    old.pending ≡ None → (old.decoder.reader.ghost_name ≡ new.decoder.reader.ghost_name → x ≡ new.decoder.reader.now) →
     (r : Result T (Error E)) → IsReadFrom {E = E} can_fail remaining reading old new r →
     ReadsAsTypeFrom {E = E} can_fail p (Some old.levels) reading (remaining lent) (remaining x)
     (TakesBytes any p (remaining lent) old.levels (remaining x)) r

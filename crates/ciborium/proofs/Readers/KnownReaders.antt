@@ -1,24 +1,17 @@
 -- What is known of a reader whose bytes are known, from what holds of every reader.
-use Rattle.std.proofs.Common.{◌≡◌, ℕ, ◌+◌, ◌≤◌, List, [], ◌∷◌, ◌++◌, length, Option, Some, Result, Ok, Err}
-use Rattle.std.proofs.Common.{IfOk, IfErr, refl, sym, ap, ◌∙◌, subst, arith, length-append, append-nil, inl, inr, ◌⊎◌}
-use Rattle.ciborium_ll.specs.Bytes.{AreBytes, greatest_offset}
-use Rattle.ciborium_ll.specs.Refusal as refusal
-use Rattle.ciborium_ll.specs.Refusal.{Refusal}
+use Rattle.std.proofs.Common.{◌≡◌, ℕ, ◌+◌, ◌≤◌, List, [], ◌∷◌, ◌++◌, length, Option, Some, Result, Ok, Err, IfOk, IfErr}
+use Rattle.std.proofs.Common.{refl, sym, ap, ◌∙◌, subst, arith, length-append, append-nil, inl, inr, ◌⊎◌}
+use Rattle.ciborium_ll.specs.{Bytes.{AreBytes, greatest_offset}, Refusal.Refusal}
 use Rattle.ciborium_ll.proofs.Unread.{rest-of}
-use Rattle.ciborium_value.specs.Counts.{node_count, payload_size}
-use Rattle.ciborium_value.specs.ProperTrees.{IsProperTree}
-use Rattle.ciborium_value.specs.Tree.{Tree}
-use Rattle.ciborium_value.proofs.GoodItems.Bounded.{bounded}
-use Rattle.ciborium_value.proofs.GoodItems.Accepted.{anyway}
-use Rattle.ciborium_value.proofs.GoodItems.Outcome.{never_both, one_reading, read_bytes}
-use Rattle.ciborium_value.proofs.GoodItems.ProperMeanings.{proper_meaning}
-use Rattle.ciborium.specs.declared.de.error.Error.{Error}
-use Rattle.ciborium.specs.declared.de.error.Error.TheVariants as errors
-use Rattle.ciborium.specs.ValueAnswers.{GivesTree, IsFailed, TakesBytes, IsRefusedBy}
+use Rattle.ciborium_value.specs.{Counts.{node_count, payload_size}, ProperTrees.IsProperTree, Tree.Tree}
+use Rattle.ciborium_value.specs.{Spelling.{Spelling, IsReadAs}, Refuses.Refuses}
+use Rattle.ciborium_value.proofs.{GoodItems.Bounded.bounded, GoodItems.Accepted.anyway, GoodItems.Outcome.never_both}
+use Rattle.ciborium_value.proofs.{GoodItems.Outcome.{one_reading, read_bytes}, GoodItems.ProperMeanings.proper_meaning}
+use Rattle.ciborium.specs.{declared.de.error.Error.Error, ValueAnswers.{GivesTree, IsFailed, TakesBytes, IsRefusedBy}}
 use Rattle.ciborium.specs.ValueClauses.{ReadsWhole, TakesValue}
-use Rattle.ciborium_value.specs.Spelling.{Spelling, IsReadAs}
-use Rattle.ciborium_value.specs.Refuses.{Refuses}
 use Rattle.ciborium.proofs.Readers.Outcomes.{only-fails}
+use Rattle.ciborium_ll.specs.Refusal as refusal
+use Rattle.ciborium.specs.declared.de.error.Error.TheVariants as errors
 
 -- ---- what holds of the bytes that are read in a spelling
 
@@ -115,8 +108,7 @@ module _ {E : Type 0} (spelling : Spelling) (l : ℕ) where
         omega (arith, fits, ap length k.2, length-append s k.0, ap length same)
 
     exact-of : (x : Result Tree (Error E)) (s left : List ℕ) (v : Tree) → IsReadAs spelling s 0 (Some l) v →
-        b ≡ s ++ left →
-        TakesBytes {E = E} spelling 0 old l new x → GivesTree v left new x
+        b ≡ s ++ left → TakesBytes {E = E} spelling 0 old l new x → GivesTree v left new x
     exact-of (Ok w) s left v good split (t, taken, fits, fine, bytes) =
         let k = rest-of old new b t known taken in
         let same = one-way l spelling s t left k.0 v w good fine (sym split ∙ k.2) in
@@ -128,8 +120,7 @@ module _ {E : Type 0} (spelling : Spelling) (l : ℕ) where
 
         -- where the reader came to its end, all of b was taken
         ended : new ≡ Some [] → Refuses spelling (t ++ []) 0 (Some l) refusal.io → ⊥
-        ended end =
-            never-refused l spelling s left (t ++ []) v refusal.io good
+        ended end = never-refused l spelling s left (t ++ []) v refusal.io good
             (ap (λ (z : List ℕ). t ++ z) (sym (inside k.0 [] (sym k.1 ∙ end))) ∙ sym k.2 ∙ split)
             (subst AreBytes (sym (append-nil t)) bytes)
 

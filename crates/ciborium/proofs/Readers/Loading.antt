@@ -1,30 +1,18 @@
 -- Bytes that are loaded, and where they differ from the encoding that is due.
 use Rattle.std.proofs.Common.{◌≡◌, ℕ, ◌+◌, ◌-◌, ◌<◌, List, [], ◌∷◌, ◌++◌, length, take, drop, Option, Some, None, true}
 use Rattle.std.proofs.Common.{refl, sym, ap, ◌∙◌, subst, arith, eqb, get_or, Result, Ok, Err, IsErrAnd, inl}
-use Rattle.std.proofs.Math.Seq.{take-add, take-length, take-suc}
-use Rattle.std.proofs.lemmas.List.{take_all, length-drop}
-use lib.Pointwise.{pointwise}
-use Rattle.std.specs.List.{starts_with, slice_range}
-use Rattle.std.specs.Result.{is_ok}
-use Rattle.std.proofs.lemmas.Bool.Decides.{Decides-eqb}
-use Rattle.std.proofs.lemmas.Slice.Eq.{slice_eq-Decides}
-use Rattle.ciborium_ll.specs.Refusal as refusal
-use Rattle.ciborium_value.specs.Encoding.{encoding}
-use Rattle.ciborium_value.specs.Readings.{Reading}
-use Rattle.ciborium_value.specs.Refuses.{Refuses}
-use Rattle.ciborium_value.specs.Sinks.{Named}
-use Rattle.ciborium_value.specs.Spelling.{deterministic}
-use Rattle.ciborium_value.specs.Given.{Outcome}
-use Rattle.ciborium_value.specs.Tree.{Tree}
-use Rattle.ciborium_value.specs.declared.key_order.KeyOrder.{KeyOrder}
+use Rattle.std.proofs.{Math.Seq.{take-add, take-length, take-suc}, lemmas.List.{take_all, length-drop}}
+use Rattle.std.proofs.{lemmas.Bool.Decides.Decides-eqb, lemmas.Slice.Eq.slice_eq-Decides}
+use Rattle.std.specs.{List.{starts_with, slice_range}, Result.is_ok}
+use Rattle.ciborium_value.specs.{Encoding.encoding, Readings.Reading, Refuses.Refuses, Sinks.Named}
+use Rattle.ciborium_value.specs.{Spelling.deterministic, Given.Outcome, Tree.Tree, declared.key_order.KeyOrder.KeyOrder}
 use Rattle.ciborium_value.specs.declared.kind.Kind.{Kind}
-use Rattle.ciborium.specs.DeterministicWrites.{HasForm, WritesForm}
-use Rattle.ciborium.specs.LoadedAnswers.{DifferAt, LoadsAll, RefusesSpelling}
-use Rattle.ciborium.specs.SliceAnswers.{ReadsAll}
-use Rattle.ciborium.specs.ValueAnswers.{IsNamed, refusal_kind_of}
-use Rattle.ciborium.specs.declared.de.error.Error.{Error}
-use Rattle.ciborium.specs.declared.de.error.Error.TheVariants.{Semantic}
-use Rattle.ciborium.specs.declared.ser.error.Error.{Error as WriteError}
+use Rattle.ciborium.specs.{DeterministicWrites.{HasForm, WritesForm}, LoadedAnswers.{DifferAt, LoadsAll}}
+use Rattle.ciborium.specs.{LoadedAnswers.RefusesSpelling, SliceAnswers.ReadsAll, ValueAnswers.IsNamed}
+use Rattle.ciborium.specs.{ValueAnswers.refusal_kind_of, declared.de.error.Error.Error}
+use Rattle.ciborium.specs.{declared.de.error.Error.TheVariants.Semantic, declared.ser.error.Error.Error as WriteError}
+use lib.Pointwise.{pointwise}
+use Rattle.ciborium_ll.specs.Refusal as refusal
 
 -- ---- where bytes differ
 
@@ -60,10 +48,8 @@ written-more bytes rest buf w is front =
 
 -- all of the bytes were written
 pub written-all : {E : Type 0} (bytes now : List ℕ) (w : ℕ) (r : Result (Unit {0}) (WriteError E))
-    (form : Outcome Tree) →
-    WritesForm (Some []) (Some (take w now)) r form → true ≡ is_ok r → w ≡ length bytes →
-    true ≡ pointwise eqb now bytes →
-    HasForm form (λ t. bytes ≡ encoding t)
+    (form : Outcome Tree) → WritesForm (Some []) (Some (take w now)) r form →
+    true ≡ is_ok r → w ≡ length bytes → true ≡ pointwise eqb now bytes → HasForm form (λ t. bytes ≡ encoding t)
 written-all bytes now w (Ok u) form (t, is, written) ok all same =
     let e : now ≡ bytes = (slice_eq-Decides Decides-eqb now bytes true same).0 refl in
     (t, is, sym (ap (take w) e ∙ ap (λ n. take n bytes) all ∙ take-length bytes) ∙ written)

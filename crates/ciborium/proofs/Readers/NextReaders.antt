@@ -1,51 +1,32 @@
 -- From the head that was pulled first, and what is read behind it, to the reader of a sequence.
-use Rattle.std.proofs.Common.{◌≡◌, ℕ, ◌+◌, ◌<◌, Bool, List, [], ◌∷◌, ◌++◌, length, Option, Some, None, Result, Ok}
-use Rattle.std.proofs.Common.{Err, IfErr, IfNone, IfSome, refl, sym, ap, ◌∙◌, subst, append_assoc, arith, lit<}
-use Rattle.std.proofs.Common.{length-append}
+use Rattle.std.proofs.Common.{◌≡◌, ℕ, ◌+◌, ◌<◌, Bool, List, [], ◌∷◌, ◌++◌, length, Option, Some, None, Result, Ok, Err}
+use Rattle.std.proofs.Common.{IfErr, IfNone, IfSome, refl, sym, ap, ◌∙◌, subst, append_assoc, arith, lit<}
+use Rattle.std.proofs.{Common.length-append, KnownBytes.{Consumes-nil, Consumes-trans}, lemmas.List.Elements.All-append}
 use Rattle.std.specs.Io.KnownBytes.{Consumes, IsAtEnd}
-use Rattle.std.proofs.KnownBytes.{Consumes-nil, Consumes-trans}
-use Rattle.std.proofs.lemmas.List.Elements.{All-append}
-use Rattle.ciborium_ll.specs.declared.header.Header.{Header}
-use Rattle.ciborium_ll.specs.declared.header.Error.{Error as LlError}
-use Rattle.ciborium_ll.specs.declared.header.Error.TheVariants as ll
-use Rattle.ciborium_ll.specs.declared.decoder.Decoder.{Decoder}
-use Rattle.ciborium_ll.specs.Accesses.{HasEnded, left_at_failure}
-use Rattle.ciborium_ll.specs.Bytes.{greatest_offset}
-use Rattle.ciborium_ll.specs.Decoding.{HasBegun, HasSameReader, IsAheadBy, Takes, left_of, next_offset, offset_of}
-use Rattle.ciborium_ll.specs.Decoding.{with_left}
-use Rattle.ciborium_ll.specs.FirstHeads as first_heads
-use Rattle.ciborium_ll.specs.FirstHeads.{IsEndOrFault, IsFirstTaken}
-use Rattle.ciborium_ll.specs.ReaderSteps.{Advances, IsHeadTaken}
-use Rattle.ciborium_ll.specs.Refusal as refusal
-use Rattle.ciborium_ll.specs.Refusal.{HeadRefuses, IsUsable}
-use Rattle.ciborium_ll.proofs.Unread.{reads-head}
-use Rattle.ciborium_ll.proofs.Decoders.{begun-left}
-use Rattle.ciborium_value.specs.Readings.{Reading}
-use Rattle.ciborium_value.specs.Refuses.{Refuses}
-use Rattle.ciborium_value.specs.Sources.{IsGrantedFault, IsOutsideFault, TakesOnly}
-use Rattle.ciborium_value.specs.View.{read_as}
-use Rattle.ciborium_value.specs.Given.{Given, outcome}
-use Rattle.ciborium_value.specs.Tree.{Tree}
-use Rattle.ciborium_value.proofs.GoodItems.Spelled.{spells-pos}
-use Rattle.ciborium_value.proofs.Sources.Sequences.{fault_outside}
-use Rattle.ciborium.specs.declared.de.byte_source.ByteSource.{ByteSource}
-use Rattle.ciborium.specs.declared.de.error.Error.{Error}
-use Rattle.ciborium.specs.declared.de.error.Error.TheVariants.{TooLong}
-use Rattle.ciborium.specs.ValueAnswers.{TakesBytes}
-use Rattle.ciborium.specs.ValueClauses.{ReadsWhole}
-use Rattle.ciborium.specs.inner.ByteSources.{HasTakenSince, IsUnread, ReadsValue, end_at}
-use Rattle.ciborium.specs.Errors.{fault_of, from_ll}
-use Rattle.ciborium.specs.NextItems.{IfNotEnded, IsReadIo, IsReadFrom, MatchItem, MovesOffset, Otherwise}
-use Rattle.ciborium.specs.NextItems.{ReadsNextAsTypeFrom, ReadsNextAtFrom, TakesTo, TellsEnd, TellsEndAt, behind_head}
-use Rattle.ciborium.specs.TypedAnswers.{IsFaultAhead, RefusesGiven, TakesGiven}
-use Rattle.ciborium_value.specs.Spelling.{any}
+use Rattle.ciborium_ll.specs.{declared.header.Header.Header, declared.header.Error.Error as LlError}
+use Rattle.ciborium_ll.specs.{declared.decoder.Decoder.Decoder, Accesses.{HasEnded, left_at_failure}}
+use Rattle.ciborium_ll.specs.{Bytes.greatest_offset, Decoding.{HasBegun, HasSameReader, IsAheadBy, Takes, left_of}}
+use Rattle.ciborium_ll.specs.{Decoding.{next_offset, offset_of, with_left}, FirstHeads.{IsEndOrFault, IsFirstTaken}}
+use Rattle.ciborium_ll.specs.{ReaderSteps.{Advances, IsHeadTaken}, Refusal.{HeadRefuses, IsUsable}}
+use Rattle.ciborium_ll.proofs.{Unread.reads-head, Decoders.begun-left}
+use Rattle.ciborium_value.specs.{Readings.Reading, Refuses.Refuses, Sources.{IsGrantedFault, IsOutsideFault, TakesOnly}}
+use Rattle.ciborium_value.specs.{View.read_as, Given.{Given, outcome}, Tree.Tree, Spelling.any}
+use Rattle.ciborium_value.proofs.{GoodItems.Spelled.spells-pos, Sources.Sequences.fault_outside}
+use Rattle.ciborium.specs.{declared.de.byte_source.ByteSource.ByteSource, declared.de.error.Error.Error}
+use Rattle.ciborium.specs.{declared.de.error.Error.TheVariants.TooLong, ValueAnswers.TakesBytes}
+use Rattle.ciborium.specs.{ValueClauses.ReadsWhole, inner.ByteSources.{HasTakenSince, IsUnread, ReadsValue, end_at}}
+use Rattle.ciborium.specs.{Errors.{fault_of, from_ll}, NextItems.{IfNotEnded, IsReadIo, IsReadFrom, MatchItem}}
+use Rattle.ciborium.specs.NextItems.{MovesOffset, Otherwise, ReadsNextAsTypeFrom, ReadsNextAtFrom, TakesTo, TellsEnd}
+use Rattle.ciborium.specs.{NextItems.{TellsEndAt, behind_head}, TypedAnswers.{IsFaultAhead, RefusesGiven, TakesGiven}}
 use Rattle.ciborium.proofs.Items.FrontReads.{ended-ll, failed-fault, granted-head, head-outside}
 use Rattle.ciborium.proofs.Readers.HandedReaders.{handed-denied, handed-given, handed-memory, on-ok, some-map}
-use Rattle.ciborium.proofs.Items.ItemHeads.{first-head, first-payload, header_of}
-use Rattle.ciborium.proofs.Readers.KnownReaders.{whole-of}
-use Rattle.ciborium.proofs.Turns.Pulled.{refused-from, refused-map}
-use Rattle.ciborium.proofs.Items.TakenOnly.{taken-beginning, taken-none, taken-then, taken-to, takes-end, takes-only}
+use Rattle.ciborium.proofs.{Items.ItemHeads.{first-head, first-payload, header_of}, Readers.KnownReaders.whole-of}
+use Rattle.ciborium.proofs.{Turns.Pulled.{refused-from, refused-map}, Items.TakenOnly.{taken-beginning, taken-none}}
+use Rattle.ciborium.proofs.Items.TakenOnly.{taken-then, taken-to, takes-end, takes-only}
 use Rattle.ciborium.proofs.Readers.WhateverFollows.{taken-tree}
+use Rattle.ciborium_ll.specs.declared.header.Error.TheVariants as ll
+use Rattle.ciborium_ll.specs.FirstHeads as first_heads
+use Rattle.ciborium_ll.specs.Refusal as refusal
 
 -- what an answer says where none is the end
 end-says : {A E : Type 0} (r : Result (Option A) E) (P : Result A E → Type 0) → r ≡ Ok None → Otherwise r P
@@ -162,8 +143,7 @@ module _ {S W T A : Type 0} (E : Type 0) (can_fail : Bool) (remaining : S →
         λ known. absurd (empty (begun-left remaining d lent p begins ∙ known))
 
     next-ok : (first : Option Header) (r : Result (Option T) (Error E)) → First first → End first r →
-        Behind first r →
-        Otherwise r (λ q. TakesGiven (Some s.levels) reading.taken (remaining lent) (remaining x)
+        Behind first r → Otherwise r (λ q. TakesGiven (Some s.levels) reading.taken (remaining lent) (remaining x)
         (read_as reading.content q))
     next-ok None r taken (is, same) item = end-says r (λ q. TakesGiven (Some s.levels) reading.taken (remaining lent)
         (remaining x) (read_as reading.content q)) is
@@ -188,14 +168,12 @@ module _ {S W T A : Type 0} (E : Type 0) (can_fail : Bool) (remaining : S →
         some-map reading.whole item.whole (λ tree reads. joined E can_fail remaining d s lent p begins kept h taken t x
         (Err e) back reads)
 
-    next-refused : (first : Option Header) (r : Result (Option T) (Error E)) → First first → End first r →
-        Behind first r → Otherwise r (λ q. RefusesGiven p (Some s.levels) reading.taken (remaining lent)
-        (left_at_failure can_fail (remaining x))
-        (read_as reading.content q))
+    next-refused : (first : Option Header) (r : Result (Option T) (Error E)) → First first →
+        End first r → Behind first r → Otherwise r (λ q. RefusesGiven p (Some s.levels) reading.taken (remaining lent)
+        (left_at_failure can_fail (remaining x)) (read_as reading.content q))
     next-refused None r taken (is, same) item = end-says r
         (λ q. RefusesGiven p (Some s.levels) reading.taken (remaining lent)
-        (left_at_failure can_fail (remaining x))
-        (read_as reading.content q)) is
+        (left_at_failure can_fail (remaining x)) (read_as reading.content q)) is
     next-refused (Some h) (Ok None) taken none item = absurd item
     next-refused (Some h) (Ok (Some v)) taken none item = λ b known. tt
     next-refused (Some h) (Err e) taken none item = λ b known. handed-denied E can_fail remaining reading
@@ -204,8 +182,7 @@ module _ {S W T A : Type 0} (E : Type 0) (can_fail : Bool) (remaining : S →
 
     next-memory : (first : Option Header) (r : Result (Option T) (Error E)) → End first r → Behind first r →
         IfErr r (λ e. IsGrantedFault (fault_of (left_at_failure can_fail (remaining x)) e) reading.needs_memory)
-    next-memory None r (is, same) item =
-        subst (λ q. IfErr q (λ e. IsGrantedFault (fault_of (left_at_failure can_fail
+    next-memory None r (is, same) item = subst (λ q. IfErr q (λ e. IsGrantedFault (fault_of (left_at_failure can_fail
         (remaining x)) e) reading.needs_memory)) (sym is) tt
     next-memory (Some h) (Ok v) none item = tt
     next-memory (Some h) (Err e) none item =
@@ -222,11 +199,10 @@ module _ {S W T A : Type 0} (E : Type 0) (can_fail : Bool) (remaining : S →
   -- all of it
   pub reads-next : (s.decoder.reader.ghost_name ≡ t.decoder.reader.ghost_name → x ≡ t.decoder.reader.now) →
       p < greatest_offset → TakesOnly (HasTakenSince remaining) s t →
-      (first : Option Header) (r : Result (Option T) (Error E)) (q : ℕ) →
-      MatchItem r (q ≡ offset_of t.decoder) (q ≡ p) →
-      First first → IfNone first (IsAtEnd (left_of remaining s.decoder)) →
-      (left_of remaining d ≡ Some [] → IsEndOrFault {E = E} (Ok first)) → End first r → Behind first r →
-      ReadsNextAtFrom can_fail p s.levels reading (remaining lent) (remaining x) r ×
+      (first : Option Header) (r : Result (Option T) (Error E)) (q : ℕ) → MatchItem r (q ≡ offset_of t.decoder)
+      (q ≡ p) → First first → IfNone first (IsAtEnd (left_of remaining s.decoder)) →
+      (left_of remaining d ≡ Some [] → IsEndOrFault {E = E} (Ok first)) →
+      End first r → Behind first r → ReadsNextAtFrom can_fail p s.levels reading (remaining lent) (remaining x) r ×
       MovesOffset p q (remaining lent) (remaining x) r
   reads-next back less only first r q at taken end empty none item =
       let same = kept in

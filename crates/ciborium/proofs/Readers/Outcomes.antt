@@ -1,17 +1,13 @@
 -- What a call that reads a value leaves, and which errors are failures.
 use Rattle.std.proofs.Common.{◌≡◌, ℕ, List, Option, Some, None, subst}
-use Rattle.ciborium_ll.specs.declared.decoder.Decoder.{Decoder}
-use Rattle.ciborium_ll.specs.Decoding.{IsAhead, IsAheadBy, left_of}
+use Rattle.ciborium_ll.specs.{declared.decoder.Decoder.Decoder, Decoding.{IsAhead, IsAheadBy, left_of}, Refusal.Refusal}
+use Rattle.ciborium.specs.{declared.de.error.Error.Error, ValueAnswers.{IsFailed, IsRefusedBy, IsNamed}}
+use Rattle.ciborium.specs.{ValueAnswers.refusal_kind_of, inner.ValuesInBytes.IsAt}
 use Rattle.ciborium_ll.specs.Refusal as refusal
-use Rattle.ciborium_ll.specs.Refusal.{Refusal}
-use Rattle.ciborium.specs.declared.de.error.Error.{Error}
 use Rattle.ciborium.specs.declared.de.error.Error.TheVariants as errors
-use Rattle.ciborium.specs.ValueAnswers.{IsFailed, IsRefusedBy, IsNamed, refusal_kind_of}
-use Rattle.ciborium.specs.inner.ValuesInBytes.{IsAt}
 
 pub left-at : {S W : Type 0} (remaining : S → Option (List ℕ)) (d : Decoder S W) (r : ℕ) (zs : List ℕ) →
-    d.pushed ≡ None →
-    IsAhead remaining d zs r → left_of remaining d ≡ Some zs
+    d.pushed ≡ None → IsAhead remaining d zs r → left_of remaining d ≡ Some zs
 left-at remaining d r zs rests a = let at : IsAt remaining d zs r = subst (λ o. IsAheadBy remaining d zs r o) rests a in
     at.1
 

@@ -1,20 +1,13 @@
 -- What is said of an answer does not look at what an error holds of the reader.
 use Rattle.std.proofs.Common.{◌≡◌, ℕ, Bool, List, Option, Some, Result, Err, IfErr, refl, sym, subst}
-use Rattle.ciborium_ll.specs.declared.decoder.Decoder.{Decoder}
-use Rattle.ciborium_ll.specs.Decoding.{HasSameReader, IsAheadBy, TakesBeforeAny, left_of}
-use Rattle.ciborium_ll.specs.Refusal.{Refusal}
-use Rattle.ciborium.specs.declared.de.byte_source.ByteSource.{ByteSource}
-use Rattle.ciborium.specs.declared.de.error.Error.{Error}
-use Rattle.ciborium.specs.declared.de.error.Error.TheVariants as errors
-use Rattle.ciborium_value.specs.Tree.{Tree}
-use Rattle.ciborium.specs.inner.Turns.{IsTreeRead}
-use Rattle.ciborium.specs.inner.ByteSources.{ReadsValue}
-use Rattle.ciborium.specs.Errors.{fault_of, HasEndedBy, without_reader_error}
-use Rattle.ciborium.specs.ValueAnswers.{IsRefusedBy}
-use Rattle.ciborium.specs.inner.ValuesInBytes.{HasEndedAfter}
-use Rattle.ciborium_value.specs.Spelling.{Spelling, any}
-use Rattle.ciborium_value.specs.Refuses.{Refuses}
+use Rattle.ciborium_ll.specs.{declared.decoder.Decoder.Decoder, Decoding.{HasSameReader, IsAheadBy, TakesBeforeAny}}
+use Rattle.ciborium_ll.specs.{Decoding.left_of, Refusal.Refusal}
+use Rattle.ciborium.specs.{declared.de.byte_source.ByteSource.ByteSource, declared.de.error.Error.Error}
+use Rattle.ciborium.specs.{inner.Turns.IsTreeRead, inner.ByteSources.ReadsValue, Errors.{fault_of, HasEndedBy}}
+use Rattle.ciborium.specs.{Errors.without_reader_error, ValueAnswers.IsRefusedBy, inner.ValuesInBytes.HasEndedAfter}
+use Rattle.ciborium_value.specs.{Tree.Tree, Spelling.{Spelling, any}, Refuses.Refuses}
 use Rattle.ciborium.proofs.Readers.WhateverFollows.{TreeSo}
+use Rattle.ciborium.specs.declared.de.error.Error.TheVariants as errors
 
 pub same-cause : {E : Type 0} (left : Option (List ℕ)) (e : Error E) →
     fault_of left (without_reader_error e) ≡ fault_of left e
@@ -51,16 +44,14 @@ pub same-decoder : {S W E : Type 0} (can_fail : Bool) (remaining : S → Option 
     (r : Result Tree (Error E)) → new.decoder ≡ mid.decoder → ReadsValue {E = E} can_fail remaining old mid r →
     ReadsValue {E = E} can_fail remaining old new r
 same-decoder {S} {W} {E} can_fail remaining old mid new r same reads =
-    subst (λ (d : Decoder S W). HasSameReader old.decoder d ×
-    IfErr r (λ e. HasEndedAfter can_fail remaining d e) ×
+    subst (λ (d : Decoder S W). HasSameReader old.decoder d × IfErr r (λ e. HasEndedAfter can_fail remaining d e) ×
     TakesBeforeAny remaining old.decoder d (λ a b. (xs : List ℕ) (p : ℕ) → IsAheadBy Some a xs p old.pending →
     IsTreeRead {S = List ℕ} {E = E} any Some b old.levels xs p r)) (sym same) reads
 
 -- the same, of what a decoder was read as
 pub back-tree : {S W E : Type 0} (spelling : Spelling) (remaining : S → Option (List ℕ)) (a b : Decoder S W) (l : ℕ)
     (e : Error E) → TakesBeforeAny remaining a b (λ d f. TreeSo {E = Unit} spelling l d f
-    (Err (without_reader_error e))) →
-    TakesBeforeAny remaining a b (λ d f. TreeSo {E = E} spelling l d f (Err e))
+    (Err (without_reader_error e))) → TakesBeforeAny remaining a b (λ d f. TreeSo {E = E} spelling l d f (Err e))
 back-tree spelling remaining a b l e (s, taken, count, h, bytes) = (
   s,
   taken,

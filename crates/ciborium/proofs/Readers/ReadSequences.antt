@@ -1,14 +1,9 @@
 -- Values are read one after the other: how far, and what it says of all.
 use Rattle.std.proofs.Common.{◌≡◌, ℕ, List, [], ◌∷◌, ◌++◌, Option, Some, None, Ok, Err, refl, ap, ◌∙◌}
 use Rattle.std.proofs.KnownBytes.{Consumes-nil, Consumes-trans}
-use Rattle.ciborium_value.specs.Nesting.{Limit}
-use Rattle.ciborium_value.specs.Sources.{IsOutsideFault}
-use Rattle.ciborium_value.specs.Given.{Given}
-use Rattle.ciborium.specs.declared.de.error.Error.{Error}
-use Rattle.ciborium.specs.declared.de.error.Error.TheVariants.{Io, Memory}
-use Rattle.ciborium.specs.Errors.{fault_of}
-use Rattle.ciborium.specs.NextItems.{IsReadIo, TellsEnd}
-use Rattle.ciborium.specs.SequenceReads.{GivesThen, RefusesSequence}
+use Rattle.ciborium_value.specs.{Nesting.Limit, Sources.IsOutsideFault, Given.Given}
+use Rattle.ciborium.specs.{declared.de.error.Error.Error, declared.de.error.Error.TheVariants.{Io, Memory}}
+use Rattle.ciborium.specs.{Errors.fault_of, NextItems.{IsReadIo, TellsEnd}, SequenceReads.{GivesThen, RefusesSequence}}
 use Rattle.ciborium.specs.TypedAnswers.{RefusesGiven, TakesBeginning, TakesGiven, TakesGiving}
 
 -- ---- a beginning was taken, and nothing else

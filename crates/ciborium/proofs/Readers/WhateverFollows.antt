@@ -1,38 +1,24 @@
 -- What is said of a decoder whatever follows the bytes that it takes.
 use Rattle.std.proofs.Common.{◌≡◌, ℕ, ◌+◌, ◌<◌, ◌≤◌, inr, List, [], ◌++◌, Option, Some, None, Result, Ok, Err, OnOk}
 use Rattle.std.proofs.Common.{IfSome, IfNone, MatchOption, refl, sym, ap, ◌∙◌, subst, arith, append_assoc, append-nil}
-use Rattle.std.proofs.Common.{length-append, length}
-use Rattle.std.specs.Io.KnownBytes.{Consumes}
-use Rattle.std.proofs.KnownBytes.{Consumes-nil, Consumes-trans}
+use Rattle.std.proofs.{Common.{length-append, length}, KnownBytes.{Consumes-nil, Consumes-trans}}
 use Rattle.std.proofs.lemmas.List.Elements.{All-append}
-use Rattle.ciborium_ll.specs.declared.header.Header.{Header}
-use Rattle.ciborium_ll.specs.declared.header.Error.{Error as LlError}
-use Rattle.ciborium_ll.specs.declared.decoder.Decoder.{Decoder}
-use Rattle.ciborium_ll.specs.Decoding.{HasBegun, IsAhead, IsAheadBy, ReadsNothing, Pulls}
-use Rattle.ciborium_ll.specs.Decoding.{PullsTo, Takes, TakesBeforeAny, with_left, left_of}
-use Rattle.ciborium_ll.specs.Bytes.{AreBytes, greatest_offset}
-use Rattle.ciborium_ll.specs.ReaderSteps as reading
-use Rattle.ciborium_ll.specs.ReaderSteps.{IsHeadTaken}
-use Rattle.ciborium_ll.specs.StringRefusal.{StringKind, ContentRefuses, IsAllowed}
-use Rattle.ciborium_ll.specs.Decoded.{IsVisited}
-use Rattle.ciborium_ll.specs.declared.header.Error.TheVariants.{Io, Syntax, TooLong, Memory}
-use Rattle.ciborium_ll.specs.Strings.{IsStringTaken}
-use Rattle.ciborium_ll.proofs.Decoders.{unread-left, begun-left, unread-count}
-use Rattle.ciborium_ll.proofs.Unread.{pulls-head, reads-string, rest-of}
-use Rattle.ciborium_value.specs.Tree.{Tree}
-use Rattle.ciborium_value.specs.View.{tree_of}
-use Rattle.ciborium_value.specs.declared.tree.Value.{Value}
-use Rattle.ciborium.specs.declared.de.error.Error.{Error}
-use Rattle.ciborium.specs.ValueAnswers.{IsTakenFrom, TakesBytes}
-use Rattle.ciborium.specs.inner.Turns.{IsTreeRead}
-use Rattle.ciborium.specs.Errors.{from_ll}
-use Rattle.ciborium.specs.inner.ValuesInBytes.{IsAt, StandsAt}
-use Rattle.ciborium.specs.inner.StringAnswers.{IsStringRead}
-use Rattle.ciborium_value.specs.inner.ReadItems.{string_tree}
+use Rattle.std.specs.Io.KnownBytes.{Consumes}
+use Rattle.ciborium_ll.specs.{declared.header.Header.Header, declared.header.Error.Error as LlError}
+use Rattle.ciborium_ll.specs.{declared.decoder.Decoder.Decoder, Decoding.{HasBegun, IsAhead, IsAheadBy, ReadsNothing}}
+use Rattle.ciborium_ll.specs.{Decoding.{Pulls, PullsTo, Takes, TakesBeforeAny, with_left, left_of}, Bytes.AreBytes}
+use Rattle.ciborium_ll.specs.{Bytes.greatest_offset, ReaderSteps.IsHeadTaken, StringRefusal.StringKind}
+use Rattle.ciborium_ll.specs.{StringRefusal.{ContentRefuses, IsAllowed}, Decoded.IsVisited}
+use Rattle.ciborium_ll.specs.{declared.header.Error.TheVariants.{Io, Syntax, TooLong, Memory}, Strings.IsStringTaken}
+use Rattle.ciborium_ll.proofs.{Decoders.{unread-left, begun-left, unread-count}, Unread.{pulls-head, reads-string}}
+use Rattle.ciborium_ll.proofs.Unread.{rest-of}
+use Rattle.ciborium_value.specs.{Tree.Tree, View.tree_of, declared.tree.Value.Value, inner.ReadItems.string_tree}
 use Rattle.ciborium_value.specs.Spelling.{Spelling, any, deterministic, IsReadAs}
-use Rattle.ciborium.proofs.Turns.Fronts.{ahead-at}
-use Rattle.ciborium.proofs.Readers.Outcomes.{left-at}
-use Rattle.ciborium.proofs.Turns.Pulled.{refused-from}
+use Rattle.ciborium.specs.{declared.de.error.Error.Error, ValueAnswers.{IsTakenFrom, TakesBytes}}
+use Rattle.ciborium.specs.{inner.Turns.IsTreeRead, Errors.from_ll, inner.ValuesInBytes.{IsAt, StandsAt}}
+use Rattle.ciborium.specs.inner.StringAnswers.{IsStringRead}
+use Rattle.ciborium.proofs.{Turns.Fronts.ahead-at, Readers.Outcomes.left-at, Turns.Pulled.refused-from}
+use Rattle.ciborium_ll.specs.ReaderSteps as reading
 
 no-bytes : AreBytes []
 no-bytes k d h = absurd (omega (arith, h))
@@ -119,11 +105,10 @@ StringSo {W} {E} kind len at d e x = (xs : List ℕ) (p : ℕ) → IsAt Some d x
     IsStringRead {S = List ℕ} {E = E} kind Some e len at xs p x
 
 string-read : (E : Type 0) {S W : Type 0} (kind : StringKind) (remaining : S → Option (List ℕ)) (d e : Decoder S W)
-    (len : Option ℕ) (xs : List ℕ) (p : ℕ) (old new : List ℕ) (v : Value) → old ≡ [] →
-    tree_of v ≡ string_tree kind new →
-    Takes remaining d e (λ b. (added : List ℕ) × (new ≡ old ++ added) ×
-    IsStringTaken {E = E} kind len d.last b d.counter.count (Ok tt) added) → IsAt remaining d xs p →
-    IsStringRead {S = S} {E = E} kind remaining e len d.last xs p (Ok v)
+    (len : Option ℕ) (xs : List ℕ) (p : ℕ) (old new : List ℕ) (v : Value) →
+    old ≡ [] → tree_of v ≡ string_tree kind new → Takes remaining d e (λ b. (added : List ℕ) × (new ≡ old ++ added) ×
+    IsStringTaken {E = E} kind len d.last b d.counter.count (Ok tt) added) →
+    IsAt remaining d xs p → IsStringRead {S = S} {E = E} kind remaining e len d.last xs p (Ok v)
 string-read E kind remaining d e len xs p old new v none tree (x, taken, count, (added, is, s), bytes) at =
     let k = rest-of (left_of remaining d) (left_of remaining e) xs x at.1 taken in
     let less = e.counter.fits in
@@ -155,8 +140,7 @@ string-taken E remaining a b kind len old new v none tree t = (
 
 -- a string that was refused
 pub string-refused : (E : Type 0) {S W : Type 0} (remaining : S → Option (List ℕ)) (a b : Decoder S W)
-    (kind : StringKind)
-    (len : Option ℕ) (x : LlError E) (A : List ℕ → List ℕ → Type 0) →
+    (kind : StringKind) (len : Option ℕ) (x : LlError E) (A : List ℕ → List ℕ → Type 0) →
     Takes remaining a b (λ y. (added : List ℕ) × A added y ×
     IsStringTaken {E = E} kind len a.last y a.counter.count (Err x) added) →
     TakesBeforeAny remaining a b (λ d e. StringSo {E = E} kind len a.last d e (Err (from_ll x)))
@@ -187,9 +171,8 @@ held-refused E remaining a b kind n Makes x (y, taken, count, h, bytes) =
     by Memory h = absurd h
 
 -- a text whose payload is none
-pub held-no-text : (E : Type 0) {S W : Type 0} (remaining : S → Option (List ℕ)) (a b : Decoder S W)
-    (kind : StringKind) (n : ℕ) →
-    Takes remaining a b (λ y. (length y ≡ n) × (a.counter.count + n ≤ greatest_offset) × ¬ IsAllowed kind y) →
+pub held-no-text : (E : Type 0) {S W : Type 0} (remaining : S → Option (List ℕ)) (a b : Decoder S W) (kind : StringKind)
+    (n : ℕ) → Takes remaining a b (λ y. (length y ≡ n) × (a.counter.count + n ≤ greatest_offset) × ¬ IsAllowed kind y) →
     TakesBeforeAny remaining a b (λ d e. StringSo {E = E} kind (Some n) a.last d e (Err (from_ll (Syntax a.last))))
 held-no-text E remaining a b kind n (y, taken, count, (size, fits, unlike), bytes) =
     string-refused E remaining a b kind (Some n) (Syntax a.last) (λ _ _. Unit {0})
@@ -203,9 +186,8 @@ abbrev pub TreeSo : {W E : Type 0} → Spelling → ℕ → Decoder (List ℕ) W
 TreeSo {W} {E} spelling l d e x = (xs : List ℕ) (p : ℕ) → StandsAt spelling Some d xs p →
     IsTreeRead {S = List ℕ} {E = E} spelling Some e l xs p x
 
-begun-stands : {W : Type 0} (spelling : Spelling) (d : Decoder (List ℕ) W) (xs : List ℕ) → d.pushed ≡ None →
-    IsAt Some d xs 0 →
-    StandsAt spelling Some d xs 0
+begun-stands : {W : Type 0} (spelling : Spelling) (d : Decoder (List ℕ) W) (xs : List ℕ) →
+    d.pushed ≡ None → IsAt Some d xs 0 → StandsAt spelling Some d xs 0
 begun-stands any d xs none at = ahead-at Some d 0 xs none at
 begun-stands (deterministic order) d xs none at = (
   ahead-at Some d 0 xs none at,

@@ -1,26 +1,17 @@
 -- From the item at the front of a slice to all of its bytes.
-use Rattle.std.proofs.Common.{◌≡◌, ◌≢◌, ℕ, ◌+◌, ◌-◌, ◌≤◌, inl, inr, false, List, [], ◌++◌, length, Option}
-use Rattle.std.proofs.Common.{Some, None, Ok, Err, IfSome, refl, sym, ap, ◌∙◌, subst, arith, append-nil, length-append}
-use Rattle.ciborium_ll.specs.Bytes.{greatest_offset}
-use Rattle.ciborium_ll.specs.Refusal.{Refusal}
-use Rattle.ciborium_ll.specs.Spells.{Spells}
-use Rattle.ciborium_ll.proofs.UniqueSpelling.{one_at_front, one_item}
-use Rattle.ciborium_value.specs.Readings.{Reading}
-use Rattle.ciborium_value.specs.Sources.{IsFaultOf, IsOutsideFault}
-use Rattle.ciborium_value.specs.Given.{outcome}
-use Rattle.ciborium_value.specs.declared.kind.Kind.TheVariants.{TrailingData}
-use Rattle.ciborium.specs.Errors.{HasEndedBy, fault_of}
-use Rattle.ciborium.specs.ValueAnswers.{IsRefusedBy, IsFailed}
-use Rattle.ciborium.specs.SliceAnswers.{ReadsAll}
-use Rattle.ciborium_value.specs.Spelling.{any, IsReadAs}
-use Rattle.ciborium.specs.TypedAnswers.{IsFaultAhead, ReadsAsTypeFrom, TakesGiving}
-use Rattle.ciborium.specs.ValueClauses.{ReadsWhole}
-use Rattle.ciborium.specs.declared.de.error.Error.{Error}
-use Rattle.ciborium.specs.declared.de.error.Error.TheVariants as errors
-use Rattle.ciborium.proofs.ReadBack.RoundTrips.{not-blamed}
-use Rattle.ciborium_value.specs.lemmas.GivenOutcomes.{one_given}
-use Rattle.ciborium.proofs.Readers.KnownReaders.{inside}
+use Rattle.std.proofs.Common.{◌≡◌, ◌≢◌, ℕ, ◌+◌, ◌-◌, ◌≤◌, inl, inr, false, List, [], ◌++◌, length, Option, Some, None}
+use Rattle.std.proofs.Common.{Ok, Err, IfSome, refl, sym, ap, ◌∙◌, subst, arith, append-nil, length-append}
 use Rattle.std.proofs.lemmas.List.{nil_from_length}
+use Rattle.ciborium_ll.specs.{Bytes.greatest_offset, Refusal.Refusal, Spells.Spells}
+use Rattle.ciborium_ll.proofs.UniqueSpelling.{one_at_front, one_item}
+use Rattle.ciborium_value.specs.{Readings.Reading, Sources.{IsFaultOf, IsOutsideFault}, Given.outcome}
+use Rattle.ciborium_value.specs.{declared.kind.Kind.TheVariants.TrailingData, Spelling.{any, IsReadAs}}
+use Rattle.ciborium_value.specs.lemmas.GivenOutcomes.{one_given}
+use Rattle.ciborium.specs.{Errors.{HasEndedBy, fault_of}, ValueAnswers.{IsRefusedBy, IsFailed}, SliceAnswers.ReadsAll}
+use Rattle.ciborium.specs.{TypedAnswers.{IsFaultAhead, ReadsAsTypeFrom, TakesGiving}, ValueClauses.ReadsWhole}
+use Rattle.ciborium.specs.declared.de.error.Error.{Error}
+use Rattle.ciborium.proofs.{ReadBack.RoundTrips.not-blamed, Readers.KnownReaders.inside}
+use Rattle.ciborium.specs.declared.de.error.Error.TheVariants as errors
 
 both : {A : Type 0} {P Q R : A → Type 0} (o : Option A) → IfSome o P → IfSome o Q → ((v : A) → P v → Q v → R v) →
     IfSome o R

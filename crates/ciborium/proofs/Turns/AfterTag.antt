@@ -1,38 +1,26 @@
 -- What stands behind the head of a tag, in each spelling.
-use Rattle.std.proofs.Common.{◌≡◌, ℕ, suc, ◌+◌, ◌-◌, ◌≤◌, List, ◌++◌, length, Option, Some, None, MatchOption}
-use Rattle.std.proofs.Common.{Result, Ok, Err, refl, sym, ap, ◌∙◌, subst, arith, inl, inr}
-use Rattle.ciborium_ll.specs.declared.decoder.Decoder.{Decoder}
-use Rattle.ciborium_ll.specs.declared.header.Header.{Header}
-use Rattle.ciborium_ll.specs.declared.header.Header.TheVariants as header
-use Rattle.ciborium_ll.specs.Bytes.{AreBytes, greatest_offset}
-use Rattle.ciborium_ll.specs.Decoding.{IsAhead, IsAheadBy, IsMeasured, ReadsNothing, offset_of, left_of}
-use Rattle.ciborium_ll.specs.Header.{SpellsHeader}
-use Rattle.ciborium_ll.specs.Refusal.{Refusal, semantic, recursion_limit_exceeded, HeadRefuses, IsUsable}
-use Rattle.ciborium_ll.specs.Refusal as refusal
-use Rattle.ciborium_ll.specs.StringRefusal.{of_bytes, PayloadRefuses}
-use Rattle.ciborium_ll.proofs.Decoders.{unread-left, unread-count}
-use Rattle.ciborium_ll.proofs.OneHeader.{one_header_at_front}
-use Rattle.ciborium_value.specs.declared.kind.Kind.{Kind}
-use Rattle.ciborium_value.specs.declared.stack.NewFrame.TheVariants as new_frames
-use Rattle.ciborium_value.specs.declared.tree.Value.{Value}
-use Rattle.ciborium_value.specs.Refuses.{HasGoodHead, IsTagAt, IsFoldingAt, Refuses}
-use Rattle.ciborium_value.specs.Spelling.{Spelling, any, deterministic, IsUnwanted}
-use Rattle.ciborium_value.specs.Tree as trees
-use Rattle.ciborium_value.specs.View.{tree_of}
-use Rattle.ciborium_value.specs.inner.ReadItems.{ReadsItem}
-use Rattle.ciborium_value.specs.inner.Stack.{begun_frame}
-use Rattle.ciborium_value.proofs.GoodItems.Bignums.{none-large}
-use Rattle.ciborium_value.proofs.GoodItems.Introduced.{reads-string, reads-folded}
-use Rattle.ciborium.specs.declared.de.error.Error.{Error}
-use Rattle.ciborium.specs.declared.de.error.Error.TheVariants.{Semantic}
-use Rattle.ciborium.specs.ValueAnswers.{IsRefusedBy}
-use Rattle.ciborium.specs.inner.Parts.{BignumRefuses, IsBignumRead, IsFolded, IsFolding, IsFrameBegun, IsHeadAccepted}
-use Rattle.ciborium.specs.inner.Parts.{IsHeadMeasured, RefusesPart}
-use Rattle.ciborium.specs.inner.Rules.{head_fault}
-use Rattle.ciborium.specs.inner.ValuesInBytes.{IsAt, IsPulled, IsBreakAt, StandsAt}
+use Rattle.std.proofs.Common.{◌≡◌, ℕ, suc, ◌+◌, ◌-◌, ◌≤◌, List, ◌++◌, length, Option, Some, None, MatchOption, Result}
+use Rattle.std.proofs.Common.{Ok, Err, refl, sym, ap, ◌∙◌, subst, arith, inl, inr}
+use Rattle.ciborium_ll.specs.{declared.decoder.Decoder.Decoder, declared.header.Header.Header, Bytes.AreBytes}
+use Rattle.ciborium_ll.specs.{Bytes.greatest_offset, Decoding.{IsAhead, IsAheadBy, IsMeasured, ReadsNothing, offset_of}}
+use Rattle.ciborium_ll.specs.{Decoding.left_of, Header.SpellsHeader, Refusal.{Refusal, semantic}}
+use Rattle.ciborium_ll.specs.{Refusal.{recursion_limit_exceeded, HeadRefuses, IsUsable}, StringRefusal.of_bytes}
+use Rattle.ciborium_ll.specs.StringRefusal.{PayloadRefuses}
+use Rattle.ciborium_ll.proofs.{Decoders.{unread-left, unread-count}, OneHeader.one_header_at_front}
+use Rattle.ciborium_value.specs.{declared.kind.Kind.Kind, declared.tree.Value.Value, Refuses.{HasGoodHead, IsTagAt}}
+use Rattle.ciborium_value.specs.{Refuses.{IsFoldingAt, Refuses}, Spelling.{Spelling, any, deterministic, IsUnwanted}}
+use Rattle.ciborium_value.specs.{View.tree_of, inner.ReadItems.ReadsItem, inner.Stack.begun_frame}
+use Rattle.ciborium_value.proofs.{GoodItems.Bignums.none-large, GoodItems.Introduced.{reads-string, reads-folded}}
+use Rattle.ciborium.specs.{declared.de.error.Error.Error, declared.de.error.Error.TheVariants.Semantic}
+use Rattle.ciborium.specs.{ValueAnswers.IsRefusedBy, inner.Parts.{BignumRefuses, IsBignumRead, IsFolded, IsFolding}}
+use Rattle.ciborium.specs.inner.Parts.{IsFrameBegun, IsHeadAccepted, IsHeadMeasured, RefusesPart}
+use Rattle.ciborium.specs.{inner.Rules.head_fault, inner.ValuesInBytes.{IsAt, IsPulled, IsBreakAt, StandsAt}}
 use Rattle.ciborium.proofs.Turns.Fronts.{Front, front-of, string-room, no-break, ahead-at, offset-at, PullsSo}
-use Rattle.ciborium.proofs.Turns.Heads.{Got, got, good-head, good-at, bad-at, unpushed}
-use Rattle.ciborium.proofs.Turns.Pulled.{refused-map}
+use Rattle.ciborium.proofs.{Turns.Heads.{Got, got, good-head, good-at, bad-at, unpushed}, Turns.Pulled.refused-map}
+use Rattle.ciborium_ll.specs.declared.header.Header.TheVariants as header
+use Rattle.ciborium_ll.specs.Refusal as refusal
+use Rattle.ciborium_value.specs.declared.stack.NewFrame.TheVariants as new_frames
+use Rattle.ciborium_value.specs.Tree as trees
 
 -- what `read_bignum` answers
 abbrev pub BignumSo : {S W E : Type 0} → Spelling → (S → Option (List ℕ)) → Decoder S W → Decoder S W → ℕ → ℕ → ℕ →
@@ -87,8 +75,7 @@ module _ {S W : Type 0} (remaining : S → Option (List ℕ)) (d : Decoder S W) 
 
   pub tag-no-level : (spelling : Spelling) (E : Type 0) (e : Decoder S W) (k : Header) →
       PullsSo {E = E} remaining d e (Ok k) → IsFolding t k None → l ≡ 0 →
-      IsHeadAccepted spelling remaining d (header.Tag t) xs p →
-      RefusesPart spelling xs p l recursion_limit_exceeded
+      IsHeadAccepted spelling remaining d (header.Tag t) xs p → RefusesPart spelling xs p l recursion_limit_exceeded
   tag-no-level spelling E e k pull other none a =
       let r : List ℕ = rest spelling a in
       let q : ℕ = next spelling a in
@@ -99,12 +86,11 @@ module _ {S W : Type 0} (remaining : S → Option (List ℕ)) (d : Decoder S W) 
       )
 
   pub tag-begun : (spelling : Spelling) (E : Type 0) (e f : Decoder S W) (k : Header) (here : ℕ) →
-      PullsSo {E = E} remaining d e (Ok k) → IsFolding t k None → (l ≡ 0 → ⊥) → here ≡ offset_of d → ReadsNothing e f →
-      f.pushed ≡ Some (k, here) → f.head_len ≡ e.head_len → (IsMeasured d →
-      e.counter.count ≡ offset_of d + e.head_len) →
-      IsHeadAccepted spelling remaining d (header.Tag t) xs p →
-      (zs : List ℕ) × (r : ℕ) × IsFrameBegun spelling l xs p (begun_frame (new_frames.Tag t)) zs r ×
-      StandsAt spelling remaining f zs r
+      PullsSo {E = E} remaining d e (Ok k) →
+      IsFolding t k None → (l ≡ 0 → ⊥) → here ≡ offset_of d → ReadsNothing e f → f.pushed ≡ Some (k, here) →
+      f.head_len ≡ e.head_len → (IsMeasured d → e.counter.count ≡ offset_of d + e.head_len) →
+      IsHeadAccepted spelling remaining d (header.Tag t) xs p → (zs : List ℕ) ×
+      (r : ℕ) × IsFrameBegun spelling l xs p (begun_frame (new_frames.Tag t)) zs r × StandsAt spelling remaining f zs r
   tag-begun spelling E e f k here pull other some same stays back kept size a =
       let r : List ℕ = rest spelling a in
       let q : ℕ = next spelling a in

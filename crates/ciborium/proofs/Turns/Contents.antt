@@ -1,31 +1,18 @@
 -- Strings behind their heads, in each spelling.
-use Rattle.std.proofs.Common.{◌≡◌, ℕ, ◌+◌, ◌≤◌, ◌⊎◌, List, [], ◌∷◌, ◌++◌, length, Option, Some, None, Ok, refl, sym}
-use Rattle.std.proofs.Common.{ap, ◌∙◌, subst, arith, length-append, append_assoc, inl, inr}
-use Rattle.ciborium_ll.specs.declared.decoder.Decoder.{Decoder}
-use Rattle.ciborium_ll.specs.declared.header.Header.{Header}
-use Rattle.ciborium_ll.specs.declared.header.Header.TheVariants as header
-use Rattle.ciborium_ll.specs.Bytes.{greatest_offset}
-use Rattle.ciborium_ll.specs.Decoding.{left_of}
-use Rattle.ciborium_ll.specs.Head.{open_byte, break_byte}
-use Rattle.ciborium_ll.specs.Header.{SpellsHeader, IsCounted}
-use Rattle.ciborium_ll.specs.Refusal.{Refusal}
-use Rattle.ciborium_ll.specs.StringRefusal.{StringKind, of_bytes, of_text, string_major, ContentRefuses, PayloadRefuses}
-use Rattle.ciborium_ll.specs.StringRefusal.{ChunksRefuse}
-use Rattle.ciborium_ll.specs.Strings.{IsStringTaken}
-use Rattle.ciborium_value.specs.declared.tree.Value.{Value}
-use Rattle.ciborium_value.specs.Refuses.{HasGoodHead, Refuses}
-use Rattle.ciborium_value.specs.Spelling.{Spelling}
-use Rattle.ciborium_value.specs.View.{tree_of}
-use Rattle.ciborium_value.specs.inner.ReadItems.{ReadsItem, string_tree}
+use Rattle.std.proofs.Common.{◌≡◌, ℕ, ◌+◌, ◌≤◌, ◌⊎◌, List, [], ◌∷◌, ◌++◌, length, Option, Some, None, Ok, refl, sym, ap}
+use Rattle.std.proofs.Common.{◌∙◌, subst, arith, length-append, append_assoc, inl, inr}
+use Rattle.ciborium_ll.specs.{declared.decoder.Decoder.Decoder, declared.header.Header.Header, Bytes.greatest_offset}
+use Rattle.ciborium_ll.specs.{Decoding.left_of, Head.{open_byte, break_byte}, Header.{SpellsHeader, IsCounted}}
+use Rattle.ciborium_ll.specs.{Refusal.Refusal, StringRefusal.{StringKind, of_bytes, of_text, string_major}}
+use Rattle.ciborium_ll.specs.{StringRefusal.{ContentRefuses, PayloadRefuses, ChunksRefuse}, Strings.IsStringTaken}
+use Rattle.ciborium_value.specs.{declared.tree.Value.Value, Refuses.{HasGoodHead, Refuses}, Spelling.Spelling}
+use Rattle.ciborium_value.specs.{View.tree_of, inner.ReadItems.{ReadsItem, string_tree}}
 use Rattle.ciborium_value.proofs.GoodItems.Introduced.{reads-string, reads-open_string}
-use Rattle.ciborium.specs.declared.de.error.Error.{Error}
-use Rattle.ciborium.specs.ValueAnswers.{IsRefusedBy}
-use Rattle.ciborium.specs.inner.Parts.{IsHeadAccepted, RefusesPart}
-use Rattle.ciborium.specs.inner.StringAnswers.{IsStringRead}
-use Rattle.ciborium.specs.inner.ValuesInBytes.{IsAt}
-use Rattle.ciborium.proofs.Turns.Fronts.{Front, front-of, string-room, IsNoBreak, no-break}
-use Rattle.ciborium.proofs.Turns.Heads.{Got, got, good-head}
-use Rattle.ciborium.proofs.Turns.Pulled.{refused-map}
+use Rattle.ciborium.specs.{declared.de.error.Error.Error, ValueAnswers.IsRefusedBy, inner.Parts.IsHeadAccepted}
+use Rattle.ciborium.specs.{inner.Parts.RefusesPart, inner.StringAnswers.IsStringRead, inner.ValuesInBytes.IsAt}
+use Rattle.ciborium.proofs.{Turns.Fronts.{Front, front-of, string-room, IsNoBreak, no-break}, Turns.Heads.{Got, got}}
+use Rattle.ciborium.proofs.{Turns.Heads.good-head, Turns.Pulled.refused-map}
+use Rattle.ciborium_ll.specs.declared.header.Header.TheVariants as header
 
 -- the head of a string of this length
 abbrev pub header_of : StringKind → Option ℕ → Header
@@ -93,9 +80,8 @@ module _ (spelling : Spelling) (kind : StringKind) (l : ℕ) (xs : List ℕ) (p 
 
 module _ {S W : Type 0} (kind : StringKind) (remaining : S → Option (List ℕ)) (d e : Decoder S W) (l : ℕ) (xs : List ℕ)
     (p : ℕ) (h : Header) where
-  pub got-string : (spelling : Spelling) (E : Type 0) (len : Option ℕ) (v : Value) → e.pushed ≡ None →
-      h ≡ header_of kind len →
-      ((ys : List ℕ) (q : ℕ) → IsAt remaining d ys q →
+  pub got-string : (spelling : Spelling) (E : Type 0) (len : Option ℕ) (v : Value) →
+      e.pushed ≡ None → h ≡ header_of kind len → ((ys : List ℕ) (q : ℕ) → IsAt remaining d ys q →
       IsStringRead {S = S} {E = E} kind remaining e len d.last ys q (Ok v)) →
       IsHeadAccepted spelling remaining d h xs p → Got spelling remaining e l xs p (tree_of v)
   got-string spelling E len v pushed is read a =
@@ -108,11 +94,10 @@ module _ {S W : Type 0} (kind : StringKind) (remaining : S → Option (List ℕ)
       c.5
       c.7) c.6
 
-  pub string-fault : (spelling : Spelling) (E : Type 0) (len : Option ℕ) (x : Error E) → h ≡ header_of kind len →
-      ((ys : List ℕ) (q : ℕ) → IsAt remaining d ys q →
+  pub string-fault : (spelling : Spelling) (E : Type 0) (len : Option ℕ) (x : Error E) →
+      h ≡ header_of kind len → ((ys : List ℕ) (q : ℕ) → IsAt remaining d ys q →
       IsRefusedBy (left_of remaining e) x (λ r. ContentRefuses kind len d.last ys q r)) →
-      IsHeadAccepted spelling remaining d h xs p →
-      IsRefusedBy (left_of remaining e) x (RefusesPart spelling xs p l)
+      IsHeadAccepted spelling remaining d h xs p → IsRefusedBy (left_of remaining e) x (RefusesPart spelling xs p l)
   string-fault spelling E len x is read a =
       let b : List ℕ = a.pulled.0 in
       let r : List ℕ = a.pulled.1 in

@@ -1,25 +1,18 @@
 -- What stands at the front, by its head.
-use Rattle.std.proofs.Common.{◌≡◌, ℕ, suc, ◌+◌, ◌%◌, ◌<◌, ◌≤◌, ◌⊎◌, List, [], ◌∷◌, ◌++◌, length, Option, Some}
-use Rattle.std.proofs.Common.{None, Result, refl, sym, ap, ◌∙◌, subst, arith}
-use Rattle.std.proofs.lemmas.Nat.{div-mul-add, mod-mul-add}
-use Rattle.ciborium_ll.specs.declared.header.Header.{Header}
-use Rattle.ciborium_ll.specs.declared.header.Header.TheVariants as header
-use Rattle.ciborium_ll.specs.declared.decoder.Decoder.{Decoder}
-use Rattle.ciborium_ll.specs.Bytes.{greatest_offset}
-use Rattle.ciborium_ll.specs.Decoding.{IsAhead, IsAheadBy, offset_of, next_offset}
-use Rattle.ciborium_ll.specs.Head.{IsHead, information, argument_bytes, initial_byte, break_byte}
-use Rattle.ciborium_ll.specs.Header.{SpellsHeader, announced_length}
+use Rattle.std.proofs.Common.{◌≡◌, ℕ, suc, ◌+◌, ◌%◌, ◌<◌, ◌≤◌, ◌⊎◌, List, [], ◌∷◌, ◌++◌, length, Option, Some, None}
+use Rattle.std.proofs.{Common.{Result, refl, sym, ap, ◌∙◌, subst, arith}, lemmas.Nat.{div-mul-add, mod-mul-add}}
+use Rattle.ciborium_ll.specs.{declared.header.Header.Header, declared.decoder.Decoder.Decoder, Bytes.greatest_offset}
+use Rattle.ciborium_ll.specs.{Decoding.{IsAhead, IsAheadBy, offset_of, next_offset}, Head.{IsHead, information}}
+use Rattle.ciborium_ll.specs.{Head.{argument_bytes, initial_byte, break_byte}, Header.{SpellsHeader, announced_length}}
 use Rattle.ciborium_ll.specs.Refusal.{Refusal, HeadRefuses, IsUsable, head_refusal, argument_length, payload_length}
-use Rattle.ciborium_ll.proofs.HeadAnswers.{header-begins}
-use Rattle.ciborium_ll.proofs.HeadAnswers as answers
-use Rattle.ciborium_ll.proofs.ReadHeads.{payload_length-is}
-use Rattle.ciborium_ll.proofs.UsableHeads.{usable-fits, HeadFits, information-below, argument-information}
-use Rattle.ciborium_ll.proofs.UsableHeads.{argument_length-information}
-use Rattle.ciborium_ll.proofs.OneHeader.{one_header_at_front}
+use Rattle.ciborium_ll.proofs.{HeadAnswers.header-begins, ReadHeads.payload_length-is, UsableHeads.usable-fits}
+use Rattle.ciborium_ll.proofs.UsableHeads.{HeadFits, information-below, argument-information}
+use Rattle.ciborium_ll.proofs.{UsableHeads.argument_length-information, OneHeader.one_header_at_front}
 use Rattle.ciborium_value.proofs.GoodItems.Steps.{opened-has}
-use Rattle.ciborium.specs.declared.de.error.Error.{Error}
-use Rattle.ciborium.specs.inner.Parts.{IsHeadRead}
-use Rattle.ciborium.specs.inner.ValuesInBytes.{IsAt, IsPulled, IsBreakAt}
+use Rattle.ciborium.specs.{declared.de.error.Error.Error, inner.Parts.IsHeadRead, inner.ValuesInBytes.{IsAt, IsPulled}}
+use Rattle.ciborium.specs.inner.ValuesInBytes.{IsBreakAt}
+use Rattle.ciborium_ll.specs.declared.header.Header.TheVariants as header
+use Rattle.ciborium_ll.proofs.HeadAnswers as answers
 
 -- a usable head of this header stands at the front of xs, offset p, and r follows it
 pub record Front (xs : List ℕ) (p : ℕ) (h : Header) (b r : List ℕ) : Type 0 where
@@ -86,8 +79,7 @@ head-no-break xs p e f (lt, (s, i)) = apart e (sym (opened-has 7 p s refl lt) �
 -- ---- where the decoder stands
 
 pub ahead-at : {S W : Type 0} (remaining : S → Option (List ℕ)) (d : Decoder S W) (p : ℕ) (xs : List ℕ) →
-    d.pushed ≡ None →
-    IsAt remaining d xs p → IsAhead remaining d xs p
+    d.pushed ≡ None → IsAt remaining d xs p → IsAhead remaining d xs p
 ahead-at remaining d p xs e a = subst (λ o. IsAheadBy remaining d xs p o) (sym e) a
 
 pub offset-at : {S W : Type 0} (remaining : S → Option (List ℕ)) (d : Decoder S W) (p : ℕ) (xs : List ℕ) →

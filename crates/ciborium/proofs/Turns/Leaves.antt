@@ -1,34 +1,23 @@
 -- What a head gives or refuses by itself, in each spelling.
 use Rattle.std.proofs.Common.{◌≡◌, ℕ, suc, ◌+◌, ◌-◌, ◌<◌, ◌≤◌, Bool, true, false, List, [], ◌∷◌, ◌++◌, length, Option}
 use Rattle.std.proofs.Common.{Some, None, Result, Ok, Err, pos, negsuc, refl, sym, ap, ◌∙◌, subst, arith, inl, inr}
-use Rattle.ciborium_ll.specs.declared.decoder.Decoder.{Decoder}
-use Rattle.ciborium_ll.specs.declared.header.Header.{Header}
-use Rattle.ciborium_ll.specs.declared.header.Header.TheVariants as header
-use Rattle.ciborium_ll.specs.Bytes.{greatest_offset}
-use Rattle.ciborium_ll.specs.Decoding.{left_of}
-use Rattle.ciborium_ll.specs.Head.{break_byte}
-use Rattle.ciborium_ll.specs.Header.{SpellsHeader}
-use Rattle.ciborium_ll.specs.Refusal.{Refusal, semantic, recursion_limit_exceeded, IsUsable}
-use Rattle.ciborium_ll.specs.Refusal as refusal
-use Rattle.ciborium_value.specs.Meaning.{simple_meaning}
-use Rattle.ciborium_value.specs.Refuses.{Due, items, keys, BeginsContainer, IsInside, Refuses}
-use Rattle.ciborium_value.specs.Spelling.{Spelling}
-use Rattle.ciborium_value.specs.Tree as trees
-use Rattle.ciborium_value.specs.Tree.{Tree}
-use Rattle.ciborium_value.specs.View.{tree_of}
-use Rattle.ciborium_value.specs.inner.ReadItems.{ReadsItem}
+use Rattle.ciborium_ll.specs.{declared.decoder.Decoder.Decoder, declared.header.Header.Header, Bytes.greatest_offset}
+use Rattle.ciborium_ll.specs.{Decoding.left_of, Head.break_byte, Header.SpellsHeader, Refusal.{Refusal, semantic}}
+use Rattle.ciborium_ll.specs.Refusal.{recursion_limit_exceeded, IsUsable}
+use Rattle.ciborium_value.specs.{Meaning.simple_meaning, Refuses.{Due, items, keys, BeginsContainer, IsInside, Refuses}}
+use Rattle.ciborium_value.specs.{Spelling.Spelling, Tree.Tree, View.tree_of, inner.ReadItems.ReadsItem}
 use Rattle.ciborium_value.proofs.GoodItems.Introduced.{reads-positive, reads-negative, reads-simple, inside-begun}
 use Rattle.ciborium_value.proofs.GoodItems.Introduced.{reads-container}
-use Rattle.ciborium.specs.declared.de.error.Error.{Error}
-use Rattle.ciborium.specs.declared.de.front.Part.{Part}
-use Rattle.ciborium.specs.declared.de.front.Part.TheVariants.{Whole, Begun, Ended}
-use Rattle.ciborium.specs.ValueAnswers.{IsRefusedBy}
-use Rattle.ciborium.specs.inner.Around.{IsOpen}
-use Rattle.ciborium.specs.inner.Parts.{IsHeadAccepted, IsPartRead, RefusesPart, IsContainerBegun, IsBehind}
-use Rattle.ciborium.specs.inner.Parts.{container_header, empty_container, begun_container}
+use Rattle.ciborium.specs.{declared.de.error.Error.Error, declared.de.front.Part.Part}
+use Rattle.ciborium.specs.{declared.de.front.Part.TheVariants.{Whole, Begun, Ended}, ValueAnswers.IsRefusedBy}
+use Rattle.ciborium.specs.{inner.Around.IsOpen, inner.Parts.{IsHeadAccepted, IsPartRead, RefusesPart, IsContainerBegun}}
+use Rattle.ciborium.specs.inner.Parts.{IsBehind, container_header, empty_container, begun_container}
 use Rattle.ciborium.specs.inner.ValuesInBytes.{StandsAt}
-use Rattle.ciborium.proofs.Turns.Fronts.{Front, front-of, front-fits, IsNoBreak, no-break}
-use Rattle.ciborium.proofs.Turns.Heads.{Got, got, good-head, stands-at}
+use Rattle.ciborium.proofs.{Turns.Fronts.{Front, front-of, front-fits, IsNoBreak, no-break}, Turns.Heads.{Got, got}}
+use Rattle.ciborium.proofs.Turns.Heads.{good-head, stands-at}
+use Rattle.ciborium_ll.specs.declared.header.Header.TheVariants as header
+use Rattle.ciborium_ll.specs.Refusal as refusal
+use Rattle.ciborium_value.specs.Tree as trees
 
 module _ {S W : Type 0} (remaining : S → Option (List ℕ)) (d : Decoder S W) (l : ℕ) (xs : List ℕ) (p : ℕ) (h : Header)
     (pushed : d.pushed ≡ None) where
@@ -191,8 +180,7 @@ module _ {S W : Type 0} (remaining : S → Option (List ℕ)) (d : Decoder S W) 
 
       at : (x : ℕ) (raw : List ℕ) → xs ≡ (x ∷ raw) ++ a.pulled.1 → 0xf9 ≤ x → x ≤ 0xfb →
           Refuses spelling xs p (Some l) (semantic p refusal.Float)
-      at x raw e low high =
-          subst (λ z. Refuses spelling z p (Some l) (semantic p refusal.Float)) (sym e)
+      at x raw e low high = subst (λ z. Refuses spelling z p (Some l) (semantic p refusal.Float)) (sym e)
           (Refuses.float {x = x} {p = p} {b = raw ++ a.pulled.1} (subst (λ z. IsUsable z p) e u.usable) low high)
 
       by : (b : List ℕ) → SpellsHeader b (header.Float n) → xs ≡ b ++ a.pulled.1 →

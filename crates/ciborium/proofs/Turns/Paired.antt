@@ -1,10 +1,8 @@
 -- Keys and values in turn are pairs.
 use Rattle.std.proofs.Common.{◌≡◌, List, [], ◌∷◌, ◌++◌, Some, None, refl, ap}
-use Rattle.ciborium_value.specs.Tree as trees
-use Rattle.ciborium_value.specs.Tree.{Tree}
-use Rattle.ciborium_value.specs.View.{tree_pairs_from}
-use Rattle.ciborium_value.specs.inner.ReadItems.{pairs_in}
+use Rattle.ciborium_value.specs.{Tree.Tree, View.tree_pairs_from, inner.ReadItems.pairs_in}
 use Rattle.ciborium.specs.inner.Around.{trees_in_turn}
+use Rattle.ciborium_value.specs.Tree as trees
 
 pub in_turn-key : (ps : List (Tree × Tree)) (k : Tree) → trees_in_turn ps None ++ k ∷ [] ≡ trees_in_turn ps (Some k)
 in_turn-key [] k = refl

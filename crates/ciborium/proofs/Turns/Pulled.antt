@@ -1,23 +1,16 @@
 -- Heads that are pulled.
-use Rattle.ciborium_ll.proofs.Decoders.{unread-count}
-use Rattle.std.proofs.Common.{◌≡◌, ℕ, ◌+◌, ◌-◌, ◌<◌, List, ◌++◌, length, Option, Some, None, Result, Ok, IfSome}
-use Rattle.std.proofs.Common.{IfNone, sym, subst, arith}
-use Rattle.ciborium_ll.specs.declared.header.Header.{Header}
-use Rattle.ciborium_ll.specs.declared.header.Error.{Error as LlError}
+use Rattle.ciborium_ll.proofs.{Decoders.unread-count, HeadAnswers.{header-fits, head-some}}
+use Rattle.std.proofs.Common.{◌≡◌, ℕ, ◌+◌, ◌-◌, ◌<◌, List, ◌++◌, length, Option, Some, None, Result, Ok, IfSome, IfNone}
+use Rattle.std.proofs.Common.{sym, subst, arith}
+use Rattle.ciborium_ll.specs.{declared.header.Header.Header, declared.header.Error.Error as LlError}
+use Rattle.ciborium_ll.specs.{declared.decoder.Decoder.Decoder, Bytes.greatest_offset, Decoding.{ReadsNothing, Takes}}
+use Rattle.ciborium_ll.specs.{Decoding.left_of, Header.SpellsHeader, ReaderSteps.IsHeadTaken, Refusal.Refusal}
+use Rattle.ciborium_ll.specs.Refusal.{HeadRefuses, IsUsable, IsAtFront, argument_length}
+use Rattle.ciborium.specs.{declared.de.error.Error.Error, Errors.from_ll, ValueAnswers.{IsRefusedBy, IsNamed}}
+use Rattle.ciborium.specs.{ValueAnswers.refusal_kind_of, inner.ValuesInBytes.{IsPulled, heads_by, heads_left}}
 use Rattle.ciborium_ll.specs.declared.header.Error.TheVariants as ll
-use Rattle.ciborium_ll.specs.declared.decoder.Decoder.{Decoder}
-use Rattle.ciborium_ll.specs.Bytes.{greatest_offset}
-use Rattle.ciborium_ll.specs.Decoding.{ReadsNothing, Takes, left_of}
-use Rattle.ciborium_ll.specs.Header.{SpellsHeader}
 use Rattle.ciborium_ll.specs.ReaderSteps as reading
-use Rattle.ciborium_ll.specs.ReaderSteps.{IsHeadTaken}
-use Rattle.ciborium_ll.specs.Refusal.{Refusal, HeadRefuses, IsUsable, IsAtFront, argument_length}
-use Rattle.ciborium_ll.proofs.HeadAnswers.{header-fits, head-some}
-use Rattle.ciborium.specs.declared.de.error.Error.{Error}
 use Rattle.ciborium.specs.declared.de.error.Error.TheVariants as errors
-use Rattle.ciborium.specs.Errors.{from_ll}
-use Rattle.ciborium.specs.ValueAnswers.{IsRefusedBy, IsNamed, refusal_kind_of}
-use Rattle.ciborium.specs.inner.ValuesInBytes.{IsPulled, heads_by, heads_left}
 
 -- the error that an error of the lowest layer becomes refuses as it does
 pub refused-from : {E : Type 0} (left : Option (List ℕ)) (e : LlError E) (P : Refusal → Type 0) →

@@ -1,41 +1,27 @@
 -- The answers of one turn.
 use Rattle.std.proofs.Common.{◌≡◌, ℕ, zero, suc, ◌+◌, ◌-◌, ◌<◌, ◌≤◌, List, [], ◌∷◌, ◌++◌, length, Option, Some, None}
 use Rattle.std.proofs.Common.{Result, Ok, Err, IfOk, MatchOption, IsSome, refl, sym, ap, ◌∙◌, subst, arith, inl, inr}
-use Rattle.ciborium_ll.specs.Bytes.{greatest_offset}
-use Rattle.ciborium_ll.specs.declared.decoder.Decoder.{Decoder}
-use Rattle.ciborium_ll.specs.Decoding.{offset_of, left_of}
-use Rattle.ciborium_ll.specs.Head.{break_byte}
-use Rattle.ciborium_ll.specs.Refusal.{semantic, Break}
-use Rattle.ciborium_value.specs.declared.tree.Value.{Value}
-use Rattle.ciborium_value.specs.declared.stack.NewFrame.{NewFrame}
-use Rattle.ciborium_value.specs.inner.Frames.{TreeFrame, array, map, tag, Placed, more, placed, closed}
-use Rattle.ciborium_value.specs.Refuses.{Refuses}
-use Rattle.ciborium_value.specs.Spelling.{Spelling}
-use Rattle.ciborium_value.specs.inner.ReadItems.{ReadsItem}
-use Rattle.ciborium_value.specs.inner.Stack.{begun_frame}
-use Rattle.ciborium_value.specs.Tree as trees
-use Rattle.ciborium_value.specs.Tree.{Tree}
+use Rattle.ciborium_ll.specs.{Bytes.greatest_offset, declared.decoder.Decoder.Decoder, Decoding.{offset_of, left_of}}
+use Rattle.ciborium_ll.specs.{Head.break_byte, Refusal.{semantic, Break}}
+use Rattle.ciborium_value.specs.{declared.tree.Value.Value, declared.stack.NewFrame.NewFrame, inner.Frames.TreeFrame}
+use Rattle.ciborium_value.specs.{inner.Frames.{array, map, tag, Placed, more, placed, closed}, Refuses.Refuses}
+use Rattle.ciborium_value.specs.{Spelling.Spelling, inner.ReadItems.ReadsItem, inner.Stack.begun_frame, Tree.Tree}
 use Rattle.ciborium_value.specs.View.{tree_of, trees_from, tree_pairs_from}
 use Rattle.ciborium_value.proofs.GoodItems.Steps.{opened-has}
-use Rattle.ciborium.specs.declared.de.error.Error.{Error}
-use Rattle.ciborium.specs.declared.de.front.Part.{Part}
-use Rattle.ciborium.specs.declared.de.front.Part.TheVariants.{Whole, Begun, Ended}
-use Rattle.ciborium.specs.inner.Turns.{IsPlacedInOrder, IsReading, IsTurned}
-use Rattle.ciborium.specs.inner.Around.{IsAround}
-use Rattle.ciborium.specs.ValueAnswers.{IsRefusedBy}
-use Rattle.ciborium.specs.inner.Parts.{IsPartRead, RefusesPart}
-use Rattle.ciborium.specs.inner.ValuesInBytes.{StandsAt}
-use Rattle.ciborium.proofs.Turns.Heads.{ahead-of, stands-offset}
-use Rattle.ciborium.proofs.Turns.Pulled.{refused-map}
-use Rattle.ciborium.proofs.Turns.Turning.{EndsHere, Lands, LandsIn, landed, kept, disordered, closed-item, refused-turn}
+use Rattle.ciborium.specs.{declared.de.error.Error.Error, declared.de.front.Part.Part}
+use Rattle.ciborium.specs.{declared.de.front.Part.TheVariants.{Whole, Begun, Ended}, inner.Turns.IsPlacedInOrder}
+use Rattle.ciborium.specs.{inner.Turns.{IsReading, IsTurned}, inner.Around.IsAround, ValueAnswers.IsRefusedBy}
+use Rattle.ciborium.specs.{inner.Parts.{IsPartRead, RefusesPart}, inner.ValuesInBytes.StandsAt}
+use Rattle.ciborium.proofs.{Turns.Heads.{ahead-of, stands-offset}, Turns.Pulled.refused-map, Turns.Turning.EndsHere}
+use Rattle.ciborium.proofs.Turns.Turning.{Lands, LandsIn, landed, kept, disordered, closed-item, refused-turn}
+use Rattle.ciborium_value.specs.Tree as trees
 
 -- a value was placed, and its key judged
 turned : {S W E : Type 0} (spelling : Spelling) (remaining : S → Option (List ℕ)) (e : Decoder S W)
     (os after : List TreeFrame) (l : ℕ) (xs : List ℕ) (p m : ℕ) (ys : List ℕ) (q : ℕ) (v : Tree) (zs : List ℕ)
-    (r end : ℕ) (x : Result (Option Value) (Error E)) →
-    end ≡ r → IsAround spelling l xs p os m ys q → ReadsItem spelling (Some m) ys q v zs r →
-    StandsAt spelling remaining e zs r → IsPlacedInOrder spelling os v end after x →
-    IsTurned spelling remaining e after l xs p x
+    (r end : ℕ) (x : Result (Option Value) (Error E)) → end ≡ r →
+    IsAround spelling l xs p os m ys q → ReadsItem spelling (Some m) ys q v zs r → StandsAt spelling remaining e zs r →
+    IsPlacedInOrder spelling os v end after x → IsTurned spelling remaining e after l xs p x
 turned spelling remaining e os after l xs p m ys q v zs r end (Ok None) same a i stands (is, rises) =
     let k = kept spelling l xs p after zs r (subst (λ (w : Placed). Lands spelling w l xs p zs r) (sym is)
     (landed spelling l xs p os m ys q v zs r a i)) rises in
@@ -90,15 +76,13 @@ module _ {S W E : Type 0} (spelling : Spelling) (remaining : S → Option (List 
     (l : ℕ) (xs : List ℕ) (p : ℕ) (n : ℕ) (depth : n ≡ length os) (x y : Result Part (Error E)) (same : x ≡ y)
     (answers : Answers spelling remaining d e (l - n) x) (s : IsReading spelling remaining d os l xs p) where
   here : IsPartRead spelling remaining e s.0 s.1 s.2 y
-  here =
-      subst (λ z. IsPartRead spelling remaining e s.0 s.1 s.2 z) same
+  here = subst (λ z. IsPartRead spelling remaining e s.0 s.1 s.2 z) same
       (subst (λ m. IsPartRead spelling remaining e m s.1 s.2 x)
       (ap (λ k. l - k) depth ∙ left spelling l xs p os s.0 s.1 s.2 s.3) (answers s.1 s.2 s.4))
 
   pub turn-refused : (f : Error E) → y ≡ Err f → IsRefusedBy (left_of remaining e) f (Refuses spelling xs p (Some l))
-  turn-refused f is =
-      refused-map (left_of remaining e) f (RefusesPart spelling s.1 s.2 s.0) (Refuses spelling xs p (Some l))
-      (λ r h. refused-turn spelling l xs p os s.0 s.1 s.2 r s.3 h.0 (λ _. h.1))
+  turn-refused f is = refused-map (left_of remaining e) f (RefusesPart spelling s.1 s.2 s.0)
+      (Refuses spelling xs p (Some l)) (λ r h. refused-turn spelling l xs p os s.0 s.1 s.2 r s.3 h.0 (λ _. h.1))
       (subst (λ z. IsPartRead spelling remaining e s.0 s.1 s.2 z) is here)
 
   pub turn-whole : (v : Value) (after : List TreeFrame) (end : ℕ) (z : Result (Option Value) (Error E)) →
@@ -185,9 +169,8 @@ depth-closed u us v l e room = absurd cc
 -- ---- the beginning
 
 pub begin : {S W : Type 0} (spelling : Spelling) (remaining : S → Option (List ℕ)) (d : Decoder S W)
-    (os : List TreeFrame)
-    (l : ℕ) (xs : List ℕ) (p : ℕ) → os ≡ [] → StandsAt spelling remaining d xs p →
-    IsReading spelling remaining d os l xs p
+    (os : List TreeFrame) (l : ℕ) (xs : List ℕ) (p : ℕ) →
+    os ≡ [] → StandsAt spelling remaining d xs p → IsReading spelling remaining d os l xs p
 begin spelling remaining d os l xs p none s = (
   l,
   xs,

@@ -1,30 +1,23 @@
 -- What a turn of the loop makes of what is open: a value placed, a container ended, a refusal.
-use Rattle.std.proofs.Common.{◌≡◌, ℕ, zero, suc, ◌+◌, ◌-◌, ◌^◌, ◌<◌, min, List, [], ◌∷◌, ◌++◌, length, Option}
-use Rattle.std.proofs.Common.{Some, None, MatchOption, IsSome, option_map, refl, sym, ap, ◌∙◌, subst, arith}
+use Rattle.std.proofs.Common.{◌≡◌, ℕ, zero, suc, ◌+◌, ◌-◌, ◌^◌, ◌<◌, min, List, [], ◌∷◌, ◌++◌, length, Option, Some}
+use Rattle.std.proofs.Common.{None, MatchOption, IsSome, option_map, refl, sym, ap, ◌∙◌, subst, arith}
 use Rattle.std.specs.declared.cmp.Ordering.TheVariants.{Less}
-use Rattle.ciborium_ll.specs.Bytes.{greatest_offset}
-use Rattle.ciborium_ll.specs.Head.{IsHead, information, argument_bytes, initial_byte, open_byte, break_byte}
-use Rattle.ciborium_ll.specs.Refusal.{Refusal, semantic, IsAtFront}
-use Rattle.ciborium_ll.specs.Refusal as refusal
+use Rattle.ciborium_ll.specs.{Bytes.greatest_offset, Head.{IsHead, information, argument_bytes, initial_byte}}
+use Rattle.ciborium_ll.specs.{Head.{open_byte, break_byte}, Refusal.{Refusal, semantic, IsAtFront}}
 use Rattle.ciborium_ll.proofs.UsableHeads.{information-below}
-use Rattle.ciborium_value.specs.Canonical.{key_order}
-use Rattle.ciborium_value.specs.Deterministic.{AreRising}
-use Rattle.ciborium_value.specs.Encoding.{encoding, encoded_size}
+use Rattle.ciborium_value.specs.{Canonical.key_order, Deterministic.AreRising, Encoding.{encoding, encoded_size}}
 use Rattle.ciborium_value.specs.Refuses.{Due, items, keys, values, next_due, keys_among, keys_in, IsDue}
-use Rattle.ciborium_value.specs.Refuses.{BeginsContainer, IsInside, Refuses}
-use Rattle.ciborium_value.specs.Spelling.{Spelling, any, deterministic, AreInOrder}
-use Rattle.ciborium_value.specs.Tree as trees
-use Rattle.ciborium_value.specs.Tree.{Tree}
-use Rattle.ciborium_value.specs.View.{trees_from, tree_pairs_from}
+use Rattle.ciborium_value.specs.{Refuses.{BeginsContainer, IsInside, Refuses}, Spelling.{Spelling, any, deterministic}}
+use Rattle.ciborium_value.specs.{Spelling.AreInOrder, Tree.Tree, View.{trees_from, tree_pairs_from}}
 use Rattle.ciborium_value.specs.inner.Frames.{TreeFrame, array, map, tag, Placed, done, more, placed, closed, with_last}
-use Rattle.ciborium_value.specs.inner.ReadItems.{ReadsItem}
-use Rattle.ciborium_value.specs.declared.key_order.KeyOrder.{KeyOrder}
+use Rattle.ciborium_value.specs.{inner.ReadItems.ReadsItem, declared.key_order.KeyOrder.KeyOrder}
 use Rattle.ciborium_value.proofs.GoodItems.Introduced.{inside-more, IsNoKey, no-key-order, start-keys, never-open}
 use Rattle.ciborium_value.proofs.GoodItems.Introduced.{reads-container, reads-tag}
-use Rattle.ciborium.specs.inner.Around.{trees_in_turn, map_due, IsAround}
-use Rattle.ciborium.specs.inner.Rules.{HasKeysInOrder, HasKeyOutOfOrder}
-use Rattle.ciborium.specs.inner.ValuesInBytes.{IsBreakAt}
+use Rattle.ciborium.specs.{inner.Around.{trees_in_turn, map_due, IsAround}, inner.Rules.HasKeysInOrder}
+use Rattle.ciborium.specs.{inner.Rules.HasKeyOutOfOrder, inner.ValuesInBytes.IsBreakAt}
 use Rattle.ciborium.proofs.Turns.Paired.{in_turn-key, in_turn-value, turns-paired}
+use Rattle.ciborium_ll.specs.Refusal as refusal
+use Rattle.ciborium_value.specs.Tree as trees
 
 abbrev both : Tree → List TreeFrame → Tree × List TreeFrame
 both v os = (v, os)
@@ -109,9 +102,8 @@ module _ (spelling : Spelling) where
   LandsIn [] l xs p zs r = ⊥
   LandsIn (array vs b ∷ os) l xs p zs r = (m : ℕ) × IsAround spelling l xs p (array vs b ∷ os) m zs r
   LandsIn (map ps b None ∷ os) l xs p zs r = (m : ℕ) × IsAround spelling l xs p (map ps b None ∷ os) m zs r
-  LandsIn (map ps b (Some k) ∷ os) l xs p zs r =
-      (m : ℕ) × (ys : List ℕ) × (q : ℕ) × IsAround spelling l xs p (map ps b None ∷ os) m ys q ×
-      ReadsItem spelling (Some m) ys q k zs r
+  LandsIn (map ps b (Some k) ∷ os) l xs p zs r = (m : ℕ) × (ys : List ℕ) ×
+      (q : ℕ) × IsAround spelling l xs p (map ps b None ∷ os) m ys q × ReadsItem spelling (Some m) ys q k zs r
   LandsIn (tag t ∷ os) l xs p zs r = (m : ℕ) × IsAround spelling l xs p (tag t ∷ os) m zs r
 
   abbrev pub Lands : Placed → ℕ → List ℕ → ℕ → List ℕ → ℕ → Type 0
@@ -216,9 +208,8 @@ module _ (spelling : Spelling) where
           HasKeysInOrder s (map ps behind (Some k) ∷ os) →
           AreInOrder s (keys_among c.start (trees_in_turn ps None ++ k ∷ []))
       in-order any h o = tt
-      in-order (deterministic order) h o =
-          subst (λ w. AreRising order (keys_among w (trees_in_turn ps None ++ k ∷ []))) (sym start-is.1)
-          (subst (λ us. AreRising order (keys_in us)) (sym (in_turn-key ps k))
+      in-order (deterministic order) h o = subst (λ w. AreRising order (keys_among w (trees_in_turn ps None ++ k ∷ [])))
+          (sym start-is.1) (subst (λ us. AreRising order (keys_in us)) (sym (in_turn-key ps k))
           (rises-with order ps k (subst (λ w. AreRising order (keys_among w (trees_in_turn ps None))) start-is.1 h) o))
   kept l xs p (tag t ∷ os) zs r a o = a
 
@@ -307,13 +298,11 @@ disordered (deterministic order) l xs p (map ps behind (Some k) ∷ os) zs r at 
     start-is = start-keys bs c.size (c.good ++ ys) c.start (trees_in_turn ps None) (option_map suc behind) c.begins
         c.due
 
-    due : (behind : Option ℕ) →
-        IsInside (deterministic order) bs b (Some (suc m)) (trees_in_turn ps None) ys q (keys (option_map suc behind))
-        (Some m) → IsDue (keys (option_map suc behind)) ys q
+    due : (behind : Option ℕ) → IsInside (deterministic order) bs b (Some (suc m))
+        (trees_in_turn ps None) ys q (keys (option_map suc behind)) (Some m) → IsDue (keys (option_map suc behind)) ys q
     due None c = absurd (never-open order bs b (Some (suc m)) (trees_in_turn ps None) ys q (Some m) c)
     due (Some n) c = omega arith
 
     wrong : AreInOrder (deterministic order) (keys_among c.start (trees_in_turn ps None ++ k ∷ [])) → ⊥
-    wrong h = never (last-rises order ps k x y
-        (subst (λ us. AreRising order (keys_in us)) (in_turn-key ps k)
+    wrong h = never (last-rises order ps k x y (subst (λ us. AreRising order (keys_in us)) (in_turn-key ps k)
         (subst (λ w. AreRising order (keys_among w (trees_in_turn ps None ++ k ∷ []))) start-is.1 h)) is)

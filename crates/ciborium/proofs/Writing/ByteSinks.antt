@@ -1,31 +1,22 @@
 -- The steps of the sink over a writer, and what it hands back.
 use Rattle.std.proofs.Common.{◌≡◌, ℕ, zero, suc, ◌+◌, ◌<◌, List, [], ◌∷◌, ◌++◌, length, take, Option, Some, None}
 use Rattle.std.proofs.Common.{Result, Ok, Err, OnOk, OnErr, get_or, refl, sym, ◌∙◌, ap, subst, append_assoc, append-nil}
-use Rattle.std.proofs.Common.{arith, lit<, length-append}
-use Rattle.std.proofs.lemmas.Grind.{get_or_default_zero}
-use Rattle.std.specs.Borrow.{GName}
-use Rattle.std.specs.Io.KnownBytes.{Appends}
-use mir.Syntax.{w8}
-use mir.Val.{Fits as IsValid}
-use Rattle.ciborium_ll.specs.Bytes.{AreBytes}
-use Rattle.ciborium_ll.specs.Head.{shortest_head}
-use Rattle.ciborium_ll.specs.Item.{Item}
-use Rattle.ciborium_ll.specs.ProperItems.{IsArgument}
-use Rattle.ciborium_value.specs.Encoding.{written_bytes}
-use Rattle.std.specs.Int.{to_be_bytes, w128}
-use Rattle.ciborium_value.specs.Meaning.{without_zeros}
-use Rattle.ciborium_value.specs.Number.{shortest_bytes}
-use Rattle.ciborium_value.specs.Places.{Shape, container, begin_bytes, end_bytes, is_open, Place, top, within, tagged}
-use Rattle.ciborium_value.specs.Places.{HasRoom, added, ended, IsComplete, IsWrittenPlace, Fits, bytes_at, writer_at}
-use Rattle.ciborium_value.specs.Places.{Out, IsOutOf, IsOutAt, IsOutBetween, IsCutBetween, IsProperBeginning}
-use Rattle.ciborium_value.specs.Sinks.{Named, IsReady, Adds, Begins, Tags, Ends, Breaks, BreaksBegin, BreaksTag}
-use Rattle.ciborium_value.specs.Sinks.{BreaksEnd, AddsNamed, BreaksNamed}
-use Rattle.ciborium_value.specs.WrittenItems.{IsWritten}
+use Rattle.std.proofs.{Common.{arith, lit<, length-append}, lemmas.Grind.get_or_default_zero}
+use Rattle.std.specs.{Borrow.GName, Io.KnownBytes.Appends, Int.{to_be_bytes, w128}}
+use Rattle.ciborium_ll.specs.{Bytes.AreBytes, Head.shortest_head, Item.Item, ProperItems.IsArgument}
+use Rattle.ciborium_value.specs.{Encoding.written_bytes, Meaning.without_zeros, Number.shortest_bytes, Places.Shape}
+use Rattle.ciborium_value.specs.Places.{container, begin_bytes, end_bytes, is_open, Place, top, within, tagged, HasRoom}
+use Rattle.ciborium_value.specs.Places.{added, ended, IsComplete, IsWrittenPlace, Fits, bytes_at, writer_at, Out}
+use Rattle.ciborium_value.specs.{Places.{IsOutOf, IsOutAt, IsOutBetween, IsCutBetween, IsProperBeginning}, Sinks.Named}
+use Rattle.ciborium_value.specs.Sinks.{IsReady, Adds, Begins, Tags, Ends, Breaks, BreaksBegin, BreaksTag, BreaksEnd}
+use Rattle.ciborium_value.specs.{Sinks.{AddsNamed, BreaksNamed}, WrittenItems.IsWritten}
 use Rattle.ciborium_value.proofs.Writing.Standing.{bytes_at-added, bytes_at-within, bytes_at-tagged, bytes_at-ended}
 use Rattle.ciborium_value.proofs.Writing.Standing.{bytes_at-top, writer_at-added, written_some}
 use Rattle.ciborium.specs.Writes.{WritesNamed, IsNamedWritten, named_out, out_of, PutsOut, IsOutFor}
 use Rattle.ciborium.specs.declared.ser.byte_sink.ByteSink.{ByteSink}
 use Rattle.ciborium.proofs.Writing.WrittenPlaces.{written-added, written-container}
+use mir.Syntax.{w8}
+use mir.Val.{Fits as IsValid}
 
 -- ---- what a slice of bytes holds
 
@@ -76,16 +67,14 @@ module _ {W E : Type 0} (contents : W → Option (List ℕ)) (s t : ByteSink W)
       bytes_at q ≡ bytes_at p ++ bs → IsOutAt (out_of contents s) p → PutsOut contents s t r bs →
       OnOk r (IsOutAt (out_of contents t) q)
   goes (Err e) bs p q w b st h = tt
-  goes (Ok u) bs p q w b st h =
-      subst (λ x. IsOutOf x (out_of contents t) (bytes_at q)) (sym w)
+  goes (Ok u) bs p q w b st h = subst (λ x. IsOutOf x (out_of contents t) (bytes_at q)) (sym w)
       (subst (IsOutOf (writer_at p) (out_of contents t)) (sym b)
       (out_grows (writer_at p) _ _ _ _ (bytes_at p) bs same h st))
 
   stops : (r : Result (Unit {0}) E) (bs : List ℕ) (p q : Place) → bytes_at q ≡ bytes_at p ++ bs →
       IsOutAt (out_of contents s) p → PutsOut contents s t r bs → OnErr r (IsCutBetween (out_of contents t) p q)
   stops (Ok u) bs p q b st h = tt
-  stops (Err e) bs p q b st h =
-      subst (IsOutBetween (writer_at p) (out_of contents t) (bytes_at p)) (sym b)
+  stops (Err e) bs p q b st h = subst (IsOutBetween (writer_at p) (out_of contents t) (bytes_at p)) (sym b)
       (out_cut (writer_at p) _ _ _ _ (bytes_at p) bs h.0 h.1 same h.2 st)
 
   pub adds : (r : Result (Unit {0}) E) (i : Item) → PutsOut contents s t r (written_bytes i) → OnOk r (IsWritten i) →
@@ -162,8 +151,7 @@ module _ {W E : Type 0} (contents : W → Option (List ℕ)) (s t : ByteSink W)
       by : (p : Place) → IsOutFor contents s p → IsComplete p n → IsCutBetween (out_of contents t) p (ended p)
       by (top name before is) st full = absurd full
       by (tagged m p) st full = absurd full
-      by (within k m is around) st full =
-          stops (Err e) (end_bytes n) (within k m is around) _
+      by (within k m is around) st full = stops (Err e) (end_bytes n) (within k m is around) _
           (bytes_at-ended k m is around full.1 ∙ ap (λ e. bytes_at (within k m is around) ++ end_bytes e) full.0) st.0 h
 
 Appends-nothing : (a : Option (List ℕ)) → Appends a a []
@@ -173,10 +161,8 @@ Appends-nothing (Some a) = sym (append-nil a)
 -- nothing goes out where the count was announced
 pub ends_silently : {W : Type 0} (contents : W → Option (List ℕ)) (s : ByteSink W) (n : Option ℕ) (m : ℕ) → n ≡ Some m →
     Ends (IsOutFor contents) s s n
-ends_silently contents s n m is =
-    ends {E = Unit {0}} contents s s refl (Ok tt) n (subst
-    (λ k. PutsOut {E = Unit {0}} contents s s (Ok tt) (end_bytes k)) (sym is)
-    (Appends-nothing (contents s.writer.now)))
+ends_silently contents s n m is = ends {E = Unit {0}} contents s s refl (Ok tt) n (subst
+    (λ k. PutsOut {E = Unit {0}} contents s s (Ok tt) (end_bytes k)) (sym is) (Appends-nothing (contents s.writer.now)))
 
 -- ---- the top
 

@@ -1,9 +1,7 @@
 -- What calls put out one after the other, and what one of them put out before it failed.
 use Rattle.std.proofs.Common.{ℕ, ◌+◌, List, ◌++◌, length, Option, Result, Ok, Err, OnOk, sym, subst, arith}
-use Rattle.std.proofs.Common.{length-append}
-use Rattle.std.proofs.Math.Seq.{take-append-add}
+use Rattle.std.proofs.{Common.length-append, Math.Seq.take-append-add, KnownBytes.Appends-trans}
 use Rattle.std.specs.Io.KnownBytes.{Appends}
-use Rattle.std.proofs.KnownBytes.{Appends-trans}
 use Rattle.ciborium_ll.specs.Writing.{Writes}
 
 -- bytes that went out whole, and then what a call put out

@@ -1,12 +1,11 @@
 -- Places whose items can be written.
 use Rattle.std.proofs.Common.{ℕ, ◌≤◌, List, [], ◌∷◌, ◌++◌, Option, Some, None, sym, ◌∙◌, subst}
-use Rattle.ciborium_ll.specs.Bytes.{greatest_offset}
-use Rattle.ciborium_ll.specs.Item as item
-use Rattle.ciborium_ll.specs.Item.{Item, items_count, pairs_count}
+use Rattle.ciborium_ll.specs.{Bytes.greatest_offset, Item.{Item, items_count, pairs_count}}
 use Rattle.ciborium_value.specs.Places.{Shape, sequence, dictionary, items_from, pairs_from, container, is_open, Place}
 use Rattle.ciborium_value.specs.Places.{top, within, tagged, added, IsFull, Fits, IsWrittenPlace}
 use Rattle.ciborium_value.specs.WrittenItems.{IsWritten, AreWritten, PairsAreWritten}
 use Rattle.ciborium_value.proofs.Writing.Standing.{items_count-from, pairs-from}
+use Rattle.ciborium_ll.specs.Item as item
 
 pub AreWritten-more : (is : List Item) (i : Item) → AreWritten (items_from is) → IsWritten i →
     AreWritten (items_from (is ++ i ∷ []))

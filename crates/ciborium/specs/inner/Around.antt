@@ -1,10 +1,8 @@
 -- What is open around the place where reading stands: reading began at offset p with l levels, and
 -- stands at offset r with m left.
 use Rattle.std.specs.Prelude.{◌≡◌, ℕ, suc, List, [], ◌∷◌, Option, Some, None, option_map}
-use Rattle.ciborium_value.specs.inner.Frames.{TreeFrame, array, map, tag}
-use Rattle.ciborium_value.specs.Refuses.{Due, items, keys, values, IsInside, IsTagAt, IsFoldingAt}
-use Rattle.ciborium_value.specs.Spelling.{Spelling}
-use Rattle.ciborium_value.specs.Tree.{Tree}
+use Rattle.ciborium_value.specs.{inner.Frames.{TreeFrame, array, map, tag}, Refuses.{Due, items, keys, values}}
+use Rattle.ciborium_value.specs.{Refuses.{IsInside, IsTagAt, IsFoldingAt}, Spelling.Spelling, Tree.Tree}
 
 -- keys and values in turn, and then the key that waits
 abbrev pub trees_in_turn : List (Tree × Tree) → Option Tree → List Tree

@@ -1,45 +1,24 @@
 -- Where a source over bytes stands.
-use Rattle.std.specs.Prelude.{◌<◌, ◌≡◌, ℕ, ◌+◌, ◌*◌, ◌-◌, ◌≤◌, List, ◌++◌, length, map, Option}
-use Rattle.std.specs.Prelude.{Some, None, Bool, true, false, IfErr, IfOk, MatchResult, OnErr, OnOk}
-use Rattle.std.specs.Prelude.{Result, if◌then◌else◌}
-use Rattle.std.specs.Borrow.{GName}
+use Rattle.std.specs.Prelude.{◌<◌, ◌≡◌, ℕ, ◌+◌, ◌*◌, ◌-◌, ◌≤◌, List, ◌++◌, length, map, Option, Some, None, Bool, true}
+use Rattle.std.specs.{Prelude.{false, IfErr, IfOk, MatchResult, OnErr, OnOk, Result, if◌then◌else◌}, Borrow.GName}
 use Rattle.std.specs.Vec.Iter.{into_iter_items}
-use Rattle.ciborium_ll.specs.declared.header.Header.{Header}
+use Rattle.ciborium_ll.specs.{declared.header.Header.Header, declared.decoder.Decoder.Decoder, Bytes.greatest_offset}
+use Rattle.ciborium_ll.specs.{Accesses.left_at_failure, Decoding.{HasSameReader, IsAheadBy, Takes, TakesBeforeAny}}
+use Rattle.ciborium_ll.specs.{Decoding.{left_of, offset_of}, Header.SpellsHeader, Item.{Item, unsigned}}
+use Rattle.ciborium_ll.specs.{Refusal.IsUsable, Spells.Spells}
+use Rattle.ciborium_value.specs.Ahead.{Ahead, Rest, Span, bottom, parts, pairs, entry, level_due, item, after, of_bytes}
+use Rattle.ciborium_value.specs.{Ahead.{past, inside, end_of}, Meaning.{meaning, is_bignum_tag}, Nesting.Limit}
+use Rattle.ciborium_value.specs.{Nesting.nesting, Places.{Shape, sequence, dictionary}, Sources.{Fault, HasItem}}
+use Rattle.ciborium_value.specs.{Sources.{IsFaultOf, IsGrantedFault, TakesOnly}, Given.{Steps, Given, gives}}
+use Rattle.ciborium_value.specs.{Given.{is_null_simple, outcome}, Tree.Tree, declared.labels.LabelKind.LabelKind}
+use Rattle.ciborium_value.specs.{declared.labels.LabelKind.TheVariants.{Name, Number, Other}, Spelling.any}
+use Rattle.ciborium.specs.{declared.de.error.Error.Error, declared.de.byte_source.ByteSource.ByteSource}
+use Rattle.ciborium.specs.{declared.de.byte_source.ByteLevel.ByteLevel, declared.de.byte_source.ByteSeq.ByteSeq}
+use Rattle.ciborium.specs.{declared.de.byte_source.Left.Left, inner.Turns.IsTreeRead, inner.ValuesInBytes.HasEndedAfter}
+use Rattle.ciborium.specs.{Errors.fault_of, inner.FrontItems.{Denies, Reads}, inner.Skips.{EntersUnread, IsBare}}
+use Rattle.ciborium.specs.inner.Unread.{SpellsPair, AreSpelled, FitsAhead, ending, span_of, HasCount}
 use Rattle.ciborium_ll.specs.declared.header.Header.TheVariants as header
-use Rattle.ciborium_ll.specs.declared.decoder.Decoder.{Decoder}
-use Rattle.ciborium_ll.specs.Bytes.{greatest_offset}
-use Rattle.ciborium_ll.specs.Accesses.{left_at_failure}
-use Rattle.ciborium_ll.specs.Decoding.{HasSameReader, IsAheadBy, Takes, TakesBeforeAny, left_of}
-use Rattle.ciborium_ll.specs.Decoding.{offset_of}
-use Rattle.ciborium_ll.specs.Header.{SpellsHeader}
-use Rattle.ciborium_ll.specs.Item.{Item, unsigned}
-use Rattle.ciborium_ll.specs.Refusal.{IsUsable}
-use Rattle.ciborium_ll.specs.Spells.{Spells}
-use Rattle.ciborium_value.specs.Ahead.{Ahead, Rest, Span, bottom, parts, pairs, entry, level_due}
-use Rattle.ciborium_value.specs.Ahead.{item, after, of_bytes, past, inside, end_of}
-use Rattle.ciborium_value.specs.Meaning.{meaning}
-use Rattle.ciborium_value.specs.Meaning.{is_bignum_tag}
-use Rattle.ciborium_value.specs.Nesting.{Limit, nesting}
-use Rattle.ciborium_value.specs.Places.{Shape, sequence, dictionary}
-use Rattle.ciborium_value.specs.Sources.{Fault, HasItem, IsFaultOf, IsGrantedFault, TakesOnly}
-use Rattle.ciborium_value.specs.Given.{Steps, Given, gives, is_null_simple, outcome}
-use Rattle.ciborium_value.specs.Tree.{Tree}
-use Rattle.ciborium_value.specs.declared.labels.LabelKind.{LabelKind}
-use Rattle.ciborium_value.specs.declared.labels.LabelKind.TheVariants.{Name, Number, Other}
-use Rattle.ciborium.specs.declared.de.error.Error.{Error}
-use Rattle.ciborium.specs.declared.de.byte_source.ByteSource.{ByteSource}
-use Rattle.ciborium.specs.declared.de.byte_source.ByteLevel.{ByteLevel}
-use Rattle.ciborium.specs.declared.de.byte_source.ByteSeq.{ByteSeq}
-use Rattle.ciborium.specs.declared.de.byte_source.Left.{Left}
 use Rattle.ciborium.specs.declared.de.byte_source.Left.TheVariants as left
-use Rattle.ciborium.specs.inner.Turns.{IsTreeRead}
-use Rattle.ciborium.specs.inner.ValuesInBytes.{HasEndedAfter}
-use Rattle.ciborium.specs.Errors.{fault_of}
-use Rattle.ciborium.specs.inner.FrontItems.{Denies, Reads}
-use Rattle.ciborium.specs.inner.Skips.{EntersUnread, IsBare}
-use Rattle.ciborium_value.specs.Spelling.{any}
-use Rattle.ciborium.specs.inner.Unread.{SpellsPair, AreSpelled, FitsAhead, ending, span_of}
-use Rattle.ciborium.specs.inner.Unread.{HasCount}
 
 -- ---- what is unread
 
@@ -66,12 +45,10 @@ head_label_kind _ = Other
 -- the head with this spelling, at the front of b, was pulled: it is usable, and its bytes are
 -- counted
 abbrev pub IsHeadCounted : {S W : Type 0} → Decoder S W → Header × ℕ → List ℕ → List ℕ → Type 0
-IsHeadCounted d h b x = is_portable h.0 ≡ false → IsUsable b h.1 ×
-    (d.counter.count ≡ h.1 + length x)
+IsHeadCounted d h b x = is_portable h.0 ≡ false → IsUsable b h.1 × (d.counter.count ≡ h.1 + length x)
 
 -- b is unread, the spelling of a head that is pending included
-abbrev pub IsUnreadBy : {S W : Type 0} → (S → Option (List ℕ)) → Decoder S W → Option (Header × ℕ) →
-    List ℕ → Type 0
+abbrev pub IsUnreadBy : {S W : Type 0} → (S → Option (List ℕ)) → Decoder S W → Option (Header × ℕ) → List ℕ → Type 0
 IsUnreadBy remaining d None b = left_of remaining d ≡ Some b
 IsUnreadBy remaining d (Some h) b = (x : List ℕ) × (y : List ℕ) × SpellsHeader x h.0 ×
     (b ≡ x ++ y) × (left_of remaining d ≡ Some y) × IsHeadCounted d h b x
@@ -96,14 +73,10 @@ CountsHead IsUnread old new h = (b x y : List ℕ) → IsUnread old b → Spells
 -- ---- what was taken
 
 -- since the first state a beginning of what was unread was taken and counted, and nothing else
-unfoldable pub HasTaken : {S W : Type 0} → (S → Option (List ℕ)) → Decoder S W → Decoder S W →
-    Type 0
-HasTaken remaining first d = (d.reader.ghost_name ≡ first.reader.ghost_name) ×
-    Takes remaining first d (λ _. Unit {0})
+unfoldable pub HasTaken : {S W : Type 0} → (S → Option (List ℕ)) → Decoder S W → Decoder S W → Type 0
+HasTaken remaining first d = (d.reader.ghost_name ≡ first.reader.ghost_name) × Takes remaining first d (λ _. Unit {0})
 
-abbrev pub HasTakenSince : {S W : Type 0} → (S → Option (List ℕ)) → ByteSource S W →
-    ByteSource S W →
-    Type 0
+abbrev pub HasTakenSince : {S W : Type 0} → (S → Option (List ℕ)) → ByteSource S W → ByteSource S W → Type 0
 HasTakenSince remaining first s = HasTaken remaining first.decoder s.decoder
 
 -- ---- where it stands
@@ -121,21 +94,17 @@ abbrev pub end_at : {S W : Type 0} → (S → Option (List ℕ)) → ByteSource 
 end_at remaining s = (reader_of remaining s.decoder).1
 
 -- why a call refused that leaves this source
-abbrev pub fault_at : {S W E : Type 0} → Bool → (S → Option (List ℕ)) → ByteSource S W → Error E →
-    Fault
-fault_at can_fail remaining s e =
-    fault_of (left_at_failure can_fail (remaining s.decoder.reader.now)) e
+abbrev pub fault_at : {S W E : Type 0} → Bool → (S → Option (List ℕ)) → ByteSource S W → Error E → Fault
+fault_at can_fail remaining s e = fault_of (left_at_failure can_fail (remaining s.decoder.reader.now)) e
 
 -- behind an item no head is pending
 abbrev pub HasNoneBehind : Option (Header × ℕ) → Ahead → Type 0
 HasNoneBehind pending (item i f) = Unit {0}
 HasNoneBehind pending (after f) = pending ≡ None
 
-abbrev pub StandsBefore : {S W : Type 0} → (S → Option (List ℕ)) → ByteSource S W → Limit → Ahead →
-    Type 0
+abbrev pub StandsBefore : {S W : Type 0} → (S → Option (List ℕ)) → ByteSource S W → Limit → Ahead → Type 0
 StandsBefore remaining s l a = (b : List ℕ) × IsUnread remaining s b ×
-    FitsAhead (reader_of remaining s.decoder) b a × (l ≡ Some s.levels) ×
-    HasNoneBehind s.pending a
+    FitsAhead (reader_of remaining s.decoder) b a × (l ≡ Some s.levels) × HasNoneBehind s.pending a
 
 -- what is left of a container with this count (None: open)
 abbrev pub parts_left : Option ℕ → Left
@@ -198,15 +167,13 @@ SeqOwes q s b u = LeftOwes q.left s b u
 -- a sequence was entered
 abbrev pub EntersItemsUnread : {S W A : Type 0} → (S → Option (List ℕ)) → ByteSource S W →
     ByteSource S W → Given A → (Span → List Item → Steps A) → ByteSeq → Type 0
-EntersItemsUnread remaining old new taken f q =
-    EntersUnread (IsUnread remaining) (λ p. SeqOwes p sequence) Spells (λ p. HoldsItems p.left) old
-    new (Some old.levels) (Some new.levels) taken f q
+EntersItemsUnread remaining old new taken f q = EntersUnread (IsUnread remaining)
+    (λ p. SeqOwes p sequence) Spells (λ p. HoldsItems p.left) old new (Some old.levels) (Some new.levels) taken f q
 
 -- a map was entered
 abbrev pub EntersPairsUnread : {S W A : Type 0} → (S → Option (List ℕ)) → ByteSource S W →
     ByteSource S W → Given A → (Span → List (Item × Item) → Steps A) → ByteSeq → Type 0
-EntersPairsUnread remaining old new taken f q =
-    EntersUnread (IsUnread remaining) (λ p. SeqOwes p dictionary) SpellsPair
+EntersPairsUnread remaining old new taken f q = EntersUnread (IsUnread remaining) (λ p. SeqOwes p dictionary) SpellsPair
     (λ p. HoldsPairs p.left) old new (Some old.levels) (Some new.levels) taken f q
 
 -- what is left of a sequence was read: f takes this from its items, and the source stands past it
@@ -214,16 +181,14 @@ abbrev pub ReadsRest : {S W A : Type 0} → (S → Option (List ℕ)) → ByteSo
     ByteSeq → (List Item → Steps A) → A → Type 0
 ReadsRest remaining old new q f v = (l : Limit) (span : Span) (is : List Item) (r : Rest) →
     StandsBefore remaining old (inside span l) (after (parts span is r)) →
-    SeqStands q l (parts span is r) →
-    (outcome (inside span l) (f is) ≡ gives v) × StandsBefore remaining new l (past r)
+    SeqStands q l (parts span is r) → (outcome (inside span l) (f is) ≡ gives v) × StandsBefore remaining new l (past r)
 
 -- it is refused only where the items that are left are, and for that
 abbrev pub RefusesRest : {S W A : Type 0} → (S → Option (List ℕ)) → ByteSource S W → ByteSeq →
     (List Item → Steps A) → Fault → Type 0
 RefusesRest remaining old q f fault = (l : Limit) (span : Span) (is : List Item) (r : Rest) →
     StandsBefore remaining old (inside span l) (after (parts span is r)) →
-    SeqStands q l (parts span is r) →
-    IsFaultOf (end_of r) fault (outcome (inside span l) (f is))
+    SeqStands q l (parts span is r) → IsFaultOf (end_of r) fault (outcome (inside span l) (f is))
 
 -- ---- how much can still be read
 
@@ -299,23 +264,18 @@ abbrev pub AnswersItem : {S W A T : Type 0} → Bool → (S → Option (List ℕ
     ByteSource S W → Limit → Given A → (T → A) → Result T (Error (Unit {0})) → Type 0
 AnswersItem can_fail remaining old new l taken content result =
     MatchResult result (λ v. Reads (IsUnread remaining) old new l taken (content v))
-    (λ e. Denies (IsUnread remaining) (end_at remaining) old l taken
-    (fault_at can_fail remaining new e))
+    (λ e. Denies (IsUnread remaining) (end_at remaining) old l taken (fault_at can_fail remaining new e))
 
 -- ---- a value of any shape
 
 -- the head alone spells an item, which means this tree and takes no level
 abbrev pub MeansTree : Header → Tree → Type 0
-MeansTree h v = (s : List ℕ) → SpellsHeader s h → (i : Item) × Spells s i × (meaning i ≡ Some v) ×
-    (nesting i ≡ 0)
+MeansTree h v = (s : List ℕ) → SpellsHeader s h → (i : Item) × Spells s i × (meaning i ≡ Some v) × (nesting i ≡ 0)
 
 -- the value ahead, the bytes of a head that was pending included, was read so, whatever follows the
 -- bytes that were taken
 abbrev pub ReadsValue : {S W E : Type 0} → Bool → (S → Option (List ℕ)) → ByteSource S W →
     ByteSource S W → Result Tree (Error E) → Type 0
-ReadsValue can_fail remaining old new r =
-    HasSameReader old.decoder new.decoder ×
-    IfErr r (λ e. HasEndedAfter can_fail remaining new.decoder e) ×
-    TakesBeforeAny remaining old.decoder new.decoder
-    (λ d e. (xs : List ℕ) (p : ℕ) → IsAheadBy Some d xs p old.pending →
-    IsTreeRead any Some e old.levels xs p r)
+ReadsValue can_fail remaining old new r = HasSameReader old.decoder new.decoder ×
+    IfErr r (λ e. HasEndedAfter can_fail remaining new.decoder e) × TakesBeforeAny remaining old.decoder new.decoder
+    (λ d e. (xs : List ℕ) (p : ℕ) → IsAheadBy Some d xs p old.pending → IsTreeRead any Some e old.levels xs p r)

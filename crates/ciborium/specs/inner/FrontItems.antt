@@ -1,12 +1,9 @@
 -- What a call reads at the front of unread bytes: a head, or an item and what is taken from it.
 use Rattle.std.specs.Prelude.{◌≡◌, ℕ, ◌+◌, ◌≤◌, List, ◌++◌, length}
-use Rattle.ciborium_ll.specs.declared.header.Header.{Header}
-use Rattle.ciborium_ll.specs.Header.{SpellsHeader, announced_length}
-use Rattle.ciborium_ll.specs.Item.{Item}
+use Rattle.ciborium_ll.specs.{declared.header.Header.Header, Header.{SpellsHeader, announced_length}, Item.Item}
 use Rattle.ciborium_ll.specs.Spells.{Spells}
-use Rattle.ciborium_value.specs.Nesting.{Limit}
-use Rattle.ciborium_value.specs.Sources.{Fault, IsFaultOf, IsOutsideFault}
-use Rattle.ciborium_value.specs.Given.{Given, gives, outcome}
+use Rattle.ciborium_value.specs.{Nesting.Limit, Sources.{Fault, IsFaultOf, IsOutsideFault}, Given.{Given, gives}}
+use Rattle.ciborium_value.specs.Given.{outcome}
 
 module _ {S : Type 0} (IsUnread : S → List ℕ → Type 0) where
   -- a head stood there, and was taken
@@ -24,8 +21,7 @@ module _ {S : Type 0} (IsUnread : S → List ℕ → Type 0) (End : S → ℕ) w
   -- where a head stands, with its payload and n bytes more, it is refused for what no head decides
   abbrev pub DeniesHead : S → Fault → Type 0
   DeniesHead old fault = (b x y : List ℕ) (h : Header) (n end : ℕ) → IsUnread old b →
-      SpellsHeader x h → b ≡ x ++ y → announced_length h + n ≤ length y → End old ≤ end + n →
-      IsOutsideFault end fault
+      SpellsHeader x h → b ≡ x ++ y → announced_length h + n ≤ length y → End old ≤ end + n → IsOutsideFault end fault
 
   -- where an item stands it is refused only where the item is, and for that
   abbrev pub Denies : {A : Type 0} → S → Limit → Given A → Fault → Type 0

@@ -1,33 +1,21 @@
 -- What stands at the front of what is ahead, with l levels left.
-use Rattle.std.specs.Prelude.{◌≡◌, ℕ, suc, ◌+◌, ◌<◌, ◌≤◌, ◌⊎◌, List, [], ◌∷◌, ◌++◌, length, Option}
-use Rattle.std.specs.Prelude.{Some, None, Result, Ok, Err, Bool, true, false}
-use Rattle.ciborium_ll.specs.declared.header.Header.{Header}
+use Rattle.std.specs.Prelude.{◌≡◌, ℕ, suc, ◌+◌, ◌<◌, ◌≤◌, ◌⊎◌, List, [], ◌∷◌, ◌++◌, length, Option, Some, None, Result}
+use Rattle.std.specs.Prelude.{Ok, Err, Bool, true, false}
+use Rattle.ciborium_ll.specs.{declared.header.Header.Header, declared.decoder.Decoder.Decoder, Bytes.AreBytes}
+use Rattle.ciborium_ll.specs.{Bytes.greatest_offset, Decoding.left_of, Head.break_byte, Refusal.{Refusal, HeadRefuses}}
+use Rattle.ciborium_ll.specs.Refusal.{io, semantic, NotFolded, TooLarge}
+use Rattle.ciborium_value.specs.{declared.tree.Value.Value, Meaning.{simple_meaning, bignum_meaning, is_bignum_tag}}
+use Rattle.ciborium_value.specs.{inner.Frames.{TreeFrame, array, map}, Refuses.Refuses, inner.Stack.begun_frame}
+use Rattle.ciborium_value.specs.{Tree.Tree, View.tree_of, inner.ReadItems.ReadsItem, Spelling.{Spelling, any}}
+use Rattle.ciborium_value.specs.Spelling.{deterministic, IsUnwanted}
+use Rattle.ciborium.specs.{declared.de.error.Error.Error, declared.de.error.Error.TheVariants.Semantic}
+use Rattle.ciborium.specs.declared.de.error.Error.TheVariants.{RecursionLimitExceeded, Memory}
+use Rattle.ciborium.specs.{declared.de.front.Part.Part, declared.de.front.Part.TheVariants.{Whole, Begun, Ended}}
+use Rattle.ciborium.specs.{inner.Around.IsOpen, ValueAnswers.IsRefusedBy, inner.ValuesInBytes.{IsAt, IsPulled}}
+use Rattle.ciborium.specs.{inner.ValuesInBytes.{IsBreakAt, StandsAt}, inner.Rules.head_fault}
 use Rattle.ciborium_ll.specs.declared.header.Header.TheVariants as header
-use Rattle.ciborium_ll.specs.declared.decoder.Decoder.{Decoder}
-use Rattle.ciborium_ll.specs.Bytes.{AreBytes, greatest_offset}
-use Rattle.ciborium_ll.specs.Decoding.{left_of}
-use Rattle.ciborium_ll.specs.Head.{break_byte}
-use Rattle.ciborium_ll.specs.Refusal.{Refusal, HeadRefuses, io, semantic, NotFolded, TooLarge}
 use Rattle.ciborium_value.specs.declared.kind.Kind.TheVariants as kinds
-use Rattle.ciborium_value.specs.declared.tree.Value.{Value}
-use Rattle.ciborium_value.specs.Meaning.{simple_meaning, bignum_meaning, is_bignum_tag}
-use Rattle.ciborium_value.specs.inner.Frames.{TreeFrame, array, map}
-use Rattle.ciborium_value.specs.Refuses.{Refuses}
-use Rattle.ciborium_value.specs.inner.Stack.{begun_frame}
 use Rattle.ciborium_value.specs.Tree as trees
-use Rattle.ciborium_value.specs.Tree.{Tree}
-use Rattle.ciborium_value.specs.View.{tree_of}
-use Rattle.ciborium.specs.declared.de.error.Error.{Error}
-use Rattle.ciborium.specs.declared.de.error.Error.TheVariants.{Semantic, RecursionLimitExceeded}
-use Rattle.ciborium.specs.declared.de.error.Error.TheVariants.{Memory}
-use Rattle.ciborium.specs.declared.de.front.Part.{Part}
-use Rattle.ciborium.specs.declared.de.front.Part.TheVariants.{Whole, Begun, Ended}
-use Rattle.ciborium.specs.inner.Around.{IsOpen}
-use Rattle.ciborium.specs.ValueAnswers.{IsRefusedBy}
-use Rattle.ciborium_value.specs.inner.ReadItems.{ReadsItem}
-use Rattle.ciborium.specs.inner.ValuesInBytes.{IsAt, IsPulled, IsBreakAt, StandsAt}
-use Rattle.ciborium_value.specs.Spelling.{Spelling, any, deterministic, IsUnwanted}
-use Rattle.ciborium.specs.inner.Rules.{head_fault}
 
 -- how many places follow the first one, of so many in all (None: as many as come before a break)
 abbrev pub IsBehind : Option ℕ → Option ℕ → Type 0
@@ -52,8 +40,7 @@ begun_container true behind = map [] behind None
 
 -- what follows that head
 abbrev pub IsContainerBegun : {E : Type 0} → Bool → Option ℕ → ℕ → Result Part (Error E) → Type 0
-IsContainerBegun is_map count l (Ok (Whole v)) = (count ≡ Some 0) × (0 < l) ×
-    (tree_of v ≡ empty_container is_map)
+IsContainerBegun is_map count l (Ok (Whole v)) = (count ≡ Some 0) × (0 < l) × (tree_of v ≡ empty_container is_map)
 IsContainerBegun is_map count l (Ok (Begun f)) = (0 < l) × (behind : Option ℕ) ×
     (begun_frame f ≡ begun_container is_map behind) × IsBehind count behind
 IsContainerBegun is_map count l (Ok Ended) = ⊥
@@ -91,20 +78,15 @@ IsHeadRead remaining d xs p (Ok h) = IsPulled remaining d h xs p
 IsHeadRead remaining d xs p (Err e) = IsRefusedBy (left_of remaining d) e (HeadRefuses xs p)
 
 -- the answer of a call that reads a part
-abbrev pub IsPartRead : {S W E : Type 0} → Spelling → (S → Option (List ℕ)) → Decoder S W → ℕ →
-    List ℕ →
-    ℕ → Result Part (Error E) → Type 0
+abbrev pub IsPartRead : {S W E : Type 0} →
+    Spelling → (S → Option (List ℕ)) → Decoder S W → ℕ → List ℕ → ℕ → Result Part (Error E) → Type 0
 IsPartRead spelling remaining d l xs p (Ok (Whole v)) =
-    (zs : List ℕ) × (r : ℕ) × ReadsItem spelling (Some l) xs p (tree_of v) zs r ×
-    StandsAt spelling remaining d zs r
+    (zs : List ℕ) × (r : ℕ) × ReadsItem spelling (Some l) xs p (tree_of v) zs r × StandsAt spelling remaining d zs r
 IsPartRead spelling remaining d l xs p (Ok (Begun f)) =
-    (zs : List ℕ) × (r : ℕ) × IsFrameBegun spelling l xs p (begun_frame f) zs r ×
-    StandsAt spelling remaining d zs r
+    (zs : List ℕ) × (r : ℕ) × IsFrameBegun spelling l xs p (begun_frame f) zs r × StandsAt spelling remaining d zs r
 IsPartRead spelling remaining d l xs p (Ok Ended) =
-    (zs : List ℕ) × (xs ≡ break_byte ∷ zs) × (p < greatest_offset) ×
-    StandsAt spelling remaining d zs (p + 1)
-IsPartRead spelling remaining d l xs p (Err e) =
-    IsRefusedBy (left_of remaining d) e (RefusesPart spelling xs p l)
+    (zs : List ℕ) × (xs ≡ break_byte ∷ zs) × (p < greatest_offset) × StandsAt spelling remaining d zs (p + 1)
+IsPartRead spelling remaining d l xs p (Err e) = IsRefusedBy (left_of remaining d) e (RefusesPart spelling xs p l)
 
 -- a level is left for what was opened
 abbrev pub HasLevel : Part → ℕ → Type 0
@@ -121,27 +103,21 @@ IsAtRest Ended pushed = pushed ≡ None
 -- what the bytes over which a tag at offset p folds are read as
 abbrev pub IsFolded : {E : Type 0} → ℕ → List ℕ → ℕ → Result Value (Error E) → Type 0
 IsFolded t b p (Ok v) = bignum_meaning t b ≡ Some (tree_of v)
-IsFolded t b p (Err e) = (e ≡ Memory) ⊎ ((bignum_meaning t b ≡ None) ×
-    (e ≡ Semantic (Some p) kinds.TooLarge))
+IsFolded t b p (Err e) = (e ≡ Memory) ⊎ ((bignum_meaning t b ≡ None) × (e ≡ Semantic (Some p) kinds.TooLarge))
 
 -- the n bytes at the front of xs, over which a tag at offset p folds, are refused: they end early,
 -- have another spelling, or their
 -- number is too large
 abbrev pub BignumRefuses : Spelling → ℕ → ℕ → ℕ → List ℕ → Refusal → Type 0
 BignumRefuses spelling t n p xs e =
-    ((length xs < n) × (e ≡ io))
-    ⊎ ((b : List ℕ) × (r : List ℕ) × (length b ≡ n) × AreBytes b × (xs ≡ b ++ r) ×
-    ((IsUnwanted spelling b × (e ≡ semantic p NotFolded)) ⊎
-    ((bignum_meaning t b ≡ None) × (e ≡ semantic p TooLarge))))
+    ((length xs < n) × (e ≡ io)) ⊎ ((b : List ℕ) × (r : List ℕ) × (length b ≡ n) × AreBytes b × (xs ≡ b ++ r) ×
+    ((IsUnwanted spelling b × (e ≡ semantic p NotFolded)) ⊎ ((bignum_meaning t b ≡ None) × (e ≡ semantic p TooLarge))))
 
 -- the answer of a call that reads the n bytes over which a tag at offset at folds
-abbrev pub IsBignumRead : {S W E : Type 0} → Spelling → (S → Option (List ℕ)) → Decoder S W → ℕ →
-    ℕ →
-    ℕ → List ℕ → ℕ → Result Value (Error E) → Type 0
-IsBignumRead spelling remaining d t n at xs p (Ok v) =
-    (b : List ℕ) × (r : List ℕ) × (length b ≡ n) × AreBytes b × ¬ IsUnwanted spelling b ×
-    (bignum_meaning t b ≡ Some (tree_of v)) × (xs ≡ b ++ r) ×
-    IsAt remaining d r (p + n)
+abbrev pub IsBignumRead : {S W E : Type 0} →
+    Spelling → (S → Option (List ℕ)) → Decoder S W → ℕ → ℕ → ℕ → List ℕ → ℕ → Result Value (Error E) → Type 0
+IsBignumRead spelling remaining d t n at xs p (Ok v) = (b : List ℕ) × (r : List ℕ) × (length b ≡ n) × AreBytes b ×
+    ¬ IsUnwanted spelling b × (bignum_meaning t b ≡ Some (tree_of v)) × (xs ≡ b ++ r) × IsAt remaining d r (p + n)
 IsBignumRead spelling remaining d t n at xs p (Err e) = p + n ≤ greatest_offset →
     IsRefusedBy (left_of remaining d) e (BignumRefuses spelling t n at xs)
 

@@ -1,21 +1,15 @@
 -- An item that is passed over head by head, within a limit of levels: what is still to come of it.
-use Rattle.std.specs.Prelude.{◌≡◌, ℕ, zero, suc, ◌+◌, ◌-◌, ◌≤◌, Bool, true, false, List, []}
-use Rattle.std.specs.Prelude.{◌∷◌, ◌++◌, length, reverse, Option, Some, None, ◌↔◌}
-use Rattle.ciborium_ll.specs.declared.header.Header.{Header}
-use Rattle.ciborium_ll.specs.declared.header.Header.TheVariants as header
-use Rattle.ciborium_ll.specs.declared.levels.Level.{Level}
-use Rattle.ciborium_ll.specs.declared.levels.Level.TheVariants.{Items, OpenItems, OpenKeys}
-use Rattle.ciborium_ll.specs.declared.levels.Level.TheVariants.{OpenValues, ByteChunks, TextChunks}
-use Rattle.ciborium_ll.specs.Head.{break_byte}
-use Rattle.ciborium_ll.specs.Item.{Item}
-use Rattle.ciborium_ll.specs.Header.{SpellsHeader}
-use Rattle.ciborium_ll.specs.Levels.{IsPayloadOf}
-use Rattle.ciborium_ll.specs.Spells.{AreChunks, Spells}
+use Rattle.std.specs.Prelude.{◌≡◌, ℕ, zero, suc, ◌+◌, ◌-◌, ◌≤◌, Bool, true, false, List, [], ◌∷◌, ◌++◌, length, reverse}
+use Rattle.std.specs.Prelude.{Option, Some, None, ◌↔◌}
+use Rattle.ciborium_ll.specs.{declared.header.Header.Header, declared.levels.Level.Level}
+use Rattle.ciborium_ll.specs.declared.levels.Level.TheVariants.{Items, OpenItems, OpenKeys, OpenValues, ByteChunks}
+use Rattle.ciborium_ll.specs.{declared.levels.Level.TheVariants.TextChunks, Head.break_byte, Item.Item}
+use Rattle.ciborium_ll.specs.{Header.SpellsHeader, Levels.IsPayloadOf, Spells.{AreChunks, Spells}}
 use Rattle.ciborium_ll.specs.StringRefusal.{IsAllowed, StringKind, of_bytes, of_text, string_major}
-use Rattle.ciborium_value.specs.Meaning.{is_bignum_tag}
-use Rattle.ciborium_value.specs.Nesting.{Limit, IsWithin, nesting}
-use Rattle.ciborium_value.specs.Sources.{Fault, IsOutsideFault, of_nesting}
+use Rattle.ciborium_value.specs.{Meaning.is_bignum_tag, Nesting.{Limit, IsWithin, nesting}, Sources.Fault}
+use Rattle.ciborium_value.specs.Sources.{IsOutsideFault, of_nesting}
 use Rattle.ciborium.specs.declared.de.byte_source.skipping.Unfinished.{Unfinished}
+use Rattle.ciborium_ll.specs.declared.header.Header.TheVariants as header
 
 -- the levels that are left where so many are open
 abbrev pub left_inside : Limit → ℕ → Limit
@@ -37,8 +31,7 @@ ChunksTo kind b z = (payloads : List (List ℕ)) × (r : List ℕ) ×
 module _ (l : Limit) where
   -- where n levels are open, an item that nests within those that are left begins b, and z follows
   abbrev pub ItemTo : ℕ → List ℕ → List ℕ → Type 0
-  ItemTo n b z = (i : Item) × (s : List ℕ) × Spells s i × (b ≡ s ++ z) ×
-      IsWithin (left_inside l n) (nesting i)
+  ItemTo n b z = (i : Item) × (s : List ℕ) × Spells s i × (b ≡ s ++ z) × IsWithin (left_inside l n) (nesting i)
 
   -- so many items
   abbrev pub ItemsTo : ℕ → ℕ → List ℕ → List ℕ → Type 0
@@ -57,8 +50,7 @@ module _ (l : Limit) where
   -- what ends these levels, the innermost first
   abbrev pub LevelsTo : List Level → List ℕ → List ℕ → Type 0
   LevelsTo [] b z = b ≡ z
-  LevelsTo (level ∷ levels) b z = (c : List ℕ) × LevelTo (length levels) level b c ×
-      LevelsTo levels c z
+  LevelsTo (level ∷ levels) b z = (c : List ℕ) × LevelTo (length levels) level b c × LevelsTo levels c z
 
   -- there is a level left for what this head opens, where one is taken for it
   abbrev pub HasRoom : Header → List Level → Type 0
@@ -66,8 +58,7 @@ module _ (l : Limit) where
 
 -- P holds of what was unread, and Q of what is: the payload of this head was taken
 abbrev pub TakesPayload : (List ℕ → Type 0) → (List ℕ → Type 0) → Header → Type 0
-TakesPayload P Q h = (y : List ℕ) → P y → (p : List ℕ) × (z : List ℕ) × IsPayloadOf h p ×
-    (y ≡ p ++ z) × Q z
+TakesPayload P Q h = (y : List ℕ) → P y → (p : List ℕ) × (z : List ℕ) × IsPayloadOf h p × (y ≡ p ++ z) × Q z
 
 -- where its payload is there, and m bytes more, and what is there ends at this offset, it is
 -- refused for what the payload does not decide
@@ -96,11 +87,9 @@ limit_if true m = Some m
 
 -- heads were taken: what ends the levels before them ends those behind them, within m levels and
 -- without a limit, and the same bytes follow
-abbrev pub PassesHeads : (List ℕ → Type 0) → (List ℕ → Type 0) → ℕ → List Level → List Level →
-    Type 0
+abbrev pub PassesHeads : (List ℕ → Type 0) → (List ℕ → Type 0) → ℕ → List Level → List Level → Type 0
 PassesHeads P Q m old new = (y : List ℕ) → P y → (u : List ℕ) × Q u ×
-    ((limited : Bool) (z : List ℕ) →
-    LevelsTo (limit_if limited m) old y z ↔ LevelsTo (limit_if limited m) new u z)
+    ((limited : Bool) (z : List ℕ) → LevelsTo (limit_if limited m) old y z ↔ LevelsTo (limit_if limited m) new u z)
 
 -- refused for nesting, where it does not stand within the levels, or for what nothing decides
 abbrev pub IsLevelFault : ℕ → Fault → Type 0 → Type 0
@@ -123,9 +112,8 @@ IsBignumBehind h y = (t : ℕ) × (k : ℕ) × (x : List ℕ) × (r : List ℕ) 
 -- such a string was taken
 abbrev pub TakesBignum : (List ℕ → Type 0) → (List ℕ → Type 0) → Header → Type 0
 TakesBignum P Q h = (y : List ℕ) → P y → (t : ℕ) × (k : ℕ) × (x : List ℕ) × (p : List ℕ) ×
-    (u : List ℕ) × (h ≡ header.Tag t) × (is_bignum_tag t ≡ true) ×
-    SpellsHeader x (header.Bytes (Some k)) × (k ≤ 16) × IsPayloadOf (header.Bytes (Some k)) p ×
-    (y ≡ x ++ (p ++ u)) × Q u
+    (u : List ℕ) × (h ≡ header.Tag t) × (is_bignum_tag t ≡ true) × SpellsHeader x (header.Bytes (Some k)) ×
+    (k ≤ 16) × IsPayloadOf (header.Bytes (Some k)) p × (y ≡ x ++ (p ++ u)) × Q u
 
 -- where an item stands behind this head, if it is that of a tag, it is refused for nesting only
 -- where no bignum stands there

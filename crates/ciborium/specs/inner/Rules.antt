@@ -1,25 +1,18 @@
 -- What a reader in a spelling asks of a head that was pulled, and of a key that waits.
-use Rattle.std.specs.Prelude.{◌≡◌, ℕ, ◌-◌, length, if◌then◌else◌, ◌==◌, Option, Some, None}
-use Rattle.std.specs.Prelude.{List, MatchOption}
+use Rattle.std.specs.Prelude.{◌≡◌, ℕ, ◌-◌, length, if◌then◌else◌, ◌==◌, Option, Some, None, List, MatchOption}
 use Rattle.std.specs.declared.cmp.Ordering.TheVariants.{Less}
-use Rattle.ciborium_ll.specs.declared.header.Header.{Header}
-use Rattle.ciborium_ll.specs.declared.header.Header.TheVariants as header
-use Rattle.ciborium_ll.specs.Head.{shortest_head}
-use Rattle.ciborium_value.specs.declared.key_order.KeyOrder.{KeyOrder}
-use Rattle.ciborium_value.specs.declared.kind.Kind.{Kind}
-use Rattle.ciborium_value.specs.declared.kind.Kind.TheVariants as kinds
-use Rattle.ciborium_value.specs.Canonical.{key_order}
-use Rattle.ciborium_value.specs.Encoding.{encoded_size}
-use Rattle.ciborium_value.specs.Spelling.{Spelling, any, deterministic}
-use Rattle.ciborium_value.specs.Tree.{Tree}
+use Rattle.ciborium_ll.specs.{declared.header.Header.Header, Head.shortest_head}
+use Rattle.ciborium_value.specs.{declared.key_order.KeyOrder.KeyOrder, declared.kind.Kind.Kind, Canonical.key_order}
+use Rattle.ciborium_value.specs.{Encoding.encoded_size, Spelling.{Spelling, any, deterministic}, Tree.Tree}
 use Rattle.ciborium_value.specs.inner.Frames.{TreeFrame, waiting_keys}
+use Rattle.ciborium_ll.specs.declared.header.Header.TheVariants as header
+use Rattle.ciborium_value.specs.declared.kind.Kind.TheVariants as kinds
 
 -- ---- heads
 
 -- why a head of so many bytes is no head of a deterministic encoding
 abbrev pub long_fault : ℕ → ℕ → ℕ → Option Kind
-long_fault major n size = if size == length (shortest_head major n) then None else Some
-    kinds.NotShortest
+long_fault major n size = if size == length (shortest_head major n) then None else Some kinds.NotShortest
 
 abbrev pub counted_fault : ℕ → Option ℕ → ℕ → Option Kind
 counted_fault major (Some n) size = long_fault major n size
@@ -46,14 +39,12 @@ head_fault (deterministic order) h size = deterministic_fault h size
 
 -- the key that waits for its value, if one does, is behind the key before it, if there is one
 abbrev pub IsKeyInOrder : KeyOrder → List TreeFrame → Type 0
-IsKeyInOrder order os = MatchOption (waiting_keys os) (Unit {0})
-    (λ keys. key_order order keys.0 keys.1 ≡ Less)
+IsKeyInOrder order os = MatchOption (waiting_keys os) (Unit {0}) (λ keys. key_order order keys.0 keys.1 ≡ Less)
 
 -- it is not, and its first byte is at this offset, where its last byte stands before offset r
 abbrev pub IsKeyOutOfOrder : KeyOrder → List TreeFrame → ℕ → ℕ → Type 0
-IsKeyOutOfOrder order os r at =
-    (before : Tree) × (key : Tree) × (waiting_keys os ≡ Some (before, key)) ×
-    ¬ (key_order order before key ≡ Less) × (at ≡ r - encoded_size key)
+IsKeyOutOfOrder order os r at = (before : Tree) × (key : Tree) ×
+    (waiting_keys os ≡ Some (before, key)) × ¬ (key_order order before key ≡ Less) × (at ≡ r - encoded_size key)
 
 abbrev pub HasKeysInOrder : Spelling → List TreeFrame → Type 0
 HasKeysInOrder any os = Unit {0}

@@ -1,16 +1,11 @@
 -- Tags that are skipped before an item (RFC 8949, section 3.4), and containers that are entered
 -- behind them.
 use Rattle.std.specs.Prelude.{◌≡◌, ℕ, Bool, true, List, [], ◌∷◌, ◌++◌, MatchBool, false}
-use Rattle.ciborium_ll.specs.declared.header.Header.{Header}
-use Rattle.ciborium_ll.specs.declared.header.Header.TheVariants as header
-use Rattle.ciborium_ll.specs.Header.{SpellsHeader}
-use Rattle.ciborium_ll.specs.Item.{Item, tag}
-use Rattle.ciborium_ll.specs.Spells.{Spells}
-use Rattle.ciborium_value.specs.Ahead.{Span, inside}
-use Rattle.ciborium_value.specs.Meaning.{is_bignum_tag}
-use Rattle.ciborium_value.specs.Nesting.{Limit}
-use Rattle.ciborium_value.specs.Given.{Steps, Given, gives, outcome}
+use Rattle.ciborium_ll.specs.{declared.header.Header.Header, Header.SpellsHeader, Item.{Item, tag}, Spells.Spells}
+use Rattle.ciborium_value.specs.{Ahead.{Span, inside}, Meaning.is_bignum_tag, Nesting.Limit, Given.{Steps, Given}}
+use Rattle.ciborium_value.specs.Given.{gives, outcome}
 use Rattle.ciborium.specs.inner.Unread.{AreLeft, ending}
+use Rattle.ciborium_ll.specs.declared.header.Header.TheVariants as header
 
 -- an item under tags, the innermost first
 abbrev pub under : List ℕ → Item → Item
@@ -27,8 +22,7 @@ AreSkipped numbers (t ∷ ts) = IsSkipped numbers t × AreSkipped numbers ts
 
 -- the answer whether a tag is one at which skipping ends
 abbrev pub IsEndTag : Bool → ℕ → Bool → Type 0
-IsEndTag numbers t answer = MatchBool answer ((numbers ≡ true) × (is_bignum_tag t ≡ true))
-    (IsSkipped numbers t)
+IsEndTag numbers t answer = MatchBool answer ((numbers ≡ true) × (is_bignum_tag t ≡ true)) (IsSkipped numbers t)
 
 -- a head that is not skipped and begins an item
 abbrev pub IsBare : Bool → Header → Type 0
@@ -62,21 +56,16 @@ module _ {S : Type 0} (IsUnread : S → List ℕ → Type 0) where
 
   -- tags were skipped, and the head behind them was taken
   abbrev pub TakesBare : S → S → Bool → Header → Type 0
-  TakesBare old new numbers h =
-      (b : List ℕ) → IsUnread old b → (ts : List ℕ) × (u : List ℕ) × (x : List ℕ) × (y : List ℕ) ×
-      IsTagged ts b u × AreSkipped numbers ts × SpellsHeader x h × (u ≡ x ++ y) × IsUnread new y
+  TakesBare old new numbers h = (b : List ℕ) → IsUnread old b → (ts : List ℕ) × (u : List ℕ) × (x : List ℕ) ×
+      (y : List ℕ) × IsTagged ts b u × AreSkipped numbers ts × SpellsHeader x h × (u ≡ x ++ y) × IsUnread new y
 
   -- a container was entered: what is owed is known, and which parts it has, of which f is taken
-  abbrev pub EntersUnread : {Q X A : Type 0} → (Q → List ℕ → List ℕ → Type 0) →
-      (List ℕ → X → Type 0) → (Q → Span → List X → Type 0) → S → S → Limit → Limit → Given A →
-      (Span → List X → Steps A) → Q → Type 0
-  EntersUnread {X = X} Owes SpellsPart Holds old new l below taken f q =
-      (b : List ℕ) → IsUnread old b → (u : List ℕ) × IsUnread new u × Owes q b u ×
-      ((j : Item) (t z : List ℕ) → Spells t j → b ≡ t ++ z →
-      (span : Span) × (xs : List X) × (c : List ℕ) ×
-      (outcome l (taken j) ≡ outcome (inside span l) (f span xs)) ×
-      (inside span l ≡ below) × AreLeft SpellsPart span c xs × (u ≡ c ++ (ending span ++ z)) ×
-      Holds q span xs)
+  abbrev pub EntersUnread : {Q X A : Type 0} → (Q → List ℕ → List ℕ → Type 0) → (List ℕ → X → Type 0) →
+      (Q → Span → List X → Type 0) → S → S → Limit → Limit → Given A → (Span → List X → Steps A) → Q → Type 0
+  EntersUnread {X = X} Owes SpellsPart Holds old new l below taken f q = (b : List ℕ) → IsUnread old b →
+      (u : List ℕ) × IsUnread new u × Owes q b u × ((j : Item) (t z : List ℕ) → Spells t j → b ≡ t ++ z →
+      (span : Span) × (xs : List X) × (c : List ℕ) × (outcome l (taken j) ≡ outcome (inside span l) (f span xs)) ×
+      (inside span l ≡ below) × AreLeft SpellsPart span c xs × (u ≡ c ++ (ending span ++ z)) × Holds q span xs)
 
   -- a tag or a variant was entered, and its content is ahead
   abbrev pub EntersLevelUnread : {A : Type 0} → S → S → Limit → Given (A × Item) → A → Type 0

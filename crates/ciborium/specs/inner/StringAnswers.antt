@@ -1,19 +1,12 @@
 -- What reading the payload of a string answers.
-use Rattle.std.specs.Prelude.{◌≡◌, ℕ, ◌+◌, ◌≤◌, List, ◌++◌, length, Option, Result, Ok, Err, Bool}
-use Rattle.std.specs.Prelude.{true, false, None, Some}
-use Rattle.ciborium_ll.specs.declared.decoder.Decoder.{Decoder}
-use Rattle.ciborium_ll.specs.Bytes.{greatest_offset}
-use Rattle.ciborium_ll.specs.Decoding.{left_of}
-use Rattle.ciborium_ll.specs.StringRefusal.{StringKind, of_bytes, of_text, ContentRefuses}
-use Rattle.ciborium_ll.specs.StringRefusal.{IsAllowed}
+use Rattle.std.specs.Prelude.{◌≡◌, ℕ, ◌+◌, ◌≤◌, List, ◌++◌, length, Option, Result, Ok, Err, Bool, true, false, None}
+use Rattle.std.specs.Prelude.{Some}
+use Rattle.ciborium_ll.specs.{declared.decoder.Decoder.Decoder, Bytes.greatest_offset, Decoding.left_of}
+use Rattle.ciborium_ll.specs.StringRefusal.{StringKind, of_bytes, of_text, ContentRefuses, IsAllowed}
 use Rattle.ciborium_ll.specs.Strings.{IsStringTaken}
-use Rattle.ciborium_value.specs.declared.tree.Value.{Value}
-use Rattle.ciborium_value.specs.View.{tree_of}
-use Rattle.ciborium_value.specs.inner.ReadItems.{string_tree}
-use Rattle.ciborium.specs.declared.de.error.Error.{Error}
-use Rattle.ciborium.specs.declared.de.held.Copied.{Copied}
-use Rattle.ciborium.specs.declared.de.held.Copied.TheVariants.{Whole, NoText, NoMemory}
-use Rattle.ciborium.specs.ValueAnswers.{IsRefusedBy}
+use Rattle.ciborium_value.specs.{declared.tree.Value.Value, View.tree_of, inner.ReadItems.string_tree}
+use Rattle.ciborium.specs.{declared.de.error.Error.Error, declared.de.held.Copied.Copied}
+use Rattle.ciborium.specs.{declared.de.held.Copied.TheVariants.{Whole, NoText, NoMemory}, ValueAnswers.IsRefusedBy}
 use Rattle.ciborium.specs.inner.ValuesInBytes.{IsAt}
 
 abbrev pub string_kind : Bool → StringKind
@@ -23,9 +16,8 @@ string_kind false = of_bytes
 -- the payload of a string of this length, whose head is at offset at, stands at xs, offset p
 abbrev pub IsStringRead : {S W E : Type 0} → StringKind → (S → Option (List ℕ)) → Decoder S W →
     Option ℕ → ℕ → List ℕ → ℕ → Result Value (Error E) → Type 0
-IsStringRead {S} {E} kind remaining d len at xs p (Ok v) =
-    (b : List ℕ) × (added : List ℕ) × (r : List ℕ) ×
-    IsStringTaken {E = E} kind len at b p (Ok tt) added × (tree_of v ≡ string_tree kind added) ×
+IsStringRead {S} {E} kind remaining d len at xs p (Ok v) = (b : List ℕ) × (added : List ℕ) ×
+    (r : List ℕ) × IsStringTaken {E = E} kind len at b p (Ok tt) added × (tree_of v ≡ string_tree kind added) ×
     (xs ≡ b ++ r) × IsAt remaining d r (p + length b) × (p + length b ≤ greatest_offset)
 IsStringRead kind remaining d len at xs p (Err e) =
     IsRefusedBy (left_of remaining d) e (ContentRefuses kind len at xs p)
@@ -40,7 +32,5 @@ IsCopied kind b NoMemory = Unit {0}
 abbrev pub IsHeldRead : {S W E : Type 0} → StringKind → (S → Option (List ℕ)) → Decoder S W →
     ℕ → ℕ → List ℕ → ℕ → Result (Option Value) (Error E) → Type 0
 IsHeldRead kind remaining d n at xs p (Ok None) = IsAt remaining d xs p
-IsHeldRead {E} kind remaining d n at xs p (Ok (Some v)) =
-    IsStringRead {E = E} kind remaining d (Some n) at xs p (Ok v)
-IsHeldRead kind remaining d n at xs p (Err e) =
-    IsStringRead kind remaining d (Some n) at xs p (Err e)
+IsHeldRead {E} kind remaining d n at xs p (Ok (Some v)) = IsStringRead {E = E} kind remaining d (Some n) at xs p (Ok v)
+IsHeldRead kind remaining d n at xs p (Err e) = IsStringRead kind remaining d (Some n) at xs p (Err e)

@@ -1,15 +1,11 @@
 -- What is read behind the head of a string: its payload, or the number that its bytes make.
-use Rattle.std.specs.Prelude.{◌≡◌, ℕ, ◌+◌, ◌≤◌, ◌*◌, ◌^◌, List, [], ◌∷◌, ◌++◌, length, Option, Some}
-use Rattle.std.specs.Prelude.{None, if◌then◌else◌, nat_lt}
-use Rattle.ciborium_ll.specs.declared.header.Header.{Header}
+use Rattle.std.specs.Prelude.{◌≡◌, ℕ, ◌+◌, ◌≤◌, ◌*◌, ◌^◌, List, [], ◌∷◌, ◌++◌, length, Option, Some, None}
+use Rattle.std.specs.Prelude.{if◌then◌else◌, nat_lt}
+use Rattle.ciborium_ll.specs.{declared.header.Header.Header, Bytes.AreBytes, Header.SpellsHeader, Item.{Item, bytes}}
+use Rattle.ciborium_ll.specs.{Item.text, Spells.{Spells, AreChunks, joined}, StringRefusal.{StringKind, of_bytes}}
+use Rattle.ciborium_ll.specs.StringRefusal.{of_text}
+use Rattle.ciborium_value.specs.{Sources.{Fault, IsOutsideFault}, Places.is_open}
 use Rattle.ciborium_ll.specs.declared.header.Header.TheVariants as header
-use Rattle.ciborium_ll.specs.Bytes.{AreBytes}
-use Rattle.ciborium_ll.specs.Header.{SpellsHeader}
-use Rattle.ciborium_ll.specs.Item.{Item, bytes, text}
-use Rattle.ciborium_ll.specs.Spells.{Spells, AreChunks, joined}
-use Rattle.ciborium_ll.specs.StringRefusal.{StringKind, of_bytes, of_text}
-use Rattle.ciborium_value.specs.Sources.{Fault, IsOutsideFault}
-use Rattle.ciborium_value.specs.Places.{is_open}
 
 -- the head of a string of this length (None: open)
 abbrev pub head_of : StringKind → Option ℕ → Header
@@ -48,8 +44,7 @@ module _ (P Q : List ℕ → Type 0) where
 
   -- the payload was taken, and its place is this
   abbrev pub TakesPlace : {X : Type 0} → StringKind → Option ℕ → (List ℕ → X) → X → Type 0
-  TakesPlace kind len place x = (payload : List ℕ) × TakesContent kind len payload ×
-      (x ≡ place payload)
+  TakesPlace kind len place x = (payload : List ℕ) × TakesContent kind len payload × (x ≡ place payload)
 
   -- n bytes were taken, which make the number start this one
   abbrev pub TakesDigits : ℕ → Option ℕ → Option ℕ → Type 0
@@ -58,27 +53,20 @@ module _ (P Q : List ℕ → Type 0) where
 
   -- the payload of a byte string was taken, which makes this number
   abbrev pub TakesNumber : Option ℕ → Option ℕ → Type 0
-  TakesNumber len v =
-      (y : List ℕ) → P y → (payload : List ℕ) × (c : List ℕ) × (z : List ℕ) ×
-      IsContent of_bytes len c payload × (v ≡ digits_of (Some 0) payload) × AreBytes payload ×
-      (y ≡ c ++ z) × Q z
+  TakesNumber len v = (y : List ℕ) → P y → (payload : List ℕ) × (c : List ℕ) × (z : List ℕ) ×
+      IsContent of_bytes len c payload × (v ≡ digits_of (Some 0) payload) × AreBytes payload × (y ≡ c ++ z) × Q z
 
   -- of an open byte string some parts were taken, which make this number
   abbrev pub TakesParts : Option ℕ → Type 0
-  TakesParts v =
-      (y : List ℕ) → P y → (ps : List (List ℕ)) × (c : List ℕ) × (z : List ℕ) ×
-      AreChunks 2 AreBytes c ps × (v ≡ digits_of (Some 0) (joined ps)) × AreBytes (joined ps) ×
-      (y ≡ c ++ z) × Q z
+  TakesParts v = (y : List ℕ) → P y → (ps : List (List ℕ)) × (c : List ℕ) × (z : List ℕ) ×
+      AreChunks 2 AreBytes c ps × (v ≡ digits_of (Some 0) (joined ps)) × AreBytes (joined ps) × (y ≡ c ++ z) × Q z
 
 -- where a string with this head is spelled, and what is there ends at this offset, it is refused
 -- for what the string does not decide: as too long only where the string ends too far
 abbrev pub DeniesContent : (List ℕ → Type 0) → ℕ → StringKind → Option ℕ → Fault → Type 0
-DeniesContent P all kind len fault =
-    (y x s z payload : List ℕ) (end : ℕ) → P y → SpellsHeader x (head_of kind len) →
-    Spells s (string_item kind len payload) → x ++ y ≡ s ++ z → all ≤ end + length z →
-    IsOutsideFault end fault
+DeniesContent P all kind len fault = (y x s z payload : List ℕ) (end : ℕ) → P y → SpellsHeader x (head_of kind len) →
+    Spells s (string_item kind len payload) → x ++ y ≡ s ++ z → all ≤ end + length z → IsOutsideFault end fault
 
 -- where n bytes are there, and m more
 abbrev pub DeniesJust : (List ℕ → Type 0) → ℕ → ℕ → Fault → Type 0
-DeniesJust P all n fault = (y : List ℕ) (m end : ℕ) → P y → n + m ≤ length y → all ≤ end + m →
-    IsOutsideFault end fault
+DeniesJust P all n fault = (y : List ℕ) (m end : ℕ) → P y → n + m ≤ length y → all ≤ end + m → IsOutsideFault end fault

@@ -1,11 +1,8 @@
 -- How the bytes that a source has unread spell what it stands before.
-use Rattle.std.specs.Prelude.{◌≡◌, ℕ, ◌+◌, List, [], ◌∷◌, ◌++◌, length, Option, Some, None}
-use Rattle.std.specs.Borrow.{GName}
-use Rattle.ciborium_ll.specs.Head.{break_byte}
-use Rattle.ciborium_ll.specs.Item.{Item}
-use Rattle.ciborium_ll.specs.Spells.{Spells}
-use Rattle.ciborium_value.specs.Ahead.{Ahead, Rest, Span, counted, until_break, of_bytes, bottom}
-use Rattle.ciborium_value.specs.Ahead.{parts, pairs, entry, level_due, item, after}
+use Rattle.std.specs.{Prelude.{◌≡◌, ℕ, ◌+◌, List, [], ◌∷◌, ◌++◌, length, Option, Some, None}, Borrow.GName}
+use Rattle.ciborium_ll.specs.{Head.break_byte, Item.Item, Spells.Spells}
+use Rattle.ciborium_value.specs.Ahead.{Ahead, Rest, Span, counted, until_break, of_bytes, bottom, parts, pairs, entry}
+use Rattle.ciborium_value.specs.Ahead.{level_due, item, after}
 
 -- a key and its value, in the bytes
 abbrev pub SpellsPair : List ℕ → Item × Item → Type 0
@@ -31,8 +28,7 @@ module _ {X : Type 0} (SpellsPart : List ℕ → X → Type 0) where
   -- each part in turn
   abbrev pub AreSpelled : List ℕ → List X → Type 0
   AreSpelled b [] = b ≡ []
-  AreSpelled b (x ∷ xs) = (s : List ℕ) × (r : List ℕ) × SpellsPart s x × AreSpelled r xs ×
-      (b ≡ s ++ r)
+  AreSpelled b (x ∷ xs) = (s : List ℕ) × (r : List ℕ) × SpellsPart s x × AreSpelled r xs × (b ≡ s ++ r)
 
   -- the parts left of a container of this span; the bytes of a byte string are read before its
   -- parts are
@@ -49,10 +45,9 @@ module _ (reader : GName × ℕ) where
       (b ≡ s ++ (ending span ++ r))
   IsRest b (pairs span ps f) = (s : List ℕ) × (r : List ℕ) × AreLeft SpellsPair span s ps ×
       IsRest r f × (b ≡ s ++ (ending span ++ r))
-  IsRest b (entry v span ps f) =
-      (t : List ℕ) × (c : List ℕ) × Spells t v ×
-      ((s : List ℕ) × (r : List ℕ) × AreLeft SpellsPair span s ps × IsRest r f ×
-      (c ≡ s ++ (ending span ++ r))) × (b ≡ t ++ c)
+  IsRest b (entry v span ps f) = (t : List ℕ) × (c : List ℕ) × Spells t v ×
+      ((s : List ℕ) × (r : List ℕ) × AreLeft SpellsPair span s ps × IsRest r f × (c ≡ s ++ (ending span ++ r))) ×
+      (b ≡ t ++ c)
   IsRest b (level_due f) = IsRest b f
 
   -- b is what a source stands before

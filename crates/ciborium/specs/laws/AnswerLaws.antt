@@ -2,20 +2,13 @@
 -- reader gives them, and the call.
 use Rattle.std.specs.Prelude.{◌≡◌, ℕ, ◌⊎◌, List, Option, Some, None, option_map, Result, Ok, Err}
 use Rattle.std.specs.declared.io.Error.{Error as IoError}
-use Rattle.ciborium_ll.specs.Bytes.{AreBytes}
-use Rattle.ciborium_ll.specs.Refusal as refusal
-use Rattle.ciborium_ll.specs.Refusal.{Refusal}
-use Rattle.ciborium_value.specs.declared.kind.Kind.{Kind}
-use Rattle.ciborium_value.specs.declared.tree.Value.{Value}
-use Rattle.ciborium_value.specs.Refuses.{Refuses}
-use Rattle.ciborium_value.specs.View.{tree_of}
-use Rattle.ciborium.specs.declared.de.error.Error.{Error}
-use Rattle.ciborium.specs.declared.de.error.Error.TheVariants.{Io, Syntax, Semantic}
-use Rattle.ciborium.specs.declared.de.error.Error.TheVariants.{RecursionLimitExceeded, Memory}
-use Rattle.ciborium.specs.declared.de.error.Error.TheVariants.{TooLong}
-use Rattle.ciborium.specs.ValueAnswers.{IsFailed, IsRefusedBy, refusal_kind_of}
-use Rattle.ciborium.specs.ValueClauses.{TakesValue}
+use Rattle.ciborium_ll.specs.{Bytes.AreBytes, Refusal.Refusal}
+use Rattle.ciborium_value.specs.{declared.kind.Kind.Kind, declared.tree.Value.Value, Refuses.Refuses, View.tree_of}
 use Rattle.ciborium_value.specs.Spelling.{any}
+use Rattle.ciborium.specs.{declared.de.error.Error.Error, declared.de.error.Error.TheVariants.{Io, Syntax, Semantic}}
+use Rattle.ciborium.specs.declared.de.error.Error.TheVariants.{RecursionLimitExceeded, Memory, TooLong}
+use Rattle.ciborium.specs.{ValueAnswers.{IsFailed, IsRefusedBy, refusal_kind_of}, ValueClauses.TakesValue}
+use Rattle.ciborium_ll.specs.Refusal as refusal
 
 -- what the clauses of a call say of its answer: b were the known bytes, within l levels, and this
 -- is left of them
@@ -44,12 +37,9 @@ abbrev pub AreOneAnswer : Option (List ℕ) → Result Value (Error IoError) →
 AreOneAnswer left (Ok v) right (Ok w) = (tree_of v ≡ tree_of w) × (left ≡ right)
 AreOneAnswer left (Ok v) right (Err f) = IsFailed right f
 AreOneAnswer left (Err e) right (Ok w) = IsFailed left e
-AreOneAnswer left (Err e) right (Err f) = IsFailed left e ⊎ IsFailed right f ⊎
-    (refusal_of e ≡ refusal_of f)
+AreOneAnswer left (Err e) right (Err f) = IsFailed left e ⊎ IsFailed right f ⊎ (refusal_of e ≡ refusal_of f)
 
 -- any two answers for the same bytes and limit are alike
 abbrev pub OneAnswer : Type 0
-OneAnswer =
-    (b : List ℕ) (l : ℕ) (left right : Option (List ℕ)) (x y : Result Value (Error IoError)) →
-    AreBytes b → IsReadAnswer b l left x → IsReadAnswer b l right y →
-    AreOneAnswer left x right y
+OneAnswer = (b : List ℕ) (l : ℕ) (left right : Option (List ℕ)) (x y : Result Value (Error IoError)) →
+    AreBytes b → IsReadAnswer b l left x → IsReadAnswer b l right y → AreOneAnswer left x right y

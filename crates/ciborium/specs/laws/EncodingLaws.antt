@@ -1,13 +1,7 @@
 -- What holds of encodings (RFC 8949, sections 4.1 and 4.2.1).
-use Rattle.std.specs.Prelude.{◌≡◌, ℕ, ◌<◌, ◌⊎◌, List, length}
-use Rattle.std.specs.Cmp.Lexicographic.{slice_cmp}
-use Rattle.std.specs.Ordering.{nat_cmp}
-use Rattle.ciborium_ll.specs.Head.{shortest_head}
-use Rattle.ciborium_ll.specs.ProperItems.{IsArgument}
-use Rattle.ciborium_ll.specs.Spells.{Spells}
-use Rattle.ciborium_value.specs.Encoding.{item_of, encoding}
-use Rattle.ciborium_value.specs.ProperTrees.{IsProperTree}
-use Rattle.ciborium_value.specs.Tree.{Tree}
+use Rattle.std.specs.{Prelude.{◌≡◌, ℕ, ◌<◌, ◌⊎◌, List, length}, Cmp.Lexicographic.slice_cmp, Ordering.nat_cmp}
+use Rattle.ciborium_ll.specs.{Head.shortest_head, ProperItems.IsArgument, Spells.Spells}
+use Rattle.ciborium_value.specs.{Encoding.{item_of, encoding}, ProperTrees.IsProperTree, Tree.Tree}
 
 -- two trees that programs can hold have two encodings
 abbrev pub OneTree : Type 0

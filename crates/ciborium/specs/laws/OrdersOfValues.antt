@@ -1,16 +1,9 @@
 -- What holds of the orders of `CanonicalValue` and `BytewiseValue`: the canonical one (RFC 8949,
 -- section 4.2.3; RFC 7049, section 3.9) and the bytewise one (RFC 8949, section 4.2.1).
-use Rattle.std.specs.Prelude.{◌≡◌, ◌↔◌, List, map}
-use Rattle.std.specs.Cmp.{IsTotalOrder}
-use Rattle.std.specs.List.Sorted.{IsStrictlySortedBy}
-use Rattle.std.specs.Map.{keys_of}
+use Rattle.std.specs.{Prelude.{◌≡◌, ◌↔◌, List, map}, Cmp.IsTotalOrder, List.Sorted.IsStrictlySortedBy, Map.keys_of}
 use Rattle.std.specs.declared.cmp.Ordering.TheVariants.{Equal}
-use Rattle.ciborium_value.specs.Canonical.{key_order}
-use Rattle.ciborium_value.specs.OrderedValues.{ordered_value_cmp}
-use Rattle.ciborium_value.specs.ProperTrees.{IsProperTree}
-use Rattle.ciborium_value.specs.View.{tree_of}
-use Rattle.ciborium_value.specs.declared.key_order.KeyOrder.{KeyOrder}
-use Rattle.ciborium_value.specs.declared.tree.Value.{Value}
+use Rattle.ciborium_value.specs.{Canonical.key_order, OrderedValues.ordered_value_cmp, ProperTrees.IsProperTree}
+use Rattle.ciborium_value.specs.{View.tree_of, declared.key_order.KeyOrder.KeyOrder, declared.tree.Value.Value}
 
 -- of any two values that a program holds, the order that `Ord` names is the named order of their
 -- trees

@@ -1,31 +1,24 @@
 -- The descriptions of types under tags (RFC 8949, section 3.4).
-use Rattle.std.specs.Prelude.{◌≡◌, ℕ, suc, Bool, true, false, Option, ◌&&◌, if◌then◌else◌, refl}
-use Rattle.ciborium_value.specs.Described.{Description}
-use Rattle.ciborium_value.specs.Meaning.{is_bignum_tag}
-use Rattle.ciborium_value.specs.NeverWritten.{byte_strings}
-use Rattle.ciborium_value.specs.Sinks.{tag_of}
-use Rattle.ciborium_value.specs.TagReadings.{tag_accepted, tag_required, with_tag}
+use Rattle.std.specs.Prelude.{◌≡◌, ℕ, suc, Bool, true, false, Option, Some, ◌&&◌, if◌then◌else◌, refl}
+use Rattle.ciborium_value.specs.{Described.Description, Meaning.is_bignum_tag, NeverWritten.byte_strings, ReadsBack.Way}
+use Rattle.ciborium_value.specs.{Sinks.tag_of, TagReadings.{tag_accepted, tag_required, with_tag}}
 use Rattle.ciborium_value.specs.lemmas.Descriptions.{both}
-use Rattle.ciborium.specs.Tags.{captured_of}
-use Rattle.ciborium.specs.lemmas.FormsReadBackTags.{IsNeverFolded, accepted-form, captured-form}
-use Rattle.ciborium.specs.lemmas.FormsReadBackTags.{no_bignum, not_bytes, required-form}
-use Rattle.ciborium.specs.lemmas.FormsReadBackTags.{whatever_tag}
-use Rattle.ciborium.specs.lemmas.ReadsBackTags.{IsToldApart, accepted-back, captured-back}
-use Rattle.ciborium.specs.lemmas.ReadsBackTags.{captured-never, required-back, tag-never}
-use Rattle.ciborium.specs.lemmas.WrittenTags.{captured-alike, tagged-alike}
+use Rattle.ciborium.specs.{Tags.captured_of, lemmas.ReadsBackTags.{IsToldApart, IsUnfolded, accepted-back}}
+use Rattle.ciborium.specs.lemmas.ReadsBackTags.{captured-back, captured-never, no_bignum, not_bytes, required-back}
+use Rattle.ciborium.specs.{lemmas.ReadsBackTags.tag-never, lemmas.WrittenTags.{captured-alike, tagged-alike}}
 
 -- the tag folds nothing: it is no bignum's, or the part is never a byte string (section 3.4.3)
 abbrev pub folds_nothing : {V : Type 0} → ℕ → Description V → Bool
 folds_nothing t d = if is_bignum_tag t then d.avoids byte_strings else true
 
-folded-never : {V : Type 0} (d : Description V) (t : ℕ) (c : Bool) → is_bignum_tag t ≡ c →
-    (if c then d.avoids byte_strings else true) ≡ true → (v : V) → IsNeverFolded (d.written v) t
-folded-never d t true e h v = not_bytes (d.never byte_strings h v) t
-folded-never d t false e h v = no_bignum (d.written v) t e
+unfolded : {V : Type 0} (t : ℕ) (d : Description V) (way : Way) (v : V) (c : Bool) →
+    is_bignum_tag t ≡ c → (if c then d.avoids byte_strings else true) ≡ true → IsUnfolded way (Some t) (d.written v)
+unfolded t d way v true e h = not_bytes way (Some t) (d.never byte_strings h v)
+unfolded t d way v false e h = no_bignum way t (d.written v) e
 
-pub never-folded : {V : Type 0} (d : Description V) (t : ℕ) → folds_nothing t d ≡ true →
-    (v : V) → IsNeverFolded (d.written v) t
-never-folded d t h v = folded-never d t (is_bignum_tag t) refl h v
+pub folds-nothing : {V : Type 0} (t : ℕ) (d : Description V) → folds_nothing t d ≡ true →
+    (way : Way) (v : V) → IsUnfolded way (Some t) (d.written v)
+folds-nothing t d h way v = unfolded t d way v (is_bignum_tag t) refl h
 
 -- what is written as this part under the tag, and read only so
 abbrev pub under_tag : {T V : Type 0} → ℕ → (T → V) → Description V → Description T
@@ -37,12 +30,9 @@ under_tag t part d = record {
   levels = λ v. suc (d.levels (part v));
   avoids = λ a. true;
   is_sound = folds_nothing t d && d.is_sound;
-  reads_back = λ sound v valid. required-back t
-      (d.reads_back (both (folds_nothing t d) d.is_sound sound).1 (part v) valid);
-  form_reads_back = λ sound o v valid.
+  reads_back = λ sound way v valid.
       let s = both (folds_nothing t d) d.is_sound sound in
-      required-form o t (never-folded d t s.0 (part v))
-      (d.form_reads_back s.1 o (part v) valid);
+      required-back t (folds-nothing t d s.0 way (part v)) (d.reads_back s.1 way (part v) valid);
   writes_content = λ v w same. tagged-alike d.writes_content t (part v) (part w) same;
   never = λ a h v. tag-never a t (d.written (part v));
 }
@@ -57,19 +47,15 @@ under_tag_or_none t part d = record {
   levels = λ v. suc (d.levels (part v));
   avoids = λ a. true;
   is_sound = folds_nothing t d && d.is_sound;
-  reads_back = λ sound v valid. accepted-back t
-      (d.reads_back (both (folds_nothing t d) d.is_sound sound).1 (part v) valid);
-  form_reads_back = λ sound o v valid.
+  reads_back = λ sound way v valid.
       let s = both (folds_nothing t d) d.is_sound sound in
-      accepted-form o t (never-folded d t s.0 (part v))
-      (d.form_reads_back s.1 o (part v) valid);
+      accepted-back t (folds-nothing t d s.0 way (part v)) (d.reads_back s.1 way (part v) valid);
   writes_content = λ v w same. tagged-alike d.writes_content t (part v) (part w) same;
   never = λ a h v. tag-never a t (d.written (part v));
 }
 
 -- what is written as this part under this tag, if there is one
-abbrev pub under_any_tag : {T V : Type 0} → (T → Option ℕ) → (T → V) → Description V →
-    Description T
+abbrev pub under_any_tag : {T V : Type 0} → (T → Option ℕ) → (T → V) → Description V → Description T
 under_any_tag tag part d = record {
   Content = Option ℕ × d.Content;
   reading = with_tag tag part d.reading;
@@ -78,12 +64,11 @@ under_any_tag tag part d = record {
   levels = λ v. suc (d.levels (part v));
   avoids = d.avoids;
   is_sound = d.avoids byte_strings && d.is_sound;
-  reads_back = λ sound v valid. captured-back (tag v) valid.0
-      (d.reads_back (both (d.avoids byte_strings) d.is_sound sound).1 (part v) valid.1);
-  form_reads_back = λ sound o v valid.
+  reads_back = λ sound way v valid.
       let s = both (d.avoids byte_strings) d.is_sound sound in
-      captured-form o (tag v) valid.0 (whatever_tag (d.never byte_strings s.0 (part v)) (tag v))
-      (d.form_reads_back s.1 o (part v) valid.1);
+      captured-back (tag v) valid.0
+      (not_bytes way (tag v) (d.never byte_strings s.0 (part v)))
+      (d.reads_back s.1 way (part v) valid.1);
   writes_content = λ v w same.
       captured-alike d.writes_content (tag v) (tag w) (part v) (part w) same;
   never = λ a h v. captured-never a (tag v) (d.never a h (part v));

@@ -1,8 +1,7 @@
 -- Equal contents are written alike under equal tags (RFC 8949, section 3.4).
 use Rattle.std.proofs.Common.{ap, ◌∙◌}
 use Rattle.std.specs.Prelude.{◌≡◌, ℕ, Option}
-use Rattle.ciborium_value.specs.Sinks.{Named, tag_of}
-use Rattle.ciborium_value.specs.WrittenContents.{IsWrittenByContent}
+use Rattle.ciborium_value.specs.{Sinks.{Named, tag_of}, WrittenContents.IsWrittenByContent}
 use Rattle.ciborium.specs.Tags.{captured_of}
 
 -- what counts of a value and the tag around it
@@ -18,6 +17,5 @@ module _ {T C : Type 0} {written : T → Named} {content : T → C}
       let inner = alike v w (ap (λ x. x.1) same) in
       ap (λ t. captured_of t (written v)) tags ∙ ap (captured_of p) inner
 
-  pub tagged-alike : (t : ℕ) (v w : T) → content v ≡ content w →
-      tag_of t (written v) ≡ tag_of t (written w)
+  pub tagged-alike : (t : ℕ) (v w : T) → content v ≡ content w → tag_of t (written v) ≡ tag_of t (written w)
   tagged-alike t v w same = ap (tag_of t) (alike v w same)

@@ -19,7 +19,6 @@ mod scalars;
 mod skipping;
 mod source;
 mod strings;
-mod values;
 
 // Reads each head and payload as it comes. A head that was looked at and not taken is pending, with
 // its offset; so is one that stands for what is not in the bytes, as a byte of a byte string that

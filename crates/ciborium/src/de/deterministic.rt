@@ -1,15 +1,14 @@
 //! Reading the deterministic encoding alone (RFC 8949, section 4.2), by either order of keys.
 
-ghost use Rattle.std.specs.Prelude.{◌≡◌, IsFalse, IsTrue, MatchOption, ℕ};
+ghost use Rattle.std.specs.Prelude.{◌≡◌, ℕ};
 ghost use Rattle.std.specs.declared.cmp.Ordering.TheVariants.{Less};
 ghost use Rattle.ciborium_value.specs.Canonical.{key_order};
 ghost use Rattle.ciborium_value.specs.View.{read_as, tree_of};
-ghost use Rattle.ciborium_value.specs.inner.Stack.{frames_of};
 ghost use Rattle.ciborium_value.specs.declared.key_order.KeyOrder.TheVariants as orders;
 ghost use Rattle.ciborium.specs.ValueClauses.{ReadsWhole};
-ghost use Rattle.ciborium.specs.inner.Rules.{IsKeyInOrder, IsKeyOutOfOrder, counted_fault};
-ghost use Rattle.ciborium_value.specs.Spelling.{IsFoldable, deterministic};
-ghost use Rattle.ciborium.specs.inner.Rules.{deterministic_fault, long_fault};
+ghost use Rattle.ciborium.specs.inner.Rules.{counted_fault};
+ghost use Rattle.ciborium_value.specs.Spelling.{deterministic};
+ghost use Rattle.ciborium.specs.inner.Rules.{long_fault};
 
 use crate::de::SCRATCH_SIZE;
 use crate::de::building::read_value;
@@ -50,52 +49,6 @@ fn find_counted_fault(count: Option<usize>, size: usize) -> Option<Kind>
     }
 }
 
-// Why a head of `size` bytes is not accepted (RFC 8949, sections 4.1 and 4.2.1).
-#[inline(always)]
-fn find_deterministic_fault(header: Header, size: usize) -> Option<Kind>
-    ensures { result ≡ deterministic_fault header size }
-{
-    match header {
-        Header::Positive(n) | Header::Negative(n) | Header::Tag(n) => find_long_fault(n, size),
-        Header::Bytes(count) | Header::Text(count) | Header::Array(count) | Header::Map(count) =>
-            find_counted_fault(count, size),
-        Header::Simple(simple::UNDEFINED) => Some(Kind::NotShortest),
-        Header::Simple(_) | Header::Float(_) | Header::Break => None,
-    }
-}
-
-// Whether a bignum of these bytes is a number of 64 bits, or has leading zeros.
-#[inline(always)]
-fn is_foldable(payload: &[u8]) -> bool
-    ensures yes { IsTrue result → IsFoldable payload.now }
-    ensures no { IsFalse result → ¬ IsFoldable payload.now }
-{
-    payload.len() <= GREATEST_INTEGER_SIZE || payload[0] == 0
-}
-
-// Whether a key stands before another in this order.
-fn is_before(order: KeyOrder, left: &Value, right: &Value) -> bool
-    ensures yes { IsTrue result → key_order order (tree_of left.now) (tree_of right.now) ≡ Less }
-    ensures no { IsFalse result →
-        ¬ (key_order order (tree_of left.now) (tree_of right.now) ≡ Less) }
-{
-    cmp_keys(order, left, right) == Ordering::Less
-}
-
-// The offset of the key that waits for its value, where it does not follow the key before it in
-// this order. Its last byte stands before offset `end`.
-#[inline(always)]
-fn find_key_out_of_order(order: KeyOrder, stack: &Stack, end: usize) -> Option<usize>
-    ensures { MatchOption result (IsKeyInOrder order (frames_of stack.now))
-        (λ at. IsKeyOutOfOrder order (frames_of stack.now) end at) }
-{
-    let (before, key) = stack.waiting_keys()?;
-    if is_before(order, before, key) {
-        return None;
-    }
-    Some(end.saturating_sub(encoded_size(key) as usize))
-}
-
 // ---- the rules
 
 // The shortest heads, definite lengths, and keys that rise in the order that `O` names.
@@ -108,17 +61,29 @@ impl<O: EncodingOrder> Rules for Deterministic<O> {
 
     #[inline(always)]
     fn find_head_fault(header: Header, size: usize) -> Option<Kind> {
-        find_deterministic_fault(header, size)
+        match header {
+            Header::Positive(n) | Header::Negative(n) | Header::Tag(n) => find_long_fault(n, size),
+            Header::Bytes(count)
+            | Header::Text(count)
+            | Header::Array(count)
+            | Header::Map(count) => find_counted_fault(count, size),
+            Header::Simple(simple::UNDEFINED) => Some(Kind::NotShortest),
+            Header::Simple(_) | Header::Float(_) | Header::Break => None,
+        }
     }
 
     #[inline(always)]
     fn refuses_bignum(payload: &[u8]) -> bool {
-        is_foldable(payload)
+        payload.len() <= GREATEST_INTEGER_SIZE || payload[0] == 0
     }
 
     #[inline(always)]
     fn find_disorder(stack: &Stack, end: usize) -> Option<usize> {
-        find_key_out_of_order(O::order(), stack, end)
+        let (before, key) = stack.waiting_keys()?;
+        if cmp_keys(O::order(), before, key) == Ordering::Less {
+            return None;
+        }
+        Some(end.saturating_sub(encoded_size(key) as usize))
     }
 }
 

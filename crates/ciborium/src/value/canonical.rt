@@ -13,7 +13,7 @@ ghost use Rattle.ciborium_value.specs.Nesting.{nesting};
 ghost use Rattle.ciborium_value.specs.ProperTrees.{IsProperTree};
 ghost use Rattle.ciborium_value.specs.Sinks.{named_value};
 ghost use Rattle.ciborium_value.specs.Readings.{whole_by};
-ghost use Rattle.ciborium_value.specs.lemmas.ReadsBackValues.{value-back};
+ghost use Rattle.ciborium_value.specs.lemmas.ReadsBackValues.{met-tree, value-back};
 ghost use Rattle.ciborium_value.specs.Tree.{Tree};
 ghost use Rattle.ciborium_value.specs.View.{tree_of};
 ghost use Rattle.ciborium_value.specs.WrittenContents.{from_content};
@@ -167,7 +167,8 @@ impl<O: EncodingOrder> ReadsBack for OrderedValue<O> {
 
     ghost levels = { λ c. nesting (item_of (tree_of c)) };
 
-    ghost reads_back = { λ c valid. value-back (tree_of c) valid };
+    ghost reads_back = { λ way plain c valid.
+        value-back (tree_of c) (met-tree way plain (tree_of c)) valid };
 }
 
 impl<O: EncodingOrder> WritesContent for OrderedValue<O> {

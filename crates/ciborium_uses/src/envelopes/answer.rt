@@ -1,6 +1,6 @@
 //! What the program prints of an envelope.
 
-use super::labels::{Labels, read_header};
+use super::labels::read_header;
 use super::{
     Envelope, Wrapping, algorithm, header_bytes, read_envelope, read_wrapped, signed_bytes,
     through_memory, to_be_signed, write_again,
@@ -54,7 +54,7 @@ fn prepare<W: Write>(alloc: Global, header: &str, payload: &str, output: &mut W)
         return writeln!(output, "refused: not in hex");
     };
     let header = match read_header(alloc, &header) {
-        Ok(header) => header,
+        Ok(labels) => labels.map,
         Err(error) => return writeln!(output, "refused: {error}"),
     };
     match prepared(alloc, &header, &ByteBuf(payload)) {
@@ -69,7 +69,7 @@ fn prepare<W: Write>(alloc: Global, header: &str, payload: &str, output: &mut W)
 // The bytes of a header, and those to be signed of it and a payload, without more.
 fn prepared(
     alloc: Global,
-    header: &Labels,
+    header: &Value,
     payload: &ByteBuf,
 ) -> Result<(ByteBuf, Vec<u8>), ser::Error<io::Error>> {
     let protected = header_bytes(alloc, header)?;
@@ -89,17 +89,14 @@ fn show_wrapped<W: Write>(
     show(alloc, envelope, output)
 }
 
-// Prints the algorithm, the claims in the order of their keys, and the signed bytes.
+// Prints the algorithm, the claims, and the signed bytes.
 fn show<W: Write>(alloc: Global, envelope: &Envelope, output: &mut W) -> io::Result<()> {
     match algorithm(envelope) {
         Some(algorithm) if *algorithm == Value::from(-7i8) => writeln!(output, "algorithm: ES256")?,
         Some(algorithm) => writeln!(output, "algorithm: {algorithm}")?,
         None => writeln!(output, "algorithm: none")?,
     }
-    let Ok(claims) = Value::serialized(alloc, &envelope.claims.every) else {
-        return writeln!(output, "refused: an allocation failed");
-    };
-    writeln!(output, "claims: {claims}")?;
+    writeln!(output, "claims: {}", envelope.claims.every)?;
     let external = ByteBuf(Vec::new(alloc));
     match signed_bytes(alloc, envelope, &external) {
         Ok(bytes) => writeln!(output, "signed: {}", hex::encode(alloc, bytes)?),

@@ -2,15 +2,15 @@
 
 ghost use Rattle.std.specs.Prelude.{◌≡◌, IfErr, IfOk, Option, String, ℤ};
 ghost use Rattle.std.specs.declared.alloc.Global.{Global};
+ghost use Rattle.ciborium.specs.View.{tree_of};
 ghost use Rattle.ciborium_value.specs.declared.byte_buf.ByteBuf.{ByteBuf};
 ghost use Rattle.ciborium_uses.specs.Envelopes.{AreClaimBytes, AreClaims, IsOutside};
-ghost use Rattle.ciborium_uses.specs.Envelopes.{bytes_claim, entry_trees, number_claim, text_claim};
-ghost use Rattle.ciborium_uses.specs.Envelopes.{value_at};
+ghost use Rattle.ciborium_uses.specs.Envelopes.{bytes_claim, number_claim, text_claim, value_at};
 ghost use Rattle.ciborium_uses.specs.declared.envelopes.claims.Claims.{Claims};
 
 use super::error::{EnvelopeError, Part};
-use super::labels::{Labels, read_labels, value_of};
-use ciborium::value::{ByteBuf, Integer};
+use super::labels::{read_labels, value_of};
+use ciborium::value::{ByteBuf, Integer, Value};
 use std::alloc::Global;
 
 /// What a token claims: each registered claim that it has (RFC 8392, section 3.1), and all claims
@@ -31,8 +31,8 @@ pub struct Claims {
     pub issued: Option<Integer>,
     /// What tells it from other tokens.
     pub id: Option<ByteBuf>,
-    /// Every claim, of keys that are not registered too.
-    pub every: Labels,
+    /// The map of every claim, of keys that are not registered too.
+    pub every: Value,
 }
 
 /// Reads all of a payload as claims.
@@ -45,15 +45,15 @@ pub fn read_claims(alloc: Global, payload: &[u8]) -> Result<Claims, EnvelopeErro
     ensures refused { IfErr result
         (λ e. (c : Claims) → AreClaimBytes payload.now c → IsOutside e) }
 {
-    let every = read_labels(alloc, payload, Part::Claims)?;
-    claims_of(alloc, every)
+    let labels = read_labels(alloc, payload, Part::Claims)?;
+    claims_of(alloc, labels.map)
 }
 
 // The claims at their keys.
-fn claims_of(alloc: Global, every: Labels) -> Result<Claims, EnvelopeError>
-    ensures ok { IfOk result (λ c. AreClaims (entry_trees every) c) }
+fn claims_of(alloc: Global, every: Value) -> Result<Claims, EnvelopeError>
+    ensures ok { IfOk result (λ c. AreClaims (tree_of every) c) }
     ensures refused { IfErr result
-        (λ e. (c : Claims) → AreClaims (entry_trees every) c → IsOutside e) }
+        (λ e. (c : Claims) → AreClaims (tree_of every) c → IsOutside e) }
 {
     Ok(Claims {
         issuer: text_at(alloc, &every, 1)?,
@@ -68,10 +68,10 @@ fn claims_of(alloc: Global, every: Labels) -> Result<Claims, EnvelopeError>
 }
 
 // The claim at this key, which is a text.
-fn text_at(alloc: Global, claims: &Labels, key: u8) -> Result<Option<String>, EnvelopeError>
-    ensures ok { IfOk result (λ c. value_at key (entry_trees claims.now) ≡ text_claim c) }
+fn text_at(alloc: Global, claims: &Value, key: u8) -> Result<Option<String>, EnvelopeError>
+    ensures ok { IfOk result (λ c. value_at key (tree_of claims.now) ≡ text_claim c) }
     ensures refused { IfErr result (λ e. (c : Option (String Global)) →
-        value_at key (entry_trees claims.now) ≡ text_claim c → IsOutside e) }
+        value_at key (tree_of claims.now) ≡ text_claim c → IsOutside e) }
 {
     let Some(value) = value_of(claims, key) else {
         return Ok(None);
@@ -86,10 +86,10 @@ fn text_at(alloc: Global, claims: &Labels, key: u8) -> Result<Option<String>, En
 }
 
 // The claim at this key, which is a number.
-fn number_at(claims: &Labels, key: u8) -> Result<Option<Integer>, EnvelopeError>
-    ensures ok { IfOk result (λ c. value_at key (entry_trees claims.now) ≡ number_claim c) }
+fn number_at(claims: &Value, key: u8) -> Result<Option<Integer>, EnvelopeError>
+    ensures ok { IfOk result (λ c. value_at key (tree_of claims.now) ≡ number_claim c) }
     ensures refused { IfErr result (λ e. (c : Option ℤ) →
-        value_at key (entry_trees claims.now) ≡ number_claim c → IsOutside e) }
+        value_at key (tree_of claims.now) ≡ number_claim c → IsOutside e) }
 {
     let Some(value) = value_of(claims, key) else {
         return Ok(None);
@@ -101,10 +101,10 @@ fn number_at(claims: &Labels, key: u8) -> Result<Option<Integer>, EnvelopeError>
 }
 
 // The claim at this key, which is a byte string.
-fn bytes_at(alloc: Global, claims: &Labels, key: u8) -> Result<Option<ByteBuf>, EnvelopeError>
-    ensures ok { IfOk result (λ c. value_at key (entry_trees claims.now) ≡ bytes_claim c) }
+fn bytes_at(alloc: Global, claims: &Value, key: u8) -> Result<Option<ByteBuf>, EnvelopeError>
+    ensures ok { IfOk result (λ c. value_at key (tree_of claims.now) ≡ bytes_claim c) }
     ensures refused { IfErr result (λ e. (c : Option ByteBuf) →
-        value_at key (entry_trees claims.now) ≡ bytes_claim c → IsOutside e) }
+        value_at key (tree_of claims.now) ≡ bytes_claim c → IsOutside e) }
 {
     let Some(value) = value_of(claims, key) else {
         return Ok(None);

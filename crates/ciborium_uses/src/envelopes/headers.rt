@@ -2,8 +2,8 @@
 
 ghost use Rattle.std.specs.Prelude.{◌≡◌, IfErr, IfOk, Some, is_none, is_ok};
 ghost use Rattle.ciborium.specs.View.{tree_of, trees_of};
-ghost use Rattle.ciborium_uses.specs.Envelopes.{AreHeaders, are_apart, are_critical, entry_trees};
-ghost use Rattle.ciborium_uses.specs.Envelopes.{is_crit, is_understood, value_at};
+ghost use Rattle.ciborium_uses.specs.Envelopes.{AreHeaders, are_apart, are_critical, entries_of};
+ghost use Rattle.ciborium_uses.specs.Envelopes.{entry_trees, is_crit, is_understood, value_at};
 
 use super::error::EnvelopeError;
 use super::labels::{Labels, has_label, value_of};
@@ -22,12 +22,15 @@ const CRIT: u8 = 2;
 /// `CriticalMissing` where one of them is not there, `Critical` where one is not understood, and
 /// `Memory` in place of an error that names a label.
 pub fn check_headers(header: &Labels, unprotected: &Labels) -> Result<(), EnvelopeError>
+    requires header { entry_trees header.now.by_label ≡ entries_of (tree_of header.now.map) }
+    requires unprotected { entry_trees unprotected.now.by_label
+        ≡ entries_of (tree_of unprotected.now.map) }
     ensures ok { IfOk result
-        (λ u. AreHeaders (entry_trees header.now) (entry_trees unprotected.now)) }
+        (λ u. AreHeaders (tree_of header.now.map) (tree_of unprotected.now.map)) }
     ensures refused { IfErr result
-        (λ e. ¬ AreHeaders (entry_trees header.now) (entry_trees unprotected.now)) }
+        (λ e. ¬ AreHeaders (tree_of header.now.map) (tree_of unprotected.now.map)) }
 {
-    if value_of(unprotected, CRIT).is_some() {
+    if value_of(&unprotected.map, CRIT).is_some() {
         return Err(EnvelopeError::CriticalUnprotected);
     }
     if let Some(label) = shared_label(header, unprotected) {
@@ -38,9 +41,10 @@ pub fn check_headers(header: &Labels, unprotected: &Labels) -> Result<(), Envelo
 
 // A label that stands in both headers.
 fn shared_label<'a>(header: &'a Labels, unprotected: &Labels) -> Option<&'a Value>
-    ensures { is_none result ≡ are_apart (entry_trees header.now) (entry_trees unprotected.now) }
+    ensures { is_none result
+        ≡ are_apart (entry_trees header.now.by_label) (entry_trees unprotected.now.by_label) }
 {
-    for (label, _) in header {
+    for (label, _) in &header.by_label {
         if has_label(unprotected, label) {
             return Some(label);
         }
@@ -51,9 +55,9 @@ fn shared_label<'a>(header: &'a Labels, unprotected: &Labels) -> Option<&'a Valu
 // Tests the critical labels, if the protected header names some.
 fn check_crit(header: &Labels) -> Result<(), EnvelopeError>
     ensures { is_ok result
-        ≡ is_crit (entry_trees header.now) (value_at 2 (entry_trees header.now)) }
+        ≡ is_crit (entry_trees header.now.by_label) (value_at 2 (tree_of header.now.map)) }
 {
-    match value_of(header, CRIT) {
+    match value_of(&header.map, CRIT) {
         Some(crit) => check_named(header, crit),
         None => Ok(()),
     }
@@ -61,7 +65,7 @@ fn check_crit(header: &Labels) -> Result<(), EnvelopeError>
 
 // Tests what names the critical labels.
 fn check_named(header: &Labels, crit: &Value) -> Result<(), EnvelopeError>
-    ensures { is_ok result ≡ is_crit (entry_trees header.now) (Some (tree_of crit.now)) }
+    ensures { is_ok result ≡ is_crit (entry_trees header.now.by_label) (Some (tree_of crit.now)) }
 {
     let Some(labels) = crit.as_array() else {
         return Err(EnvelopeError::CriticalShape);
@@ -74,7 +78,7 @@ fn check_named(header: &Labels, crit: &Value) -> Result<(), EnvelopeError>
 
 // Tests these critical labels.
 fn check_labels(header: &Labels, labels: &[Value]) -> Result<(), EnvelopeError>
-    ensures { is_ok result ≡ are_critical (entry_trees header.now) (trees_of labels.now) }
+    ensures { is_ok result ≡ are_critical (entry_trees header.now.by_label) (trees_of labels.now) }
 {
     for label in labels {
         if !has_label(header, label) {

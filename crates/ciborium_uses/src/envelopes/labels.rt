@@ -1,39 +1,45 @@
 //! Maps of labels, as headers and claims are.
 
-ghost use Rattle.std.specs.Prelude.{◌≡◌, IfErr, IfOk, List};
-ghost use Rattle.std.specs.Option.{option_copied, option_map};
-ghost use Rattle.ciborium.specs.Order.{tree_cmp};
+ghost use Rattle.std.specs.Prelude.{◌≡◌, IfErr, IfOk};
+ghost use Rattle.std.specs.Option.{option_map};
 ghost use Rattle.ciborium.specs.GivenParts.{has_key};
+ghost use Rattle.ciborium.specs.Order.{tree_cmp};
 ghost use Rattle.ciborium.specs.Tree.{Tree};
 ghost use Rattle.ciborium.specs.View.{tree_of, tree_pairs_of};
-ghost use Rattle.ciborium_uses.specs.Envelopes.{AreKept, AreLabelBytes, AreLabels, IsHeader};
-ghost use Rattle.ciborium_uses.specs.Envelopes.{IsOutside, are_labels, entry_trees, is_label};
-ghost use Rattle.ciborium_uses.specs.Envelopes.{value_at};
+ghost use Rattle.ciborium_value.specs.declared.error.Error.TheVariants.{Memory};
+ghost use Rattle.ciborium_uses.specs.Envelopes.{AreLabelBytes, AreLabels, IsHeader, IsKept};
+ghost use Rattle.ciborium_uses.specs.Envelopes.{IsOutside, are_labels, entries_of, entry_trees};
+ghost use Rattle.ciborium_uses.specs.Envelopes.{is_empty, is_label, value_at};
 
 use super::error::{EnvelopeError, Part};
 use super::items::read_all;
-use ciborium::de;
-use ciborium::value::{Error, Value};
+use ciborium::de::{self, UniqueKeys};
+use ciborium::value::{Error, Kind, Value};
 use std::alloc::Global;
 use std::collections::BTreeMap;
 
-/// Values by their labels, which are integers and texts (RFC 9052, section 1.4).
-pub type Labels = BTreeMap<Value, Value>;
+/// A map of labels, which are integers and texts (RFC 9052, section 1.4).
+#[derive(Debug, Drop)]
+pub struct Labels {
+    /// The map, its bignums folded.
+    pub map: Value,
+    /// Its values by their labels.
+    pub by_label: BTreeMap<Value, Value>,
+}
 
-/// The entries of a map whose keys are labels, none of which stands twice. They are written as they
-/// are read.
+/// The labels of a map whose keys are labels, none of which stands twice. The map is written as it
+/// is read.
 ///
 /// # Errors
 ///
-/// `NotMap`, `Label` where a key is neither an integer nor a text, and `Repeated` where a label
-/// stands twice.
+/// `NotMap`, `Label` where a key is neither an integer nor a text, `Repeated` where a label stands
+/// twice, `Read` where a bignum is too large, and `Memory`.
 pub fn labels_of(alloc: Global, map: &Value, part: Part) -> Result<Labels, EnvelopeError>
-    ensures ok { IfOk result (λ m. AreLabels (tree_of map.now) (entry_trees m)) }
-    ensures only { IfOk result (λ m. (es : List (Tree × Tree)) →
-        AreLabels (tree_of map.now) es → entry_trees m ≡ es) }
-    ensures kept { IfOk result AreKept }
-    ensures refused { IfErr result (λ e. (es : List (Tree × Tree)) →
-        AreLabels (tree_of map.now) es → IsOutside e) }
+    ensures ok { IfOk result (λ m. AreLabels (tree_of map.now) (tree_of m.map)) }
+    ensures by_label { IfOk result (λ m. entry_trees m.by_label ≡ entries_of (tree_of m.map)) }
+    ensures kept { IfOk result (λ m. IsKept (tree_of m.map)) }
+    ensures refused { IfErr result (λ e. (m : Tree) → AreLabels (tree_of map.now) m →
+        IsOutside e) }
 {
     let Some(pairs) = map.as_map() else {
         return Err(EnvelopeError::NotMap(part));
@@ -41,16 +47,24 @@ pub fn labels_of(alloc: Global, map: &Value, part: Part) -> Result<Labels, Envel
     if !are_labels(pairs) {
         return Err(EnvelopeError::Label(part));
     }
-    match map.deserialized::<Labels>(alloc) {
-        Ok(labels) => {
-            if labels.len() == pairs.len() {
-                Ok(labels)
-            } else {
-                Err(EnvelopeError::Repeated(part))
-            }
-        }
-        Err(Error::Custom(kind)) => Err(EnvelopeError::Read(part, de::Error::semantic(None, kind))),
-        Err(Error::Memory) => Err(EnvelopeError::Memory),
+    let map: Value = match map.deserialized(alloc) {
+        Ok(map) => map,
+        Err(error) => return Err(refusal_of(part, error)),
+    };
+    match map.deserialized(alloc) {
+        Ok(UniqueKeys(by_label)) => Ok(Labels { map, by_label }),
+        Err(error) => Err(refusal_of(part, error)),
+    }
+}
+
+// Why a map was not taken.
+fn refusal_of(part: Part, error: Error) -> EnvelopeError
+    ensures { error ≡ Memory → IsOutside result }
+{
+    match error {
+        Error::Memory => EnvelopeError::Memory,
+        Error::Custom(Kind::DuplicateKey) => EnvelopeError::Repeated(part),
+        Error::Custom(kind) => EnvelopeError::Read(part, de::Error::semantic(None, kind)),
     }
 }
 
@@ -79,14 +93,12 @@ fn is_label(key: &Value) -> bool
 ///
 /// Those of `read_all` and of `labels_of`.
 pub fn read_labels(alloc: Global, bytes: &[u8], part: Part) -> Result<Labels, EnvelopeError>
-    ensures ok { IfOk result (λ m. AreLabelBytes bytes.now (entry_trees m)) }
-    ensures only { IfOk result (λ m. (es : List (Tree × Tree)) →
-        AreLabelBytes bytes.now es → entry_trees m ≡ es) }
-    ensures kept { IfOk result AreKept }
-    ensures refused { IfErr result (λ e. (es : List (Tree × Tree)) →
-        AreLabelBytes bytes.now es → IsOutside e) }
+    ensures ok { IfOk result (λ m. AreLabelBytes bytes.now (tree_of m.map)) }
+    ensures by_label { IfOk result (λ m. entry_trees m.by_label ≡ entries_of (tree_of m.map)) }
+    ensures kept { IfOk result (λ m. IsKept (tree_of m.map)) }
+    ensures refused { IfErr result (λ e. (m : Tree) → AreLabelBytes bytes.now m → IsOutside e) }
 {
-    let map: Value = read_all(alloc, bytes, part)?;
+    let map = read_all(alloc, bytes, part)?;
     labels_of(alloc, &map, part)
 }
 
@@ -96,30 +108,42 @@ pub fn read_labels(alloc: Global, bytes: &[u8], part: Part) -> Result<Labels, En
 ///
 /// Those of `read_labels`.
 pub fn read_header(alloc: Global, bytes: &[u8]) -> Result<Labels, EnvelopeError>
-    ensures ok { IfOk result (λ m. IsHeader bytes.now (entry_trees m)) }
-    ensures only { IfOk result (λ m. (es : List (Tree × Tree)) →
-        IsHeader bytes.now es → entry_trees m ≡ es) }
-    ensures kept { IfOk result AreKept }
-    ensures refused { IfErr result (λ e. (es : List (Tree × Tree)) →
-        IsHeader bytes.now es → IsOutside e) }
+    ensures ok { IfOk result (λ m. IsHeader bytes.now (tree_of m.map)) }
+    ensures by_label { IfOk result (λ m. entry_trees m.by_label ≡ entries_of (tree_of m.map)) }
+    ensures kept { IfOk result (λ m. IsKept (tree_of m.map)) }
+    ensures refused { IfErr result (λ e. (m : Tree) → IsHeader bytes.now m → IsOutside e) }
 {
     if bytes.is_empty() {
-        Ok(BTreeMap::new(alloc))
+        Ok(Labels {
+            map: Value::Map(Vec::new(alloc)),
+            by_label: BTreeMap::new(alloc),
+        })
     } else {
         read_labels(alloc, bytes, Part::Header)
     }
 }
 
-/// The value at a label that is a number.
-pub fn value_of<'a>(labels: &'a Labels, label: u8) -> Option<&'a Value>
-    ensures { option_map tree_of (option_copied result) ≡ value_at label (entry_trees labels.now) }
+/// Whether a map has no pairs.
+pub fn is_empty(map: &Value) -> bool
+    ensures { result ≡ is_empty (tree_of map.now) }
 {
-    labels.get(&Value::from(label))
+    match map {
+        Value::Map(pairs) => pairs.is_empty(),
+        _ => false,
+    }
+}
+
+/// The value at a label that is a number.
+pub fn value_of<'a>(map: &'a Value, label: u8) -> Option<&'a Value>
+    ensures { option_map (λ v. tree_of v.now) result ≡ value_at label (tree_of map.now) }
+{
+    map.get(i64::from(label))
 }
 
 /// Whether a label stands there.
 pub fn has_label(labels: &Labels, label: &Value) -> bool
-    ensures { result ≡ has_key tree_cmp (entry_trees labels.now) (tree_of label.now) }
+    ensures { result
+        ≡ has_key tree_cmp (entry_trees labels.now.by_label) (tree_of label.now) }
 {
-    labels.contains_key(label)
+    labels.by_label.contains_key(label)
 }

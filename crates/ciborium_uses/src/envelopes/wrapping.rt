@@ -1,11 +1,15 @@
 //! The tags around a message.
 
-ghost use Rattle.std.specs.Prelude.{◌≡◌, IfNone, IfSome, Some};
-ghost use Rattle.ciborium_uses.specs.Envelopes.{other_tag, other_text, tags_of, wrapping_text};
+ghost use Rattle.std.specs.Prelude.{◌≡◌, IfErr, IfNone, IfOk, IfSome, List, Some, ℕ};
+ghost use Rattle.ciborium.specs.Tree.{Tree};
+ghost use Rattle.ciborium.specs.View.{tree_of};
+ghost use Rattle.ciborium_uses.specs.Envelopes.{message_tree, other_tag, other_text};
+ghost use Rattle.ciborium_uses.specs.Envelopes.{wrapped_tree, wrapping_text};
 ghost use Rattle.ciborium_uses.specs.declared.envelopes.wrapping.OtherMessage.{OtherMessage};
 ghost use Rattle.ciborium_uses.specs.declared.envelopes.wrapping.Wrapping.{Wrapping};
 
 use super::error::EnvelopeError;
+use ciborium::Value;
 use std::fmt;
 
 /// The tags around a message, by which a receiver tells what it is given.
@@ -31,27 +35,38 @@ impl fmt::Display for Wrapping {
     }
 }
 
-/// What these tags are, the outer one and the one under it.
-pub fn wrapping_of(outer: Option<u64>, inner: Option<u64>) -> Option<Wrapping>
-    ensures some { IfSome result (λ w. tags_of w ≡ (outer, inner)) }
-    ensures none { IfNone result ((w : Wrapping) → ¬ (tags_of w ≡ (outer, inner))) }
+/// Takes the tags off a message. What stands under them is looked at later.
+///
+/// # Errors
+///
+/// `Other` where another message of COSE stands there, also under the tag of a token, and `Tags`
+/// where these are other tags.
+pub fn unwrapped(value: Value) -> Result<(Wrapping, Value), EnvelopeError>
+    ensures ok { IfOk result (λ r. tree_of value ≡ wrapped_tree r.0 (tree_of r.1)) }
+    ensures only { IfOk result (λ r. (w : Wrapping) (p : List ℕ) (u : Tree) (c s : List ℕ) →
+        tree_of value ≡ wrapped_tree w (message_tree p u c s) →
+        (r.0 ≡ w) × (tree_of r.1 ≡ message_tree p u c s)) }
+    ensures refused { IfErr result (λ e. (w : Wrapping) (p : List ℕ) (u : Tree) (c s : List ℕ) →
+        ¬ (tree_of value ≡ wrapped_tree w (message_tree p u c s))) }
 {
-    match (outer, inner) {
-        (None, None) => Some(Wrapping::Bare),
-        (Some(18), None) => Some(Wrapping::Signed),
-        (Some(61), Some(18)) => Some(Wrapping::Token),
-        _ => None,
+    let (tag, content) = match value.into_tag() {
+        Ok(tagged) => tagged,
+        Err(message) => return Ok((Wrapping::Bare, message)),
+    };
+    if tag == 18 {
+        let message = Box::into_inner(content);
+        if message.is_tag() {
+            return Err(EnvelopeError::Tags);
+        }
+        return Ok((Wrapping::Signed, message));
     }
-}
-
-/// The tags, the outer one and the one under it.
-pub fn tags_of(wrapping: Wrapping) -> (Option<u64>, Option<u64>)
-    ensures { result ≡ tags_of wrapping }
-{
-    match wrapping {
-        Wrapping::Bare => (None, None),
-        Wrapping::Signed => (Some(18), None),
-        Wrapping::Token => (Some(61), Some(18)),
+    if tag != 61 {
+        return Err(refusal_of(tag));
+    }
+    match Box::into_inner(content).into_tag() {
+        Ok((18, message)) => Ok((Wrapping::Token, Box::into_inner(message))),
+        Ok((tag, _)) => Err(refusal_of(tag)),
+        Err(_) => Err(EnvelopeError::Tags),
     }
 }
 
@@ -84,8 +99,8 @@ impl fmt::Display for OtherMessage {
     }
 }
 
-/// The other message that this is the tag of.
-pub fn other_of(tag: u64) -> Option<OtherMessage>
+// The other message that this is the tag of.
+fn other_of(tag: u64) -> Option<OtherMessage>
     ensures some { IfSome result (λ m. other_tag m ≡ tag) }
     ensures none { IfNone result ((m : OtherMessage) → ¬ (other_tag m ≡ tag)) }
 {
@@ -99,12 +114,8 @@ pub fn other_of(tag: u64) -> Option<OtherMessage>
     }
 }
 
-/// Why these tags are refused, the outer one and the one under it: another message stands under the
-/// outer one, or under that of a token, or neither.
-pub fn refusal_of(outer: Option<u64>, inner: Option<u64>) -> EnvelopeError {
-    let Some(tag) = (if outer == Some(61) { inner } else { outer }) else {
-        return EnvelopeError::Tags;
-    };
+// Why a tag is refused: another message stands under it, or none.
+fn refusal_of(tag: u64) -> EnvelopeError {
     match other_of(tag) {
         Some(message) => EnvelopeError::Other(message),
         None => EnvelopeError::Tags,

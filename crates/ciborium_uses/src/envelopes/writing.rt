@@ -1,48 +1,49 @@
 //! Signed messages that are written.
 
 ghost use Rattle.std.specs.Prelude.{◌≡◌, ◌≤◌, IfErr, IfOk};
-ghost use Rattle.ciborium.specs.Encoding.{item_of, written_bytes};
+ghost use Rattle.ciborium.specs.Encoding.{encoding, item_of};
 ghost use Rattle.ciborium.specs.Nesting.{nesting};
 ghost use Rattle.ciborium.specs.Spells.{Spells};
+ghost use Rattle.ciborium.specs.View.{tree_of};
 ghost use Rattle.ciborium.specs.declared.ser.error.Error.TheVariants.{Memory};
-ghost use Rattle.ciborium_uses.specs.Envelopes.{AreAlike, AreKept, IsHeader, IsOutside, IsWhole};
-ghost use Rattle.ciborium_uses.specs.Envelopes.{IsWrapped, IsWrittenAgain, entry_trees};
-ghost use Rattle.ciborium_uses.specs.Envelopes.{header_bytes, labels_tree, message_of};
-ghost use Rattle.ciborium_uses.specs.Envelopes.{message_tree, shortest_bytes, wrapped_tree};
+ghost use Rattle.ciborium_uses.specs.Envelopes.{AreAlike, IsHeader, IsKept, IsOutside, IsWhole};
+ghost use Rattle.ciborium_uses.specs.Envelopes.{IsWrapped, IsWrittenAgain, header_bytes};
+ghost use Rattle.ciborium_uses.specs.Envelopes.{message_of, message_tree, shortest_bytes};
+ghost use Rattle.ciborium_uses.specs.Envelopes.{wrapped_tree};
 ghost use Rattle.ciborium_uses.specs.declared.envelopes.Envelope.{Envelope};
 ghost use Rattle.ciborium_uses.specs.declared.envelopes.wrapping.Wrapping.{Wrapping};
 
 use super::error::EnvelopeError;
-use super::labels::Labels;
-use super::wrapping::{self, Wrapping};
+use super::labels::is_empty;
+use super::wrapping::Wrapping;
 use super::{Envelope, read_wrapped};
-use ciborium::tag::Captured;
-use ciborium::value::ByteBuf;
+use ciborium::tag::Required;
+use ciborium::value::{ByteBuf, Value};
 use ciborium::{ser, to_vec};
 use std::alloc::Global;
 use std::io;
 
-/// The bytes of a protected header: none where it is empty, else those of its map, the labels in
-/// their order (RFC 9052, section 3). They are read as that header.
+/// The bytes of a protected header: none where it is empty, else those of its map (RFC 9052,
+/// section 3). They are read as that header.
 ///
 /// # Errors
 ///
 /// Those of `to_vec`.
-pub fn header_bytes(alloc: Global, header: &Labels) -> Result<ByteBuf, ser::Error<io::Error>>
-    ensures bytes { IfOk result (λ bytes. bytes.0.items ≡ header_bytes (entry_trees header.now)) }
-    ensures again { IfOk result (λ bytes. AreKept header.now →
-        nesting (item_of (labels_tree header.now)) ≤ 256 →
-        IsHeader bytes.0.items (entry_trees header.now)) }
+pub fn header_bytes(alloc: Global, header: &Value) -> Result<ByteBuf, ser::Error<io::Error>>
+    ensures bytes { IfOk result (λ bytes. bytes.0.items ≡ header_bytes (tree_of header.now)) }
+    ensures again { IfOk result (λ bytes. IsKept (tree_of header.now) →
+        nesting (item_of (tree_of header.now)) ≤ 256 →
+        IsHeader bytes.0.items (tree_of header.now)) }
 {
-    if header.is_empty() {
+    if is_empty(header) {
         return Ok(ByteBuf(Vec::new(alloc)));
     }
     Ok(ByteBuf(to_vec(alloc, header)?))
 }
 
-/// Writes the message of these parts under its tags: each in its shortest spelling, and the labels
-/// of the unprotected header in their order. The bytes of the parts are written as they are given;
-/// that they are a header, claims and the signature of both is for the caller to see to.
+/// Writes the message of these parts under its tags, each in its shortest spelling. The bytes of
+/// the parts are written as they are given; that they are a header, claims and the signature of
+/// both is for the caller to see to.
 ///
 /// # Errors
 ///
@@ -51,21 +52,24 @@ pub fn write_envelope(
     alloc: Global,
     wrapping: Wrapping,
     protected: &ByteBuf,
-    unprotected: &Labels,
+    unprotected: &Value,
     payload: &ByteBuf,
     signature: &ByteBuf,
 ) -> Result<Vec<u8>, ser::Error<io::Error>>
-    ensures bytes { IfOk result (λ bytes. bytes.items ≡ written_bytes (item_of
-        (wrapped_tree wrapping (message_tree protected.now.0.items (labels_tree unprotected.now)
-        payload.now.0.items signature.now.0.items)))) }
+    ensures bytes { IfOk result (λ bytes. bytes.items ≡ encoding
+        (wrapped_tree wrapping (message_tree protected.now.0.items (tree_of unprotected.now)
+        payload.now.0.items signature.now.0.items))) }
     ensures item { IfOk result (λ bytes. Spells bytes.items (item_of
-        (wrapped_tree wrapping (message_tree protected.now.0.items (labels_tree unprotected.now)
+        (wrapped_tree wrapping (message_tree protected.now.0.items (tree_of unprotected.now)
         payload.now.0.items signature.now.0.items)))) }
     ensures refused { IfErr result (λ e. e ≡ Memory) }
 {
-    let (outer, inner) = wrapping::tags_of(wrapping);
     let message = (protected, unprotected, payload, signature);
-    to_vec(alloc, &Captured(outer, Captured(inner, message)))
+    match wrapping {
+        Wrapping::Bare => to_vec(alloc, &message),
+        Wrapping::Signed => to_vec(alloc, &Required::<_, 18>(message)),
+        Wrapping::Token => to_vec(alloc, &Required::<_, 61>(Required::<_, 18>(message))),
+    }
 }
 
 /// Reads all of the bytes as an envelope, and writes that one again under its tags, in its shortest
@@ -114,15 +118,16 @@ fn write_under(
 ///
 /// # Errors
 ///
-/// Those of `read_wrapped`, of which an envelope that is whole leaves `Memory` alone.
+/// Those of `read_wrapped`, of which an envelope that is whole under these tags leaves `Memory`
+/// alone.
 pub fn through_memory(
     alloc: Global,
     wrapping: Wrapping,
     envelope: &Envelope,
 ) -> Result<(Wrapping, Envelope), EnvelopeError>
-    ensures again { IsWhole envelope.now → IfOk result
+    ensures again { IsWhole wrapping envelope.now → IfOk result
         (λ again. (again.0 ≡ wrapping) × AreAlike again.1 envelope.now) }
-    ensures refused { IsWhole envelope.now → IfErr result IsOutside }
+    ensures refused { IsWhole wrapping envelope.now → IfErr result IsOutside }
 {
     let bytes = write_under(alloc, wrapping, envelope)?;
     read_wrapped(alloc, &bytes)

@@ -1,9 +1,10 @@
 //! A key of a map: an enum that is written as the names of its variants.
 ghost use Rattle.std.specs.Prelude.{Ok, refl};
 ghost use Rattle.ciborium.specs.Readings.{ordered_by};
+ghost use Rattle.ciborium.specs.ReadsBack.{by_form};
 ghost use Rattle.ciborium.specs.VariantReadings.{enum_of};
 ghost use Rattle.ciborium.specs.WrittenContents.{from_content};
-ghost use Rattle.ciborium_uses.specs.Topics.{topic_back, topic_form, topic_item, topics};
+ghost use Rattle.ciborium_uses.specs.Topics.{topic_back, topic_item, topics};
 ghost use Rattle.ciborium_uses.specs.declared.settings.topic.Topic.{Topic};
 
 use ciborium::de::{Deserialize, Key, Source};
@@ -77,7 +78,7 @@ impl ReadsBack for Topic {
 
     ghost levels = { λ topic. 1 };
 
-    ghost reads_back = { topic_back };
+    ghost reads_back = { λ way plain. topic_back way };
 }
 
 impl WritesContent for Topic {
@@ -85,5 +86,5 @@ impl WritesContent for Topic {
 }
 
 impl FormReadsBack for Topic {
-    ghost form_reads_back = { topic_form };
+    ghost form_reads_back = { λ order. topic_back (by_form order) };
 }

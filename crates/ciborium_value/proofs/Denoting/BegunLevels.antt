@@ -1,30 +1,25 @@
 -- The levels of a text while it is read.
 use Rattle.std.proofs.Common.{true, ◌≡◌, ◌≢◌, ◌<◌, ◌≤◌, IfErr, IfOk, Ok, Err, Result, refl, ℕ, Vec, Global, Box, length}
-use Rattle.std.proofs.Common.{arith, List, [], ◌∷◌, ◌++◌, map, reverse, ap, ◌∙◌, subst, sym}
-use Rattle.std.proofs.lemmas.List.{length-map, length-reverse, map-append, reverse-append}
+use Rattle.std.proofs.{Common.{arith, List, [], ◌∷◌, ◌++◌, map, reverse, ap, ◌∙◌, subst, sym}, lemmas.List.length-map}
+use Rattle.std.proofs.lemmas.List.{length-reverse, map-append, reverse-append}
 use Rattle.ciborium_value.specs.declared.from_notation.levels.Level.{Level}
-use Rattle.ciborium_value.specs.declared.from_notation.levels.Level.TheVariants as level
-use Rattle.ciborium_value.specs.declared.from_notation.tokens.Token.{Token as Read}
-use Rattle.ciborium_value.specs.declared.from_notation.tokens.Token.TheVariants as read
-use Rattle.ciborium_value.specs.declared.tree.Value.{Value}
-use Rattle.ciborium_value.specs.declared.tree.Value.TheViews as value
-use Rattle.ciborium_value.specs.Tokens as tokens
-use Rattle.ciborium_value.specs.Tokens.{Token}
-use Rattle.ciborium_value.specs.Tree as trees
-use Rattle.ciborium_value.specs.Tree.{Tree}
-use Rattle.ciborium_value.specs.View.{pair_trees, tree_of, tree_pairs_from, trees_from}
+use Rattle.ciborium_value.specs.{declared.from_notation.tokens.Token.Token as Read, declared.tree.Value.Value}
+use Rattle.ciborium_value.specs.{Tokens.Token, Tree.Tree, View.{pair_trees, tree_of, tree_pairs_from, trees_from}}
 use Rattle.ciborium_value.specs.inner.ReadTokens.{Around, Await, Leads, around_of, behind, in_array, in_keys, item}
 use Rattle.ciborium_value.specs.inner.ReadTokens.{Completes, IsMisplaced, IsRoom, array_part, await_of, in_tag}
 use Rattle.ciborium_value.specs.inner.ReadTokens.{in_values, map_part, opens, token_read}
-use Rattle.ciborium_value.specs.declared.from_notation.error.NotationError.{NotationError}
-use Rattle.ciborium_value.specs.Denotes.{At}
+use Rattle.ciborium_value.specs.{declared.from_notation.error.NotationError.NotationError, Denotes.At}
 use Rattle.ciborium_value.specs.declared.from_notation.error.NotationFault.TheVariants.{TooDeep}
 use Rattle.ciborium_value.specs.declared.from_notation.levels.Due.{Due}
 use Rattle.ciborium_value.proofs.Denoting.Steps.{Begun, first-item, first-key, first_leads, key_leads, leads-array}
 use Rattle.ciborium_value.proofs.Denoting.Steps.{leads-comma, leads-end, leads-leaf, leads-map, leads-map-end}
 use Rattle.ciborium_value.proofs.Denoting.Steps.{leads-next-key, leads-no-item, leads-no-pair, leads-tag, leads-tag-end}
-use Rattle.ciborium_value.proofs.Denoting.Steps.{opens-deeper}
-use Rattle.ciborium_value.proofs.Trees.Views.{tree_of-Array, tree_of-Map, tree_of-Tag}
+use Rattle.ciborium_value.proofs.{Denoting.Steps.opens-deeper, Trees.Views.{tree_of-Array, tree_of-Map, tree_of-Tag}}
+use Rattle.ciborium_value.specs.declared.from_notation.levels.Level.TheVariants as level
+use Rattle.ciborium_value.specs.declared.from_notation.tokens.Token.TheVariants as read
+use Rattle.ciborium_value.specs.declared.tree.Value.TheViews as value
+use Rattle.ciborium_value.specs.Tokens as tokens
+use Rattle.ciborium_value.specs.Tree as trees
 
 -- the innermost level stands last
 pub around_last : (levels : List Level) (level : Level) →
@@ -55,9 +50,8 @@ array_comma ws w ls more items k comma same pushed = leads_as _ _ (ap token_read
     (leads-comma (map around_of (reverse ls)) (map tree_of ws) (tree_of w))
 
 pub array_end : (ws : List Value) (w : Value) (levels : List Around) (items : Vec Value Global) (k : Read) →
-    k ≡ read.EndArray → items.items ≡ ws ++ w ∷ [] →
-    Leads (in_array (map tree_of ws) ∷ levels) (behind (tree_of w)) (token_read k) levels
-    (behind (tree_of (value.Array items)))
+    k ≡ read.EndArray → items.items ≡ ws ++ w ∷ [] → Leads (in_array (map tree_of ws) ∷ levels)
+    (behind (tree_of w)) (token_read k) levels (behind (tree_of (value.Array items)))
 array_end ws w levels items k end same = leads_as _ _ (ap token_read (sym end)) refl
     (sym (ap behind (tree_of-Array items ∙
     ap (λ x. trees.array (trees_from x)) (ap (map tree_of) same ∙ map-append tree_of ws (w ∷ [])))))

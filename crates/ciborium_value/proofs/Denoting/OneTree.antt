@@ -1,12 +1,11 @@
 -- A text denotes one tree at most.
 use Rattle.std.proofs.Common.{◌≡◌, ℕ, Bool, true, false, List, sym, ap, ◌∙◌, subst}
 use Rattle.ciborium_value.specs.Denotes.{Begins, BeginsItems, BeginsPairs, IsSeparated, IsToken, alone, item, listed}
-use Rattle.ciborium_value.specs.Denotes.{mapped, no_item, no_pair, pair, tagged}
-use Rattle.ciborium_value.specs.Tokens.{begin_array, begin_map, begin_tag, colon, comma, end_tag, leaf}
-use Rattle.ciborium_value.specs.Tree as trees
-use Rattle.ciborium_value.specs.Tree.{Tree, TreePairs, Trees}
+use Rattle.ciborium_value.specs.{Denotes.{mapped, no_item, no_pair, pair, tagged}, Tokens.{begin_array, begin_map}}
+use Rattle.ciborium_value.specs.{Tokens.{begin_tag, colon, comma, end_tag, leaf}, Tree.{Tree, TreePairs, Trees}}
 use Rattle.ciborium_value.specs.laws.NotationLaws.{OneTreeIsDenoted}
 use Rattle.ciborium_value.proofs.Denoting.Steps.{begun, items-end, one-token, pairs-end}
+use Rattle.ciborium_value.specs.Tree as trees
 
 -- where a comma is due or none, what follows it is one text
 one-separated : (due : Bool) (t s s' : List ℕ) → IsSeparated due t s → IsSeparated due t s' → s' ≡ s

@@ -1,41 +1,30 @@
 -- What is printed of a tree denotes it.
-use Rattle.std.proofs.Common.{◌≡◌, ◌<◌, ◌≤◌, ◌+◌, ◌*◌, ◌/◌, ◌%◌, ◌^◌, ◌==◌, ℕ, zero, suc, Bool, true, false}
-use Rattle.std.proofs.Common.{List, [], ◌∷◌, ◌++◌, Option, Some, None, ℤ, pos, negsuc, codes, decimal}
-use Rattle.std.proofs.Common.{if◌then◌else◌, nat_lt, get_or, length, refl, sym, ap, ◌∙◌, subst, arith, rules}
-use Rattle.std.proofs.Common.{append_assoc}
-use Rattle.std.proofs.Common.{append-nil, All, slice_index}
-use Rattle.std.specs.Char.{digit_value}
-use Rattle.std.specs.Fmt.{signed_decimal}
-use Rattle.std.specs.List.{flat_map, repeat}
-use Rattle.std.specs.Str.Parse.{AllDigits, digits_value_after}
-use Rattle.std.proofs.lemmas.Bool.{lt-ltb}
-use Rattle.std.proofs.lemmas.Fmt.{decimal_is_IsNumeral_wide}
-use Rattle.std.proofs.lemmas.Str.{encode_ascii}
+use Rattle.std.proofs.Common.{◌≡◌, ◌<◌, ◌≤◌, ◌+◌, ◌*◌, ◌/◌, ◌%◌, ◌^◌, ◌==◌, ℕ, zero, suc, Bool, true, false, List, []}
+use Rattle.std.proofs.Common.{◌∷◌, ◌++◌, Option, Some, None, ℤ, pos, negsuc, codes, decimal, if◌then◌else◌, nat_lt}
+use Rattle.std.proofs.Common.{get_or, length, refl, sym, ap, ◌∙◌, subst, arith, rules, append_assoc, append-nil, All}
+use Rattle.std.proofs.{Common.{slice_index, inl, inr, nat_le, option_map}, lemmas.Bool.lt-ltb}
+use Rattle.std.proofs.{lemmas.Fmt.{decimal_is_IsNumeral_wide, decimal_by_steps_wide}, lemmas.Str.encode_ascii}
+use Rattle.std.proofs.{lemmas.Bool.Decides.eqb_tells, lemmas.List.Elements.{All-head, All-tail}}
+use Rattle.std.proofs.lemmas.Str.Parse.{tells_digits}
+use Rattle.std.specs.{Char.digit_value, Fmt.signed_decimal, List.{flat_map, repeat}, Str.Parse.AllDigits}
+use Rattle.std.specs.Str.Parse.{digits_value_after, IsNumeral, digits_value}
 use Rattle.hex.specs.Hex.{encode_lower, encode_with, lower_digits}
-use Rattle.ciborium_value.specs.Denotes.{Begins, BeginsItems, BeginsPairs, DenotesWithin, IsSeparated, IsToken}
-use Rattle.ciborium_value.specs.Denotes.{alone, depth, depth_of_items, depth_of_pairs, item, listed}
-use Rattle.ciborium_value.specs.Denotes.{mapped, no_item, no_pair, pair, tagged}
-use Rattle.ciborium_value.specs.Notation.{comma as comma_text, escape, escaped, last_break, line_break, needs_escape}
-use Rattle.ciborium_value.specs.Notation.{notation_on, notations_on, one_level_more, pair_notations_on}
-use Rattle.ciborium_value.specs.ProperTrees.{AreProperTreePairs, AreProperTrees, IsProperTree}
-use Rattle.ciborium_value.specs.Tokens.{Token, begin_array, begin_map, begin_tag, begins_float, behind, behind_blanks}
-use Rattle.ciborium_value.specs.Tokens.{colon, comma, digit_of, digits_behind, end_array, end_map, end_tag, hex_at}
-use Rattle.ciborium_value.specs.Tokens.{is_white, leaf, prepended, text_at, token_at, unsigned_at, whole_at}
-use Rattle.ciborium_value.specs.Tree as trees
+use Rattle.ciborium_value.specs.Denotes.{Begins, BeginsItems, BeginsPairs, DenotesWithin, IsSeparated, IsToken, alone}
+use Rattle.ciborium_value.specs.Denotes.{depth, depth_of_items, depth_of_pairs, item, listed, mapped, no_item, no_pair}
+use Rattle.ciborium_value.specs.{Denotes.{pair, tagged}, Notation.{comma as comma_text, escape, escaped, last_break}}
+use Rattle.ciborium_value.specs.Notation.{line_break, needs_escape, notation_on, notations_on, one_level_more}
+use Rattle.ciborium_value.specs.{Notation.{pair_notations_on, styled_notation}, ProperTrees.AreProperTreePairs}
+use Rattle.ciborium_value.specs.{ProperTrees.{AreProperTrees, IsProperTree}, Tokens.{Token, begin_array, begin_map}}
+use Rattle.ciborium_value.specs.Tokens.{begin_tag, begins_float, behind, behind_blanks, colon, comma, digit_of}
+use Rattle.ciborium_value.specs.Tokens.{digits_behind, end_array, end_map, end_tag, hex_at, is_white, leaf, prepended}
+use Rattle.ciborium_value.specs.Tokens.{text_at, token_at, unsigned_at, whole_at, digits_at, is_high, minus_token}
+use Rattle.ciborium_value.specs.Tokens.{number_token, one_digit_more, plus_token, text_token, token_of, unit_in}
 use Rattle.ciborium_value.specs.Tree.{Tree, TreePairs, Trees, tree_pairs_count, trees_count}
 use Rattle.ciborium_value.specs.laws.NotationLaws.{PrintedAlikeIsEqual, PrintedIsDenoted}
-use Rattle.ciborium_value.specs.Notation.{styled_notation}
-use Rattle.ciborium_value.specs.Tokens.{digits_at, is_high, minus_token, number_token, one_digit_more, plus_token}
-use Rattle.ciborium_value.specs.Tokens.{text_token, token_of, unit_in}
 use Rattle.ciborium_ll.specs.Integer.{IsInRange}
-use Rattle.std.proofs.Common.{inl, inr, nat_le, option_map}
-use Rattle.std.proofs.lemmas.Bool.Decides.{eqb_tells}
-use Rattle.std.proofs.lemmas.Fmt.{decimal_by_steps_wide}
-use Rattle.std.proofs.lemmas.List.Elements.{All-head, All-tail}
-use Rattle.std.proofs.lemmas.Str.Parse.{tells_digits}
-use Rattle.std.specs.Str.Parse.{IsNumeral, digits_value}
-use Rattle.ciborium_value.proofs.Denoting.OneTree.{one_tree_is_denoted}
-use Rattle.ciborium_value.proofs.Denoting.Texts.{plain_byte, unit_character, utf8_token}
+use Rattle.ciborium_value.proofs.{Denoting.OneTree.one_tree_is_denoted, Denoting.Texts.{plain_byte, unit_character}}
+use Rattle.ciborium_value.proofs.Denoting.Texts.{utf8_token}
+use Rattle.ciborium_value.specs.Tree as trees
 
 -- ---- what may follow a tree: a comma, a closing bracket, a parenthesis, a colon or a line feed
 
@@ -205,12 +194,10 @@ decimal-whole n r most s = of (decimal n) refl (decimal_is_IsNumeral_wide n (ome
     found zero c ds m e all value =
         let ten : c ∷ ds ≡ 48 ∷ [] = sym e ∙ (begins-right n (omega (arith, most))).0 (sym m) in
         ap (λ (l : List ℕ). unsigned_at (l ++ r)) ten ∙ zero-at r s ∙ ap (λ x. Some (x, r)) m
-    found (suc k) c ds m e all value =
-        digits-at c n ds r (first-not-zero n c ds (omega (arith, m)) most e) all value s
+    found (suc k) c ds m e all value = digits-at c n ds r (first-not-zero n c ds (omega (arith, m)) most e) all value s
 
     of : (l : List ℕ) → l ≡ decimal n → IsNumeral 10 (decimal n) × (digits_value 10 (decimal n) ≡ n) →
-        (c : ℕ) × (ds : List ℕ) × (decimal n ≡ c ∷ ds) × (48 ≤ c) × (c ≤ 57) ×
-        (whole_at (c ∷ (ds ++ r)) ≡ Some (n, r))
+        (c : ℕ) × (ds : List ℕ) × (decimal n ≡ c ∷ ds) × (48 ≤ c) × (c ≤ 57) × (whole_at (c ∷ (ds ++ r)) ≡ Some (n, r))
     of [] e (numeral, value) = let zero = ap length e in absurd (omega (arith, numeral.0, zero))
     of (c ∷ ds) e (numeral, value) =
         let all : AllDigits 10 (c ∷ ds) = subst (AllDigits 10) (sym e) numeral.1 in
@@ -450,8 +437,7 @@ mutual
       alone l _ _ r (at (codes "false" ++ r) r (leaf (trees.boolean false)) refl refl)
   printed l lines trees.null r _ h f = alone l _ _ r (at (codes "null" ++ r) r (leaf trees.null) refl refl)
   printed zero lines (trees.tag n v) r m h f = absurd (omega (arith, m))
-  printed (suc l) lines (trees.tag n v) r m h f =
-      subst (λ (t : List ℕ). Begins (suc l) t (trees.tag n v) r)
+  printed (suc l) lines (trees.tag n v) r m h f = subst (λ (t : List ℕ). Begins (suc l) t (trees.tag n v) r)
       (sym (append_assoc (decimal n) (40 ∷ (notation_on lines v ++ (41 ∷ []))) r ∙
       ap (λ (t : List ℕ). decimal n ++ (40 ∷ t)) (append_assoc (notation_on lines v) (41 ∷ []) r)))
       (tagged l n v _ _ (41 ∷ r) r (at (decimal n ++ (40 ∷ (notation_on lines v ++ (41 ∷ r))))
@@ -528,5 +514,4 @@ printed_is_denoted false v h = on-lines None v h
 
 pub printed_alike_is_equal : PrintedAlikeIsEqual
 printed_alike_is_equal b v w h k e = one_tree_is_denoted (styled_notation b w) v w
-    (depth v, subst (λ t. DenotesWithin (depth v) t v) e (printed_is_denoted b v h))
-    (depth w, printed_is_denoted b w k)
+    (depth v, subst (λ t. DenotesWithin (depth v) t v) e (printed_is_denoted b v h)) (depth w, printed_is_denoted b w k)

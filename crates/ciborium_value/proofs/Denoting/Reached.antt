@@ -1,12 +1,9 @@
 -- How far a text is read.
 use Rattle.std.proofs.Common.{◌≡◌, ◌≢◌, ℕ, List, [], ◌∷◌, Some, None, IfErr, IfOk, Ok, Err, Result, refl, sym, ap}
 use Rattle.std.proofs.Common.{arith, inl, inr, length, subst}
-use Rattle.ciborium_value.specs.Denotes.{At, Begins, Denotes, DenotesWithin, MayRefuse, Memory}
-use Rattle.ciborium_value.specs.Tokens.{Token, behind_blanks, token_at}
-use Rattle.ciborium_value.specs.Tree.{Tree}
-use Rattle.ciborium_value.specs.View.{tree_of}
-use Rattle.ciborium_value.specs.declared.from_notation.error.NotationError.{NotationError}
-use Rattle.ciborium_value.specs.declared.tree.Value.{Value}
+use Rattle.ciborium_value.specs.{Denotes.{At, Begins, Denotes, DenotesWithin, MayRefuse, Memory}, Tokens.Token}
+use Rattle.ciborium_value.specs.{Tokens.{behind_blanks, token_at}, Tree.Tree, View.tree_of}
+use Rattle.ciborium_value.specs.{declared.from_notation.error.NotationError.NotationError, declared.tree.Value.Value}
 use Rattle.ciborium_value.specs.inner.ReadTokens.{Around, Await, Completes, IsMisplaced, IsReached, IsRoom, Leads}
 use Rattle.ciborium_value.specs.inner.ReadTokens.{behind, item}
 use Rattle.ciborium_value.proofs.Denoting.Steps.{front}
@@ -47,10 +44,9 @@ no-front levels due t s b some e l v c = elim (front l levels due t v c) [
   | inr h ↦ let same : h.2.0 ≡ s = cc (b, h.2.1) in cc (e, ap token_at same, h.2.2)
 ]
 
-pub reached-misplaced : (text : List ℕ) (limit : ℕ) (levels : List Around) (due : Await) (t s rest : List ℕ)
-    (k : Token) (e : NotationError) → IsReached text limit levels due t → behind_blanks t ≡ Some s →
-    token_at s ≡ Some (k, rest) → IsMisplaced levels due k limit e → (l : ℕ) (v : Tree) → DenotesWithin l text v →
-    MayRefuse limit e l
+pub reached-misplaced : (text : List ℕ) (limit : ℕ) (levels : List Around) (due : Await) (t s rest : List ℕ) (k : Token)
+    (e : NotationError) → IsReached text limit levels due t → behind_blanks t ≡ Some s → token_at s ≡ Some (k, rest) →
+    IsMisplaced levels due k limit e → (l : ℕ) (v : Tree) → DenotesWithin l text v → MayRefuse limit e l
 reached-misplaced text limit levels due t s rest k e reached b f misplaced l v d =
     misplaced l t rest v (s, b, f) (reached.on l v d)
 
@@ -67,8 +63,7 @@ token_refused text limit levels due t s (At p fault) reached b some none l v d =
 end_reached : (text t : List ℕ) (limit : ℕ) (levels : List Around) (due : Await) (w : Tree) →
     IsReached text limit levels due t → (levels ≡ []) × (due ≡ behind w) → IsReached text limit [] (behind w) t
 end_reached text t limit levels due w reached (none, ended) =
-    subst (λ x. IsReached text limit x (behind w) t) none
-    (subst (λ x. IsReached text limit levels x t) ended reached)
+    subst (λ x. IsReached text limit x (behind w) t) none (subst (λ x. IsReached text limit levels x t) ended reached)
 
 pub end_ok : (text : List ℕ) (limit : ℕ) (levels : List Around) (due : Await) (t : List ℕ)
     (r : Result Value NotationError) → IsReached text limit levels due t → behind_blanks t ≡ Some [] →

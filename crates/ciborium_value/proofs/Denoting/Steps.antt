@@ -1,17 +1,15 @@
 -- What each token makes of what is open and due.
-use Rattle.std.proofs.Common.{◌≡◌, ◌≢◌, ℕ, zero, suc, ◌+◌, ◌<◌, Bool, true, false, List, [], ◌∷◌, ◌++◌, length}
-use Rattle.std.proofs.Common.{Some, ◌⊎◌, inl, inr, refl, sym, ap, ◌∙◌, subst, arith}
-use Rattle.ciborium_value.specs.Denotes.{Begins, BeginsItems, BeginsPairs, IsSeparated, IsToken, alone, listed}
-use Rattle.ciborium_value.specs.Denotes.{mapped, no_item, no_pair, pair, tagged}
-use Rattle.ciborium_value.specs.Denotes as denotes
-use Rattle.ciborium_value.specs.Tokens.{Token, behind_blanks, token_at, leaf, begin_tag, end_tag, begin_array}
-use Rattle.ciborium_value.specs.Tokens.{end_array, begin_map, end_map, comma, colon}
-use Rattle.ciborium_value.specs.Tree as trees
-use Rattle.ciborium_value.specs.Tree.{Tree, Trees, TreePairs}
-use Rattle.ciborium_value.specs.View.{trees_from, tree_pairs_from}
+use Rattle.std.proofs.Common.{◌≡◌, ◌≢◌, ℕ, zero, suc, ◌+◌, ◌<◌, Bool, true, false, List, [], ◌∷◌, ◌++◌, length, Some}
+use Rattle.std.proofs.Common.{◌⊎◌, inl, inr, refl, sym, ap, ◌∙◌, subst, arith}
+use Rattle.ciborium_value.specs.Denotes.{Begins, BeginsItems, BeginsPairs, IsSeparated, IsToken, alone, listed, mapped}
+use Rattle.ciborium_value.specs.{Denotes.{no_item, no_pair, pair, tagged}, Tokens.{Token, behind_blanks, token_at}}
+use Rattle.ciborium_value.specs.Tokens.{leaf, begin_tag, end_tag, begin_array, end_array, begin_map, end_map, comma}
+use Rattle.ciborium_value.specs.{Tokens.colon, Tree.{Tree, Trees, TreePairs}, View.{trees_from, tree_pairs_from}}
 use Rattle.ciborium_value.specs.inner.ReadTokens.{Around, Complete, Completes, Leads, array_part, behind, in_array}
 use Rattle.ciborium_value.specs.inner.ReadTokens.{in_keys, in_tag, in_values, item, map_part, opens, pairs_before}
 use Rattle.ciborium_value.specs.inner.ReadTokens.{trees_before}
+use Rattle.ciborium_value.specs.Denotes as denotes
+use Rattle.ciborium_value.specs.Tree as trees
 
 -- ---- trees in a row
 
@@ -129,8 +127,7 @@ pair-comma l t r z ps at (pair _ _ k v qs _ s u w x _ sep d is f m) =
 pub other-behind-value : (l : ℕ) (h : Token) (t r z : List ℕ) (ps : TreePairs) → h ≢ end_map → h ≢ comma →
     IsToken t h r → BeginsPairs l true t ps z → ⊥
 other-behind-value l h t r z ps f g at (no_pair _ _ _ _ is) = f (one-token t h end_map r z at is).0
-other-behind-value l h t r z ps f g at (pair _ _ k v qs _ s u w x _ sep d is y m) =
-    g (one-token t h comma r s at sep).0
+other-behind-value l h t r z ps f g at (pair _ _ k v qs _ s u w x _ sep d is y m) = g (one-token t h comma r s at sep).0
 
 -- the same tree behind the same text, where as many levels may be open
 moved : (levels : List Around) (x : Tree) {m n : ℕ} {v w : Tree} {r s : List ℕ} → m ≡ n → v ≡ w → r ≡ s →

@@ -1,30 +1,20 @@
 -- Texts and numbers of notation, as they are read.
 use Rattle.std.proofs.Common.{◌≡◌, ◌≤◌, ◌<◌, ◌+◌, ◌*◌, ◌^◌, ℕ, Bool, true, false, List, [], ◌∷◌, ◌++◌, Option, Some}
-use Rattle.std.proofs.Common.{None}
-use Rattle.std.proofs.Common.{rules, encode_utf8, if◌then◌else◌, option_map, refl, sym, ap, ◌∙◌, subst, arith}
-use Rattle.std.proofs.Common.{append_assoc}
-use Rattle.std.proofs.Common.{IsUtf8, le_trans, nat_lt, drop, get_or, length, length-drop, take, take_all, ◌-◌}
-use Rattle.std.proofs.Common.{append-nil}
-use Rattle.std.proofs.lemmas.List.{take-append-drop}
-use Rattle.std.proofs.Common.{inl, inr}
-use Rattle.std.proofs.Math.Nat.{mul-le-mul_left}
-use Rattle.std.specs.Char.{InScalarRange, OutOfScalarRange}
-use Rattle.std.specs.Str.{is_utf8}
-use Rattle.std.proofs.lemmas.Str.{IsUtf8-from_is_utf8, is_utf8-from_IsUtf8}
-use Rattle.std.proofs.lemmas.List.Elements.{All-head, All-tail}
-use Rattle.ciborium_value.specs.Notation.{IsPlain, needs_escape}
-use Rattle.ciborium_value.specs.Tokens.{digit_of, digits_at, digits_behind, is_high, is_low, leaf, low_at}
-use Rattle.ciborium_value.specs.Tokens.{low_unit_at, paired, prepended, text_at, text_token, unit_at, unit_in, unit_of}
+use Rattle.std.proofs.Common.{None, rules, encode_utf8, if◌then◌else◌, option_map, refl, sym, ap, ◌∙◌, subst, arith}
+use Rattle.std.proofs.Common.{append_assoc, IsUtf8, le_trans, nat_lt, drop, get_or, length, length-drop, take, take_all}
+use Rattle.std.proofs.{Common.{◌-◌, append-nil, inl, inr}, lemmas.List.take-append-drop, Math.Nat.mul-le-mul_left}
+use Rattle.std.proofs.{lemmas.Str.{IsUtf8-from_is_utf8, is_utf8-from_IsUtf8}, lemmas.List.Elements.{All-head, All-tail}}
+use Rattle.std.specs.{Char.{InScalarRange, OutOfScalarRange}, Str.is_utf8}
+use Rattle.ciborium_value.specs.{Notation.{IsPlain, needs_escape}, Tokens.{digit_of, digits_at, digits_behind, is_high}}
+use Rattle.ciborium_value.specs.Tokens.{is_low, leaf, low_at, low_unit_at, paired, prepended, text_at, text_token}
+use Rattle.ciborium_value.specs.{Tokens.{unit_at, unit_in, unit_of}, inner.ReadTokens.IsNoNumber}
 use Rattle.ciborium_value.specs.Tree as trees
-use Rattle.ciborium_value.specs.inner.ReadTokens.{IsNoNumber}
 
 -- ---- units
 
 -- what follows a unit
 abbrev pub after_unit : ℕ → List ℕ → Option (List ℕ × List ℕ)
-after_unit n t = if is_high n then low_at n t
-    else if is_low n then None
-    else prepended (encode_utf8 n) (text_at t)
+after_unit n t = if is_high n then low_at n t else if is_low n then None else prepended (encode_utf8 n) (text_at t)
 
 abbrev pub after_low : ℕ → ℕ → List ℕ → Option (List ℕ × List ℕ)
 after_low high n t = if is_low n then prepended (encode_utf8 (paired high n)) (text_at t) else None
@@ -106,8 +96,7 @@ unit_alone t r n e high out small = unit_some t r n e ∙
     low = of (nat_lt n 56320) refl (elim out [ inl a ↦ omega (arith, a) | inr b ↦ omega (arith, b, small) ])
         (elim out [ inl a ↦ omega (arith, a) | inr b ↦ omega (arith, b, small) ])
 
-pub low_not : (high : ℕ) (t r : List ℕ) (n : ℕ) → unit_in t ≡ Some (n, r) → is_low n ≡ false →
-    low_unit_at high t ≡ None
+pub low_not : (high : ℕ) (t r : List ℕ) (n : ℕ) → unit_in t ≡ Some (n, r) → is_low n ≡ false → low_unit_at high t ≡ None
 low_not high t r n e low = low_some high t r n e ∙
     ap (λ b. if b then prepended (encode_utf8 (paired high n)) (text_at r) else None) low
 

@@ -1,7 +1,6 @@
 -- The bytes of a bignum hold its number.
 use Rattle.std.proofs.Common.{◌≡◌, ℕ, zero, suc, ◌-◌, List, [], ◌∷◌, length, drop, refl, sym, ap, ◌∙◌, arith}
-use Rattle.ciborium_value.specs.Meaning.{without_zeros}
-use Rattle.ciborium_value.specs.lemmas.ReadsBackBignums.{stays, length-without_zeros}
+use Rattle.ciborium_value.specs.{Meaning.without_zeros, lemmas.ReadsBackBignums.{stays, length-without_zeros}}
 
 -- what is left behind the leading zeros, by their number
 pub zeros_dropped : (bs : List ℕ) → drop (length bs - length (without_zeros bs)) bs ≡ without_zeros bs

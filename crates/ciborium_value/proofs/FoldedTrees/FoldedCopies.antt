@@ -2,29 +2,24 @@
 use Rattle.std.proofs.Common.{◌≡◌, ℕ, cond, zero, suc, ◌+◌, ◌<◌, true, false, List, [], ◌∷◌, ◌++◌, map, length, Option}
 use Rattle.std.proofs.Common.{Some, None, option_map, pos, negsuc, Vec, Global, refl, sym, ap, ◌∙◌, arith, append_assoc}
 use Rattle.std.proofs.lemmas.List.{length-map, reverse-append}
-use Rattle.ciborium_value.specs.Counts.{node_count, trees_node_count, tree_pairs_node_count}
-use Rattle.ciborium_value.specs.Encoding.{item_of, items_of, pairs_of}
-use Rattle.ciborium_value.specs.Folded.{folded, trees_folded, tree_pairs_folded, tree_folding_bytes}
-use Rattle.ciborium_value.specs.inner.FoldedCopies.{where_folded, copied, pairs_in_turn, nodes_of}
+use Rattle.ciborium_value.specs.{Counts.{node_count, trees_node_count, tree_pairs_node_count}, Encoding.item_of}
+use Rattle.ciborium_value.specs.{Encoding.{items_of, pairs_of}, Folded.{folded, trees_folded, tree_pairs_folded}}
+use Rattle.ciborium_value.specs.{Folded.tree_folding_bytes, inner.FoldedCopies.{where_folded, copied, pairs_in_turn}}
+use Rattle.ciborium_value.specs.inner.FoldedCopies.{nodes_of, IsUnfolded, path_trees, coming_trees, all_coming}
 use Rattle.ciborium_value.specs.Meaning.{tag_meaning, trees_more, tree_pairs_more, simple_meaning, is_bignum_tag}
-use Rattle.ciborium_value.specs.inner.Frames as frames
 use Rattle.ciborium_value.specs.inner.Frames.{TreeFrame, Placed, done, more, placed}
-use Rattle.ciborium_value.specs.inner.FoldedCopies.{IsUnfolded, path_trees, coming_trees, all_coming}
-use Rattle.ciborium_value.specs.declared.deserialized.folding.Coming.{Coming}
-use Rattle.ciborium_value.specs.Sources.{Fault, of_kind, of_nesting, of_syntax, of_memory, of_device, of_end, of_length}
-use Rattle.ciborium_value.specs.Sources.{IsFaultOf}
-use Rattle.ciborium_value.specs.Given.{Steps, gives, refuses, of_meaning, outcome, outcome_map}
-use Rattle.ciborium_value.specs.Given.{given_tag, given_value, given_items, given_tree_pairs}
-use Rattle.ciborium_value.specs.Tree as trees
-use Rattle.ciborium_value.specs.Tree.{Tree, Trees, TreePairs}
-use Rattle.ciborium_value.specs.View.{tree_of, trees_of, tree_pairs_of, trees_from, tree_pairs_from}
-use Rattle.ciborium_value.specs.declared.kind.Kind.{Kind}
-use Rattle.ciborium_value.specs.declared.kind.Kind.TheVariants as kinds
-use Rattle.ciborium_value.specs.declared.tree.Value as value
-use Rattle.ciborium_value.specs.declared.tree.Value.{Value}
-use Rattle.ciborium_value.specs.lemmas.ItemsOfTrees.{short_string-item_of}
+use Rattle.ciborium_value.specs.{declared.deserialized.folding.Coming.Coming, Sources.{Fault, of_kind, of_nesting}}
+use Rattle.ciborium_value.specs.{Sources.{of_syntax, of_memory, of_device, of_end, of_length, IsFaultOf}, Given.Steps}
+use Rattle.ciborium_value.specs.Given.{gives, refuses, of_meaning, outcome, outcome_map, given_tag, given_value}
+use Rattle.ciborium_value.specs.{Given.{given_items, given_tree_pairs}, Tree.{Tree, Trees, TreePairs}, View.tree_of}
+use Rattle.ciborium_value.specs.{View.{trees_of, tree_pairs_of, trees_from, tree_pairs_from}, declared.kind.Kind.Kind}
+use Rattle.ciborium_value.specs.{declared.tree.Value.Value, lemmas.ItemsOfTrees.short_string-item_of}
 use Rattle.ciborium_value.specs.lemmas.GivenOutcomes.{pair_first, tree_first}
 use Rattle.ciborium_value.proofs.Trees.Views.{tree_of-Array, tree_of-Map}
+use Rattle.ciborium_value.specs.inner.Frames as frames
+use Rattle.ciborium_value.specs.Tree as trees
+use Rattle.ciborium_value.specs.declared.kind.Kind.TheVariants as kinds
+use Rattle.ciborium_value.specs.declared.tree.Value as value
 
 -- ---- what the item of a tree gives is the folded tree
 
@@ -72,8 +67,7 @@ mutual
 
   items-folded : (vs : Trees) → outcome None (given_items (items_of vs)) ≡ of_meaning kinds.TooLarge (trees_folded vs)
   items-folded trees.no_trees = refl
-  items-folded (trees.tree v vs) =
-      ap (λ o. tree_first o (outcome None (given_items (items_of vs)))) (given-folded v) ∙
+  items-folded (trees.tree v vs) = ap (λ o. tree_first o (outcome None (given_items (items_of vs)))) (given-folded v) ∙
       (ap (tree_first (of_meaning kinds.TooLarge (folded v))) (items-folded vs) ∙
       more-meaning kinds.TooLarge (folded v) (trees_folded vs))
 
@@ -84,8 +78,7 @@ mutual
       ap (λ o. pair_first o (outcome None (given_value (item_of v))) (outcome None (given_tree_pairs (pairs_of ps))))
       (given-folded k) ∙
       (ap (λ o. pair_first (of_meaning kinds.TooLarge (folded k)) o (outcome None (given_tree_pairs (pairs_of ps))))
-      (given-folded v) ∙
-      (ap (pair_first (of_meaning kinds.TooLarge (folded k)) (of_meaning kinds.TooLarge (folded v)))
+      (given-folded v) ∙ (ap (pair_first (of_meaning kinds.TooLarge (folded k)) (of_meaning kinds.TooLarge (folded v)))
       (pairs-folded ps) ∙ pair-meaning kinds.TooLarge (folded k) (folded v) (tree_pairs_folded ps)))
 
 -- ---- the end of the walk
@@ -175,9 +168,8 @@ whole_array os ts (Some vs) = refl
 array_opens : (os : List TreeFrame) (us ts : List Tree) (n : ℕ) → length us ≡ suc n →
     copied (more os) (trees.array (trees_from us) ∷ ts) ≡ copied (more (frames.array [] (Some n) ∷ os)) (us ++ ts)
 array_opens os [] ts n h = cc
-array_opens os (t ∷ us) ts n h =
-    ap (λ o. where_folded (option_map trees.array o) (λ v. copied (placed os v) ts)) (folded-trees (t ∷ us)) ∙
-    (whole_array os ts (each_folded (t ∷ us)) ∙ (sym (copied-items os [] t us ts) ∙
+array_opens os (t ∷ us) ts n h = ap (λ o. where_folded (option_map trees.array o) (λ v. copied (placed os v) ts))
+    (folded-trees (t ∷ us)) ∙ (whole_array os ts (each_folded (t ∷ us)) ∙ (sym (copied-items os [] t us ts) ∙
     ap (λ m. copied (more (frames.array [] (Some m) ∷ os)) ((t ∷ us) ++ ts)) (omega (arith, h))))
 
 -- ---- the same for maps
@@ -234,9 +226,8 @@ next_pair os acc ts rest n (Some x) (Some y) r h = h (x, y) ∙ behind_pair os a
 next_pair os acc ts rest n u v r h = refl
 
 copied-pairs : (os : List TreeFrame) (acc : List (Tree × Tree)) (p : Value × Value) (ps : List (Value × Value))
-    (ts : List Tree) →
-    copied (more (frames.map acc (Some (length ps)) None ∷ os)) (pairs_in_turn (p ∷ ps) ++ ts) ≡ where_all
-    (each_pair_folded (p ∷ ps)) (ends_map os acc ts)
+    (ts : List Tree) → copied (more (frames.map acc (Some (length ps)) None ∷ os))
+    (pairs_in_turn (p ∷ ps) ++ ts) ≡ where_all (each_pair_folded (p ∷ ps)) (ends_map os acc ts)
 copied-pairs os acc p [] ts = last_pair os acc ts (folded (tree_of p.0)) (folded (tree_of p.1))
 copied-pairs os acc p (q ∷ ps) ts =
     next_pair os acc ts (pairs_in_turn (q ∷ ps) ++ ts) (length ps) (folded (tree_of p.0)) (folded (tree_of p.1))
@@ -253,9 +244,8 @@ map_opens : (os : List TreeFrame) (ps : List (Value × Value)) (ts : List Tree) 
     copied (more os) (trees.map (tree_pairs_of ps) ∷ ts) ≡ copied (more (frames.map [] (Some n) None ∷ os))
     (pairs_in_turn ps ++ ts)
 map_opens os [] ts n h = cc
-map_opens os (p ∷ ps) ts n h =
-    ap (λ o. where_folded (option_map trees.map o) (λ v. copied (placed os v) ts)) (folded-pairs (p ∷ ps)) ∙
-    (whole_map os ts (each_pair_folded (p ∷ ps)) ∙ (sym (copied-pairs os [] p ps ts) ∙
+map_opens os (p ∷ ps) ts n h = ap (λ o. where_folded (option_map trees.map o) (λ v. copied (placed os v) ts))
+    (folded-pairs (p ∷ ps)) ∙ (whole_map os ts (each_pair_folded (p ∷ ps)) ∙ (sym (copied-pairs os [] p ps ts) ∙
     ap (λ m. copied (more (frames.map [] (Some m) None ∷ os)) (pairs_in_turn (p ∷ ps) ++ ts)) (omega (arith, h))))
 
 -- ---- what comes is less than what holds it
@@ -271,8 +261,7 @@ nodes-pairs (p ∷ ps) = let h = nodes-pairs ps in omega (arith, h)
 -- ---- values
 
 pub opens_array : (v : Value) (us : Vec Value Global) (vs : List Value) (n : ℕ) → v ≡ value.Array us → vs ≡ us.items →
-    length us.items ≡ suc n →
-    ((os : List TreeFrame) (ts : List Tree) → copied (more os) (tree_of v ∷ ts) ≡ copied
+    length us.items ≡ suc n → ((os : List TreeFrame) (ts : List Tree) → copied (more os) (tree_of v ∷ ts) ≡ copied
     (more (frames.array [] (Some n) ∷ os)) (map tree_of vs ++ ts)) ×
     (nodes_of (map tree_of vs) < node_count (tree_of v))
 opens_array v us vs n is these h =

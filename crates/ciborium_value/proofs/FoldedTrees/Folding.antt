@@ -1,16 +1,15 @@
 -- The item of a tree means the folded tree, and what is folded folds no further.
 use Rattle.std.proofs.Common.{le-leb, leb-true, subst, ◌≡◌, ℕ, ◌^◌, ◌≤◌, cond, ltb, leb, eqb, Bool, true, false, List}
 use Rattle.std.proofs.Common.{length, Option, Some, None, refl, ap, ◌∙◌, arith, pos, negsuc, option_map}
-use Rattle.ciborium_value.specs.Encoding.{item_of, items_of, pairs_of}
-use Rattle.ciborium_value.specs.Folded.{short_bytes, tree_folding_bytes, folded, trees_folded, tree_pairs_folded}
-use Rattle.ciborium_value.specs.laws.FoldingLaws.{WrittenMeansFolded, FoldsOnce}
-use Rattle.ciborium_value.specs.Meaning.{big_endian, without_zeros, bignum_meaning, unsigned_bignum, negative_bignum}
-use Rattle.ciborium_value.specs.Meaning.{is_bignum_tag, tag_meaning, simple_meaning, trees_more, tree_pairs_more}
-use Rattle.ciborium_value.specs.Meaning.{meaning, items_meaning, pairs_meaning}
-use Rattle.ciborium_value.specs.lemmas.ItemsOfTrees.{short_string-item_of}
-use Rattle.ciborium_value.specs.lemmas.ReadsBackBignums.{zeros_hold_nothing, no_zeros_twice, length-without_zeros}
-use Rattle.ciborium_value.specs.Tree.{Tree, integer, bytes, text, boolean, null, tag, array, map, Trees, no_trees, tree}
-use Rattle.ciborium_value.specs.Tree.{TreePairs, no_tree_pairs, tree_pair}
+use Rattle.ciborium_value.specs.{Encoding.{item_of, items_of, pairs_of}, Folded.{short_bytes, tree_folding_bytes}}
+use Rattle.ciborium_value.specs.{Folded.{folded, trees_folded, tree_pairs_folded}, laws.FoldingLaws.WrittenMeansFolded}
+use Rattle.ciborium_value.specs.{laws.FoldingLaws.FoldsOnce, Meaning.{big_endian, without_zeros, bignum_meaning}}
+use Rattle.ciborium_value.specs.Meaning.{unsigned_bignum, negative_bignum, is_bignum_tag, tag_meaning, simple_meaning}
+use Rattle.ciborium_value.specs.Meaning.{trees_more, tree_pairs_more, meaning, items_meaning, pairs_meaning}
+use Rattle.ciborium_value.specs.{lemmas.ItemsOfTrees.short_string-item_of, lemmas.ReadsBackBignums.zeros_hold_nothing}
+use Rattle.ciborium_value.specs.{lemmas.ReadsBackBignums.{no_zeros_twice, length-without_zeros}, Tree.{Tree, integer}}
+use Rattle.ciborium_value.specs.Tree.{bytes, text, boolean, null, tag, array, map, Trees, no_trees, tree, TreePairs}
+use Rattle.ciborium_value.specs.Tree.{no_tree_pairs, tree_pair}
 
 -- ---- what is written means the folded tree
 
@@ -25,16 +24,14 @@ mutual
   written_means_folded (boolean false) = refl
   written_means_folded (boolean true) = refl
   written_means_folded null = refl
-  written_means_folded (tag t v) =
-      ap (λ o. tag_meaning t (cond (is_bignum_tag t) o None) (meaning (item_of v))) (short_string-item_of v) ∙
-      ap (tag_meaning t (tree_folding_bytes t v)) (written_means_folded v)
+  written_means_folded (tag t v) = ap (λ o. tag_meaning t (cond (is_bignum_tag t) o None) (meaning (item_of v)))
+      (short_string-item_of v) ∙ ap (tag_meaning t (tree_folding_bytes t v)) (written_means_folded v)
   written_means_folded (array vs) = ap (option_map array) (items_meaning-items_of vs)
   written_means_folded (map ps) = ap (option_map map) (pairs_meaning-pairs_of ps)
 
   items_meaning-items_of : (vs : Trees) → items_meaning (items_of vs) ≡ trees_folded vs
   items_meaning-items_of no_trees = refl
-  items_meaning-items_of (tree v vs) =
-      ap (λ o. trees_more o (items_meaning (items_of vs))) (written_means_folded v) ∙
+  items_meaning-items_of (tree v vs) = ap (λ o. trees_more o (items_meaning (items_of vs))) (written_means_folded v) ∙
       ap (trees_more (folded v)) (items_meaning-items_of vs)
 
   pairs_meaning-pairs_of : (ps : TreePairs) → pairs_meaning (pairs_of ps) ≡ tree_pairs_folded ps
@@ -49,8 +46,7 @@ mutual
 -- the leading zeros of a bignum do not change what it means
 bignum_meaning-without_zeros : (t : ℕ) (b : List ℕ) → bignum_meaning t (without_zeros b) ≡ bignum_meaning t b
 unfolding bignum_meaning
-bignum_meaning-without_zeros t b =
-    ap (λ n. cond (eqb t 2) (unsigned_bignum n (without_zeros (without_zeros b)))
+bignum_meaning-without_zeros t b = ap (λ n. cond (eqb t 2) (unsigned_bignum n (without_zeros (without_zeros b)))
     (negative_bignum n (without_zeros (without_zeros b)))) (zeros_hold_nothing b) ∙
     ap (λ c. cond (eqb t 2) (unsigned_bignum (big_endian b) c) (negative_bignum (big_endian b) c)) (no_zeros_twice b)
 
@@ -80,8 +76,7 @@ KeepsBytes o (Some w) = short_bytes w ≡ o
 -- a bignum tag over few bytes folds
 pub folded-bignum : (t : ℕ) (b : List ℕ) → is_bignum_tag t ≡ true → length b ≤ 16 →
     folded (tag t (bytes b)) ≡ bignum_meaning t b
-folded-bignum t b is h =
-    ap (λ c. tag_meaning t (cond c (short_bytes (bytes b)) None) (Some (bytes b))) is ∙
+folded-bignum t b is h = ap (λ c. tag_meaning t (cond c (short_bytes (bytes b)) None) (Some (bytes b))) is ∙
     ap (λ c. tag_meaning t (cond c (Some b) None) (Some (bytes b))) (le-leb (length b) 16 h)
 
 -- a bignum that stays a tag is folded
@@ -96,8 +91,7 @@ IsFolded-unsigned : (b : List ℕ) → length b ≤ 16 → (c : Bool) → ltb (b
     IsFolded (cond c (Some (integer (pos (big_endian b)))) (Some (tag 2 (bytes (without_zeros b)))))
 unfolding bignum_meaning
 IsFolded-unsigned b h true e = refl
-IsFolded-unsigned b h false e =
-    bignum_stays 2 b refl h (ap (λ c. cond c (Some (integer (pos (big_endian b))))
+IsFolded-unsigned b h false e = bignum_stays 2 b refl h (ap (λ c. cond c (Some (integer (pos (big_endian b))))
     (Some (tag 2 (bytes (without_zeros b))))) e)
 
 IsFolded-negative : (b : List ℕ) → length b ≤ 16 → (c d : Bool) → ltb (big_endian b) (2 ^ 64) ≡ c →
@@ -106,9 +100,7 @@ IsFolded-negative : (b : List ℕ) → length b ≤ 16 → (c d : Bool) → ltb 
 unfolding bignum_meaning
 IsFolded-negative b h true d e f = refl
 IsFolded-negative b h false false e f = tt
-IsFolded-negative b h false true e f =
-    bignum_stays 3 b refl h
-    (ap (λ c. cond c (Some (integer (negsuc (big_endian b))))
+IsFolded-negative b h false true e f = bignum_stays 3 b refl h (ap (λ c. cond c (Some (integer (negsuc (big_endian b))))
     (cond (ltb (big_endian b) (2 ^ 127)) (Some (tag 3 (bytes (without_zeros b)))) None)) e ∙
     ap (λ c. cond c (Some (tag 3 (bytes (without_zeros b)))) None) f)
 
@@ -121,9 +113,8 @@ IsFolded-bignum t b h = by (eqb t 2)
     by true = IsFolded-unsigned b h (ltb (big_endian b) (2 ^ 64)) refl
     by false = IsFolded-negative b h (ltb (big_endian b) (2 ^ 64)) (ltb (big_endian b) (2 ^ 127)) refl refl
 
-IsFolded-tag : (t : ℕ) (c : Bool) (o : Option (List ℕ)) (m : Option Tree) → is_bignum_tag t ≡ c → IsShort o →
-    KeepsBytes o m → IsFolded m →
-    IsFolded (tag_meaning t (cond c o None) m)
+IsFolded-tag : (t : ℕ) (c : Bool) (o : Option (List ℕ)) (m : Option Tree) →
+    is_bignum_tag t ≡ c → IsShort o → KeepsBytes o m → IsFolded m → IsFolded (tag_meaning t (cond c o None) m)
 IsFolded-tag t true (Some b) m is short keeps h = IsFolded-bignum t b short
 IsFolded-tag t true None (Some w) is short keeps h =
     ap (λ c. tag_meaning t (cond c (short_bytes w) None) (folded w)) is ∙ ap (λ o. tag_meaning t o (folded w)) keeps ∙
@@ -148,8 +139,7 @@ PairsAreFolded-more : (m n : Option Tree) (ms : Option TreePairs) → IsFolded m
     PairsAreFolded (tree_pairs_more m n ms)
 PairsAreFolded-more (Some k) (Some v) (Some ps) h i j =
     ap (λ o. tree_pairs_more o (folded v) (tree_pairs_folded ps)) h ∙
-    ap (λ o. tree_pairs_more (Some k) o (tree_pairs_folded ps)) i ∙
-    ap (tree_pairs_more (Some k) (Some v)) j
+    ap (λ o. tree_pairs_more (Some k) o (tree_pairs_folded ps)) i ∙ ap (tree_pairs_more (Some k) (Some v)) j
 PairsAreFolded-more u v w h i j = tt
 
 IsShort-short_bytes : (v : Tree) → IsShort (short_bytes v)
@@ -187,9 +177,8 @@ KeepsBytes-folded _ = refl
 
 mutual
   IsFolded-folded : (v : Tree) → IsFolded (folded v)
-  IsFolded-folded (tag t v) =
-      IsFolded-tag t (is_bignum_tag t) (short_bytes v) (folded v) refl (IsShort-short_bytes v) (KeepsBytes-folded v)
-      (IsFolded-folded v)
+  IsFolded-folded (tag t v) = IsFolded-tag t (is_bignum_tag t)
+      (short_bytes v) (folded v) refl (IsShort-short_bytes v) (KeepsBytes-folded v) (IsFolded-folded v)
   IsFolded-folded (array vs) = IsFolded-array (trees_folded vs) (AreFolded-trees_folded vs)
   IsFolded-folded (map ps) = IsFolded-map (tree_pairs_folded ps) (PairsAreFolded-tree_pairs_folded ps)
   IsFolded-folded _ = refl
@@ -201,9 +190,8 @@ mutual
 
   PairsAreFolded-tree_pairs_folded : (ps : TreePairs) → PairsAreFolded (tree_pairs_folded ps)
   PairsAreFolded-tree_pairs_folded no_tree_pairs = refl
-  PairsAreFolded-tree_pairs_folded (tree_pair k v ps) =
-      PairsAreFolded-more (folded k) (folded v) (tree_pairs_folded ps) (IsFolded-folded k) (IsFolded-folded v)
-      (PairsAreFolded-tree_pairs_folded ps)
+  PairsAreFolded-tree_pairs_folded (tree_pair k v ps) = PairsAreFolded-more (folded k)
+      (folded v) (tree_pairs_folded ps) (IsFolded-folded k) (IsFolded-folded v) (PairsAreFolded-tree_pairs_folded ps)
 
 pub folds_once : FoldsOnce
 folds_once v w h = subst IsFolded h (IsFolded-folded v)

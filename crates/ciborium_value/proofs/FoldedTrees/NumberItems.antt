@@ -1,10 +1,7 @@
 -- The tree of a number, and the item of a number.
 use Rattle.std.proofs.Common.{◌≡◌, ℤ, pos, negsuc, ◌^◌, Bool, true, false, if◌then◌else◌, nat_lt, refl}
 use Rattle.ciborium_ll.specs.Item.{Item}
-use Rattle.ciborium_value.specs.Encoding.{item_of}
-use Rattle.ciborium_value.specs.Number.{number_tree}
-use Rattle.ciborium_value.specs.Sinks.{number_item}
-use Rattle.ciborium_value.specs.Tree.{Tree}
+use Rattle.ciborium_value.specs.{Encoding.item_of, Number.number_tree, Sinks.number_item, Tree.Tree}
 
 either : (t : Bool) (v w : Tree) (i j : Item) → item_of v ≡ i → item_of w ≡ j →
     item_of (if t then v else w) ≡ (if t then i else j)

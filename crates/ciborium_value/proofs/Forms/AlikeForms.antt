@@ -3,25 +3,20 @@
 use Rattle.std.proofs.Common.{◌≡◌, ℕ, cond, List, Option, Some, None, refl, sym, ap, ◌∙◌, subst, option_map}
 use Rattle.std.specs.Option.{option_and_then}
 use Rattle.ciborium_value.specs.DeterministicForms.{inserted, sorted_pairs, tag_form, deterministic_form, one_pair_more}
-use Rattle.ciborium_value.specs.DeterministicForms.{deterministic_forms, pair_forms}
-use Rattle.ciborium_value.specs.Folded.{short_bytes, tree_folding_bytes}
-use Rattle.ciborium_value.specs.laws.FormLaws.{AlikeHaveOneForm, OneFormWhereAlike, FormIsAlike}
-use Rattle.ciborium_value.specs.Meaning.{is_bignum_tag, bignum_meaning, trees_more}
+use Rattle.ciborium_value.specs.{DeterministicForms.{deterministic_forms, pair_forms}, Folded.short_bytes}
+use Rattle.ciborium_value.specs.{Folded.tree_folding_bytes, laws.FormLaws.{AlikeHaveOneForm, OneFormWhereAlike}}
+use Rattle.ciborium_value.specs.{laws.FormLaws.FormIsAlike, Meaning.{is_bignum_tag, bignum_meaning, trees_more}}
 use Rattle.ciborium_value.specs.SameContents.{IsAlike, turned, through, folds, in_tag, in_array, in_map, AreAlike}
 use Rattle.ciborium_value.specs.SameContents.{PairsAreAlike, no_pairs, more_pairs, exchanged, one_after_another}
+use Rattle.ciborium_value.specs.{Given.{Outcome, gives, then_take, of_meaning}, Tree.{Tree, integer, bytes, text}}
+use Rattle.ciborium_value.specs.Tree.{boolean, null, tag, array, map, Trees, no_trees, tree, TreePairs, no_tree_pairs}
+use Rattle.ciborium_value.specs.{Tree.tree_pair, declared.key_order.KeyOrder.KeyOrder, lemmas.GivenOutcomes.one_given}
+use Rattle.ciborium_value.specs.lemmas.GivenOutcomes.{mapped_gives, then_gives, more_gives, pair_gives, meaning_given}
+use Rattle.ciborium_value.proofs.{Forms.BignumShapes.bignum-no_bytes, Forms.GivenValues.{given, gives_given, given-map}}
+use Rattle.ciborium_value.proofs.{Forms.GivenValues.{given-then, given-more}, Forms.OwnForms.{own_form, bignum-formed}}
+use Rattle.ciborium_value.proofs.{Forms.ReorderedPairs.{alike-reordered, sorted-reorders}, Forms.SortedPairs.commutes}
 use Rattle.ciborium_value.specs.SameContents as same
-use Rattle.ciborium_value.specs.Given.{Outcome, gives, then_take, of_meaning}
-use Rattle.ciborium_value.specs.Tree.{Tree, integer, bytes, text, boolean, null, tag, array, map, Trees, no_trees, tree}
-use Rattle.ciborium_value.specs.Tree.{TreePairs, no_tree_pairs, tree_pair}
-use Rattle.ciborium_value.specs.declared.key_order.KeyOrder.{KeyOrder}
 use Rattle.ciborium_value.specs.declared.kind.Kind.TheVariants as kinds
-use Rattle.ciborium_value.proofs.Forms.BignumShapes.{bignum-no_bytes}
-use Rattle.ciborium_value.specs.lemmas.GivenOutcomes.{one_given, mapped_gives, then_gives, more_gives, pair_gives}
-use Rattle.ciborium_value.specs.lemmas.GivenOutcomes.{meaning_given}
-use Rattle.ciborium_value.proofs.Forms.GivenValues.{given, gives_given, given-map, given-then, given-more}
-use Rattle.ciborium_value.proofs.Forms.OwnForms.{own_form, bignum-formed}
-use Rattle.ciborium_value.proofs.Forms.ReorderedPairs.{alike-reordered, sorted-reorders}
-use Rattle.ciborium_value.proofs.Forms.SortedPairs.{commutes}
 
 -- ---- the sorted forms of pairs
 
@@ -107,10 +102,8 @@ tagged-alike o t v w short h = by (tree_folding_bytes t v) ∙
 -- a tag that folds has the form of what its bytes mean
 folds-alike : (o : KeyOrder) (t : ℕ) (v w : Tree) (b : List ℕ) → tree_folding_bytes t v ≡ Some b →
     bignum_meaning t b ≡ Some w → given (deterministic_form o (tag t v)) ≡ given (deterministic_form o w)
-folds-alike o t v w b is e =
-    ap (λ m. given (tag_form t m (deterministic_form o v))) is
-    ∙ ap (λ m. given (of_meaning kinds.TooLarge m)) e
-    ∙ sym (ap given (own_form o w (bignum-formed o t v b w is e)))
+folds-alike o t v w b is e = ap (λ m. given (tag_form t m (deterministic_form o v))) is ∙
+    ap (λ m. given (of_meaning kinds.TooLarge m)) e ∙ sym (ap given (own_form o w (bignum-formed o t v b w is e)))
 
 mutual
   -- trees that are equal but for the order of pairs and folding have one form, or both none
@@ -123,29 +116,26 @@ mutual
   given-alike o (in_tag {t} {v} {w} h) = tagged-alike o t v w (short-alike h) (given-alike o h)
   given-alike o (in_array {vs} {ws} h) = given-map array (deterministic_forms o vs) ∙
       ap (option_map array) (all_given-alike o h) ∙ sym (given-map array (deterministic_forms o ws))
-  given-alike o (in_map {ps} {qs} h) =
-      given-map map (then_take (pair_forms o ps) (sorted_pairs o)) ∙ ap (option_map map) (sorted_forms-alike o h) ∙
-      sym (given-map map (then_take (pair_forms o qs) (sorted_pairs o)))
+  given-alike o (in_map {ps} {qs} h) = given-map map (then_take (pair_forms o ps) (sorted_pairs o)) ∙
+      ap (option_map map) (sorted_forms-alike o h) ∙ sym (given-map map (then_take (pair_forms o qs) (sorted_pairs o)))
 
   -- so have the trees of two lists
   all_given-alike : (o : KeyOrder) {vs ws : Trees} → AreAlike vs ws →
       given (deterministic_forms o vs) ≡ given (deterministic_forms o ws)
   all_given-alike o same.none = refl
-  all_given-alike o (same.more {v} {w} {vs} {ws} h l) =
-      given-more (deterministic_form o v) (deterministic_forms o vs)
-      ∙ ap (λ m. trees_more m (given (deterministic_forms o vs))) (given-alike o h)
-      ∙ ap (trees_more (given (deterministic_form o w))) (all_given-alike o l)
-      ∙ sym (given-more (deterministic_form o w) (deterministic_forms o ws))
+  all_given-alike o (same.more {v} {w} {vs} {ws} h l) = given-more (deterministic_form o v) (deterministic_forms o vs) ∙
+      ap (λ m. trees_more m (given (deterministic_forms o vs))) (given-alike o h) ∙
+      ap (trees_more (given (deterministic_form o w))) (all_given-alike o l) ∙
+      sym (given-more (deterministic_form o w) (deterministic_forms o ws))
 
   -- and the sorted pairs
   sorted_forms-alike : (o : KeyOrder) {ps qs : TreePairs} → PairsAreAlike ps qs → sorted_forms o ps ≡ sorted_forms o qs
   sorted_forms-alike o no_pairs = refl
-  sorted_forms-alike o (more_pairs {k} {l} {v} {w} {ps} {qs} h i j) =
-      more-sorted_forms o k v ps
-      ∙ ap (λ m. put_among o m (given (deterministic_form o v)) (sorted_forms o ps)) (given-alike o h)
-      ∙ ap (λ m. put_among o (given (deterministic_form o l)) m (sorted_forms o ps)) (given-alike o i)
-      ∙ ap (put_among o (given (deterministic_form o l)) (given (deterministic_form o w))) (sorted_forms-alike o j)
-      ∙ sym (more-sorted_forms o l w qs)
+  sorted_forms-alike o (more_pairs {k} {l} {v} {w} {ps} {qs} h i j) = more-sorted_forms o k v ps ∙
+      ap (λ m. put_among o m (given (deterministic_form o v)) (sorted_forms o ps)) (given-alike o h) ∙
+      ap (λ m. put_among o (given (deterministic_form o l)) m (sorted_forms o ps)) (given-alike o i) ∙
+      ap (put_among o (given (deterministic_form o l)) (given (deterministic_form o w))) (sorted_forms-alike o j) ∙
+      sym (more-sorted_forms o l w qs)
   sorted_forms-alike o (exchanged {k} {l} {v} {w} {ps}) = sorted_forms-exchanged o k v l w ps
   sorted_forms-alike o (one_after_another h l) = sorted_forms-alike o h ∙ sorted_forms-alike o l
 

@@ -1,11 +1,9 @@
 -- What a bignum tag stands over, and what it means: an integer, or a tag over bytes.
 use Rattle.std.proofs.Common.{◌≡◌, ℕ, ◌^◌, Bool, true, false, cond, eqb, ltb, List, Option, Some, None, refl, subst, ℤ}
 use Rattle.std.proofs.Common.{pos, negsuc}
-use Rattle.ciborium_value.specs.Deterministic.{HasRisingKeys}
-use Rattle.ciborium_value.specs.Folded.{short_bytes, tree_folding_bytes}
+use Rattle.ciborium_value.specs.{Deterministic.HasRisingKeys, Folded.{short_bytes, tree_folding_bytes}}
 use Rattle.ciborium_value.specs.Meaning.{is_bignum_tag, big_endian, without_zeros, bignum_meaning, unsigned_bignum}
-use Rattle.ciborium_value.specs.Meaning.{negative_bignum}
-use Rattle.ciborium_value.specs.Tree.{Tree, integer, bytes, tag, array, map}
+use Rattle.ciborium_value.specs.{Meaning.negative_bignum, Tree.{Tree, integer, bytes, tag, array, map}}
 use Rattle.ciborium_value.specs.declared.key_order.KeyOrder.{KeyOrder}
 
 -- ---- the bytes on which a tag folds

@@ -1,10 +1,8 @@
 -- Lists of values that are their own forms.
 use Rattle.std.proofs.Common.{◌≡◌, ℕ, zero, suc, ◌+◌, ◌<◌, List, [], ◌∷◌, ◌++◌, length, take, get_or, true, false, Bool}
 use Rattle.std.proofs.Common.{IsTrue, ◌↔◌, sym, ◌∙◌, subst, arith}
-use Rattle.ciborium_value.specs.inner.OwnForms.{IsFormed, AreFormed, PairsAreFormed}
-use Rattle.ciborium_value.specs.View.{tree_of, trees_of, tree_pairs_of}
-use Rattle.ciborium_value.specs.declared.key_order.KeyOrder.{KeyOrder}
-use Rattle.ciborium_value.specs.declared.tree.Value.{Value}
+use Rattle.ciborium_value.specs.{inner.OwnForms.{IsFormed, AreFormed, PairsAreFormed}, View.{tree_of, trees_of}}
+use Rattle.ciborium_value.specs.{View.tree_pairs_of, declared.key_order.KeyOrder.KeyOrder, declared.tree.Value.Value}
 use Rattle.ciborium_value.proofs.Trees.Elements.{one_more}
 
 -- ---- tests
@@ -37,17 +35,14 @@ PairsAreFormed-append : (o : KeyOrder) (ps qs : List (Value × Value)) → Pairs
 PairsAreFormed-append o [] qs h k = k
 PairsAreFormed-append o (p ∷ ps) qs h k = (h.0, h.1, PairsAreFormed-append o ps qs h.2 k)
 
-pub PairsAreFormed-more : (o : KeyOrder) (i : ℕ) (ps : List (Value × Value)) (p : Value × Value) → i < length ps →
-    p ≡ get_or ps i p
-    → PairsAreFormed o (tree_pairs_of (take i ps)) → IsFormed o (tree_of p.0) → IsFormed o (tree_of p.1) →
-    PairsAreFormed o (tree_pairs_of (take (i + 1) ps))
-PairsAreFormed-more o i ps p h e before key mapped =
-    subst (λ l. PairsAreFormed o (tree_pairs_of l)) (sym (one_more i ps p h e))
-    (PairsAreFormed-append o (take i ps) (p ∷ []) before (key, mapped, tt))
+pub PairsAreFormed-more : (o : KeyOrder) (i : ℕ) (ps : List (Value × Value)) (p : Value × Value) →
+    i < length ps → p ≡ get_or ps i p → PairsAreFormed o (tree_pairs_of (take i ps)) →
+    IsFormed o (tree_of p.0) → IsFormed o (tree_of p.1) → PairsAreFormed o (tree_pairs_of (take (i + 1) ps))
+PairsAreFormed-more o i ps p h e before key mapped = subst (λ l. PairsAreFormed o (tree_pairs_of l))
+    (sym (one_more i ps p h e)) (PairsAreFormed-append o (take i ps) (p ∷ []) before (key, mapped, tt))
 
 pub pair_formed_at : (o : KeyOrder) (i : ℕ) (ps : List (Value × Value)) (p : Value × Value) → i < length ps →
-    p ≡ get_or ps i p → PairsAreFormed o (tree_pairs_of ps)
-    → IsFormed o (tree_of p.0) × IsFormed o (tree_of p.1)
+    p ≡ get_or ps i p → PairsAreFormed o (tree_pairs_of ps) → IsFormed o (tree_of p.0) × IsFormed o (tree_of p.1)
 pair_formed_at o i [] p h e all = absurd (omega (arith, h))
 pair_formed_at o zero (x ∷ ps) p h e all = subst (λ y. IsFormed o (tree_of y.0) × IsFormed o (tree_of y.1)) (sym e)
     (all.0, all.1)

@@ -1,23 +1,18 @@
 -- Forms that are made where the values stand: one level, and along lists.
 use Rattle.std.proofs.Common.{◌≡◌, ℕ, zero, suc, ◌+◌, ◌<◌, List, [], ◌∷◌, ◌++◌, length, take, drop, get_or, set, subst}
 use Rattle.std.proofs.Common.{Option, Some, None, refl, sym, ap, ◌∙◌, arith, append-nil, get_or-set_same}
-use Rattle.std.proofs.Common.{get_or-set_other, below_more}
-use Rattle.std.proofs.lemmas.List.{drop_all, take_all}
+use Rattle.std.proofs.{Common.{get_or-set_other, below_more}, lemmas.List.{drop_all, take_all}}
 use Rattle.ciborium_value.specs.DeterministicForms.{deterministic_form, deterministic_forms, pair_forms, sorted_pairs}
-use Rattle.ciborium_value.specs.DeterministicForms.{one_more, one_pair_more, tag_form}
-use Rattle.ciborium_value.specs.Folded.{tree_folding_bytes}
-use Rattle.ciborium_value.specs.Meaning.{bignum_meaning}
-use Rattle.ciborium_value.specs.SameContents as same
-use Rattle.ciborium_value.specs.SameContents.{IsAlike, AreAlike, PairsAreAlike}
-use Rattle.ciborium_value.specs.Given.{Outcome, gives, refuses, then_take, outcome_map, of_meaning}
-use Rattle.ciborium_value.specs.Tree as trees
-use Rattle.ciborium_value.specs.Tree.{Tree, Trees, TreePairs}
-use Rattle.ciborium_value.specs.View.{tree_of, trees_of, tree_pairs_of}
-use Rattle.ciborium_value.specs.declared.key_order.KeyOrder.{KeyOrder}
-use Rattle.ciborium_value.specs.declared.kind.Kind.{Kind}
-use Rattle.ciborium_value.specs.declared.kind.Kind.TheVariants as kinds
+use Rattle.ciborium_value.specs.{DeterministicForms.{one_more, one_pair_more, tag_form}, Folded.tree_folding_bytes}
+use Rattle.ciborium_value.specs.{Meaning.bignum_meaning, SameContents.{IsAlike, AreAlike, PairsAreAlike}, Given.Outcome}
+use Rattle.ciborium_value.specs.{Given.{gives, refuses, then_take, outcome_map, of_meaning}, Tree.{Tree, Trees}}
+use Rattle.ciborium_value.specs.{Tree.TreePairs, View.{tree_of, trees_of, tree_pairs_of}}
+use Rattle.ciborium_value.specs.{declared.key_order.KeyOrder.KeyOrder, declared.kind.Kind.Kind}
 use Rattle.ciborium_value.specs.declared.tree.Value.{Value}
 use Rattle.ciborium_value.proofs.Forms.ReorderedPairs.{PairsAreAlike-refl}
+use Rattle.ciborium_value.specs.SameContents as same
+use Rattle.ciborium_value.specs.Tree as trees
+use Rattle.ciborium_value.specs.declared.kind.Kind.TheVariants as kinds
 
 -- ---- what is made, by its tree
 
@@ -112,10 +107,9 @@ one_refused o (suc i) j (v ∷ vs) (w ∷ ws) l e h here =
 
 -- ---- along the pairs of a map
 
-pub PairsAreAlike-set : (i : ℕ) (d q : Value × Value) (ps qs : List (Value × Value)) →
-    PairsAreAlike (tree_pairs_of ps) (tree_pairs_of qs) → i < length qs
-    → IsAlike (tree_of (get_or qs i d).0) (tree_of q.0) → IsAlike (tree_of (get_or qs i d).1) (tree_of q.1) →
-    PairsAreAlike (tree_pairs_of ps) (tree_pairs_of (set qs i q))
+pub PairsAreAlike-set : (i : ℕ) (d q : Value × Value) (ps qs : List (Value × Value)) → PairsAreAlike (tree_pairs_of ps)
+    (tree_pairs_of qs) → i < length qs → IsAlike (tree_of (get_or qs i d).0) (tree_of q.0) →
+    IsAlike (tree_of (get_or qs i d).1) (tree_of q.1) → PairsAreAlike (tree_pairs_of ps) (tree_pairs_of (set qs i q))
 PairsAreAlike-set i d q ps qs h l key mapped = same.one_after_another h (one_set i qs l key mapped)
   where
     one_set : (i : ℕ) (qs : List (Value × Value)) → i < length qs → IsAlike (tree_of (get_or qs i d).0) (tree_of q.0) →
@@ -126,12 +120,11 @@ PairsAreAlike-set i d q ps qs h l key mapped = same.one_after_another h (one_set
     one_set (suc i) (x ∷ qs) l key mapped = same.more_pairs same.itself same.itself
         (one_set i qs (omega (arith, l)) key mapped)
 
-pub all_pairs_made : (o : KeyOrder) (ps qs : List (Value × Value)) → length ps ≡ length qs
-    → ((k : ℕ) (d : Value × Value) → k < length ps → deterministic_form o (tree_of (get_or ps k d).0) ≡ gives
-    (tree_of (get_or qs k d).0))
-    → ((k : ℕ) (d : Value × Value) → k < length ps → deterministic_form o (tree_of (get_or ps k d).1) ≡ gives
-    (tree_of (get_or qs k d).1))
-    → pair_forms o (tree_pairs_of ps) ≡ gives (tree_pairs_of qs)
+pub all_pairs_made : (o : KeyOrder) (ps qs : List (Value × Value)) → length ps ≡ length qs →
+    ((k : ℕ) (d : Value × Value) → k < length ps → deterministic_form o (tree_of (get_or ps k d).0) ≡ gives
+    (tree_of (get_or qs k d).0)) →
+    ((k : ℕ) (d : Value × Value) → k < length ps → deterministic_form o (tree_of (get_or ps k d).1) ≡ gives
+    (tree_of (get_or qs k d).1)) → pair_forms o (tree_pairs_of ps) ≡ gives (tree_pairs_of qs)
 all_pairs_made o [] [] e h m = refl
 all_pairs_made o (p ∷ ps) (q ∷ qs) e h m =
     let rest = all_pairs_made o ps qs (omega (arith, e)) (λ k d l. h (suc k) d (omega (arith, l)))
@@ -164,14 +157,13 @@ one_key_refused o (suc i) j (p ∷ ps) (q ∷ qs) l e h m here =
     ∙ ap (one_pair_more (gives (tree_of q.0)) (gives (tree_of q.1))) rest
 
 -- or the first value
-pub one_value_refused : (o : KeyOrder) (i : ℕ) (j : Kind) (x : Tree) (ps qs : List (Value × Value)) → i < length ps →
-    length ps ≡ length qs
-    → ((k : ℕ) (d : Value × Value) → k < i → deterministic_form o (tree_of (get_or ps k d).0) ≡ gives
-    (tree_of (get_or qs k d).0))
-    → ((k : ℕ) (d : Value × Value) → k < i → deterministic_form o (tree_of (get_or ps k d).1) ≡ gives
-    (tree_of (get_or qs k d).1))
-    → ((d : Value × Value) → deterministic_form o (tree_of (get_or ps i d).0) ≡ gives x)
-    → ((d : Value × Value) → deterministic_form o (tree_of (get_or ps i d).1) ≡ refuses j) →
+pub one_value_refused : (o : KeyOrder) (i : ℕ) (j : Kind) (x : Tree) (ps qs : List (Value × Value)) →
+    i < length ps → length ps ≡ length qs →
+    ((k : ℕ) (d : Value × Value) → k < i → deterministic_form o (tree_of (get_or ps k d).0) ≡ gives
+    (tree_of (get_or qs k d).0)) →
+    ((k : ℕ) (d : Value × Value) → k < i → deterministic_form o (tree_of (get_or ps k d).1) ≡ gives
+    (tree_of (get_or qs k d).1)) → ((d : Value × Value) → deterministic_form o (tree_of (get_or ps i d).0) ≡ gives x) →
+    ((d : Value × Value) → deterministic_form o (tree_of (get_or ps i d).1) ≡ refuses j) →
     pair_forms o (tree_pairs_of ps) ≡ refuses j
 one_value_refused o i j x [] qs l e h m key here = absurd (omega (arith, l))
 one_value_refused o i j x (p ∷ ps) [] l e h m key here = absurd (omega (arith, e))
@@ -190,9 +182,8 @@ one_value_refused o (suc i) j x (p ∷ ps) (q ∷ qs) l e h m key here =
 
 pub all_written : {A : Type 0} (n : ℕ) (xs ys : List A) → length xs ≡ length ys → n ≡ length ys →
     take n (xs ++ drop (length xs) ys) ≡ xs
-all_written n xs ys e f =
-    ap (λ k. take n (xs ++ drop k ys)) e ∙ ap (λ l. take n (xs ++ l)) (drop_all (length ys) ys (omega arith)) ∙
-    ap (take n) (append-nil xs) ∙ take_all n xs (omega (arith, e, f))
+all_written n xs ys e f = ap (λ k. take n (xs ++ drop k ys)) e ∙ ap (λ l. take n (xs ++ l))
+    (drop_all (length ys) ys (omega arith)) ∙ ap (take n) (append-nil xs) ∙ take_all n xs (omega (arith, e, f))
 
 -- ---- one more of a list that is written from its front
 
@@ -202,5 +193,4 @@ module _ {A : Type 0} (R : A → A → Type 0) (i : ℕ) (vs ws : List A) (w : A
       → ((d : A) → R (get_or vs i d) w) → (k : ℕ) (d : A) → k < i + 1 → R (get_or vs k d) (get_or (set ws i w) k d)
   one_more_made e l before here k d h =
       below_more _ _ (λ j m. subst (R (get_or vs j d)) (sym (get_or-set_other ws i j w d (omega (arith, m))))
-      (before j d m))
-      (subst (R (get_or vs i d)) (sym (get_or-set_same ws i w d l)) (here d)) k h
+      (before j d m)) (subst (R (get_or vs i d)) (sym (get_or-set_same ws i w d l)) (here d)) k h

@@ -1,29 +1,24 @@
 -- Trees that are their own deterministic form.
 use Rattle.std.proofs.Common.{◌≡◌, ℕ, cond, List, Option, Some, None, MatchOption, refl, sym, ap, ◌∙◌, subst}
-use Rattle.ciborium_value.specs.Encoding.{encoding}
 use Rattle.std.proofs.Common.{option_map, ◌↔◌}
-use Rattle.ciborium_value.specs.Deterministic.{HasRisingKeys, HaveRisingKeys, PairsHaveRisingKeys}
-use Rattle.ciborium_value.specs.DeterministicTrees.{IsDeterministicTree}
-use Rattle.ciborium_value.specs.DeterministicForms.{sorted_pairs, tag_form, deterministic_form, deterministic_forms}
-use Rattle.ciborium_value.specs.DeterministicForms.{one_more, one_pair_more, pair_forms}
-use Rattle.ciborium_value.specs.Folded.{short_bytes, tree_folding_bytes, folded, trees_folded, tree_pairs_folded}
-use Rattle.ciborium_value.specs.laws.FormLaws.{FormIsItsOwn, AcceptedWhereOwnForm}
-use Rattle.ciborium_value.specs.inner.OwnForms.{IsFormed, AreFormed, PairsAreFormed}
-use Rattle.ciborium_value.specs.Meaning.{is_bignum_tag, bignum_meaning, tag_meaning, trees_more, tree_pairs_more}
-use Rattle.ciborium_value.specs.Given.{gives, then_take, outcome_map, of_meaning}
-use Rattle.ciborium_value.specs.Tree.{Tree, integer, bytes, text, boolean, null, tag, array, map, Trees, no_trees, tree}
-use Rattle.ciborium_value.specs.Tree.{TreePairs, no_tree_pairs, tree_pair}
-use Rattle.ciborium_value.specs.declared.key_order.KeyOrder.{KeyOrder}
-use Rattle.ciborium_value.specs.declared.kind.Kind.TheVariants as kinds
+use Rattle.ciborium_value.specs.{Encoding.encoding, Deterministic.{HasRisingKeys, HaveRisingKeys, PairsHaveRisingKeys}}
+use Rattle.ciborium_value.specs.{DeterministicTrees.IsDeterministicTree, DeterministicForms.{sorted_pairs, tag_form}}
+use Rattle.ciborium_value.specs.DeterministicForms.{deterministic_form, deterministic_forms, one_more, one_pair_more}
+use Rattle.ciborium_value.specs.{DeterministicForms.pair_forms, Folded.{short_bytes, tree_folding_bytes, folded}}
+use Rattle.ciborium_value.specs.{Folded.{trees_folded, tree_pairs_folded}, laws.FormLaws.FormIsItsOwn}
+use Rattle.ciborium_value.specs.{laws.FormLaws.AcceptedWhereOwnForm, inner.OwnForms.{IsFormed, AreFormed}}
+use Rattle.ciborium_value.specs.{inner.OwnForms.PairsAreFormed, Meaning.{is_bignum_tag, bignum_meaning, tag_meaning}}
+use Rattle.ciborium_value.specs.{Meaning.{trees_more, tree_pairs_more}, Given.{gives, then_take, outcome_map}}
+use Rattle.ciborium_value.specs.{Given.of_meaning, Tree.{Tree, integer, bytes, text, boolean, null, tag, array, map}}
+use Rattle.ciborium_value.specs.Tree.{Trees, no_trees, tree, TreePairs, no_tree_pairs, tree_pair}
+use Rattle.ciborium_value.specs.{declared.key_order.KeyOrder.KeyOrder, lemmas.GivenOutcomes.{one_given, mapped_gives}}
+use Rattle.ciborium_value.specs.lemmas.GivenOutcomes.{then_gives, more_gives, pair_gives, meaning_given}
 use Rattle.ciborium_value.proofs.GoodItems.Accepted.{accepted, deterministic_tree}
 use Rattle.ciborium_value.proofs.Forms.BignumShapes.{rises_where_short, short_where_folding, bignum-no_bytes}
-use Rattle.ciborium_value.proofs.Forms.BignumShapes.{bignum-rises}
-use Rattle.ciborium_value.proofs.FoldedTrees.Folding.{folds_once}
-use Rattle.ciborium_value.specs.lemmas.GivenOutcomes.{one_given, mapped_gives, then_gives, more_gives, pair_gives}
-use Rattle.ciborium_value.specs.lemmas.GivenOutcomes.{meaning_given}
+use Rattle.ciborium_value.proofs.{Forms.BignumShapes.bignum-rises, FoldedTrees.Folding.folds_once}
 use Rattle.ciborium_value.proofs.Forms.ReorderedPairs.{AreReordered, as_they_are, behind, neighbours, then_again}
-use Rattle.ciborium_value.proofs.Forms.ReorderedPairs.{sorted-reorders, sorted-rises}
-use Rattle.ciborium_value.proofs.Forms.SortedPairs.{rising-sorted}
+use Rattle.ciborium_value.proofs.{Forms.ReorderedPairs.{sorted-reorders, sorted-rises}, Forms.SortedPairs.rising-sorted}
+use Rattle.ciborium_value.specs.declared.kind.Kind.TheVariants as kinds
 
 -- ---- a formed tree is its own form
 
@@ -32,9 +27,8 @@ mutual
   pub own_form : (o : KeyOrder) (t : Tree) → IsFormed o t → deterministic_form o t ≡ gives t
   own_form o (tag t v) h = by (own_form o v) (tree_folding_bytes t v) h
     where
-      by : (IsFormed o v → deterministic_form o v ≡ gives v) → (m : Option (List ℕ)) →
-          MatchOption m (IsFormed o v) (λ b. bignum_meaning t b ≡ Some (tag t v)) →
-          tag_form t m (deterministic_form o v) ≡ gives (tag t v)
+      by : (IsFormed o v → deterministic_form o v ≡ gives v) → (m : Option (List ℕ)) → MatchOption m (IsFormed o v)
+          (λ b. bignum_meaning t b ≡ Some (tag t v)) → tag_form t m (deterministic_form o v) ≡ gives (tag t v)
       by own (Some b) f = ap (of_meaning kinds.TooLarge) f
       by own None f = ap (outcome_map (tag t)) (own f)
   own_form o (array vs) h = ap (outcome_map array) (own_forms o vs h)
@@ -51,10 +45,9 @@ mutual
   -- and each key and value of pairs
   pub own_pairs : (o : KeyOrder) (ps : TreePairs) → PairsAreFormed o ps → pair_forms o ps ≡ gives ps
   own_pairs o no_tree_pairs h = refl
-  own_pairs o (tree_pair k v ps) h =
-      ap (λ r. one_pair_more r (deterministic_form o v) (pair_forms o ps)) (own_form o k h.0)
-      ∙ ap (λ r. one_pair_more (gives k) r (pair_forms o ps)) (own_form o v h.1)
-      ∙ ap (outcome_map (tree_pair k v)) (own_pairs o ps h.2)
+  own_pairs o (tree_pair k v ps) h = ap (λ r. one_pair_more r (deterministic_form o v) (pair_forms o ps))
+      (own_form o k h.0) ∙ ap (λ r. one_pair_more (gives k) r (pair_forms o ps)) (own_form o v h.1) ∙
+      ap (outcome_map (tree_pair k v)) (own_pairs o ps h.2)
 
 -- ---- formed is folded, with rising keys
 
@@ -132,9 +125,8 @@ mutual
   pub folded_where_formed : (o : KeyOrder) (t : Tree) → IsFormed o t → folded t ≡ Some t
   folded_where_formed o (tag t v) h = by (folded_where_formed o v) (tree_folding_bytes t v) h
     where
-      by : (IsFormed o v → folded v ≡ Some v) → (m : Option (List ℕ)) →
-          MatchOption m (IsFormed o v) (λ b. bignum_meaning t b ≡ Some (tag t v)) →
-          tag_meaning t m (folded v) ≡ Some (tag t v)
+      by : (IsFormed o v → folded v ≡ Some v) → (m : Option (List ℕ)) → MatchOption m (IsFormed o v)
+          (λ b. bignum_meaning t b ≡ Some (tag t v)) → tag_meaning t m (folded v) ≡ Some (tag t v)
       by inner (Some b) f = f
       by inner None f = ap (option_map (tag t)) (inner f)
   folded_where_formed o (array vs) h = ap (option_map array) (all_folded_where_formed o vs h)
@@ -150,10 +142,9 @@ mutual
   -- and each key and value of pairs
   pairs_folded_where_formed : (o : KeyOrder) (ps : TreePairs) → PairsAreFormed o ps → tree_pairs_folded ps ≡ Some ps
   pairs_folded_where_formed o no_tree_pairs h = refl
-  pairs_folded_where_formed o (tree_pair k v ps) h =
-      ap (λ m. tree_pairs_more m (folded v) (tree_pairs_folded ps)) (folded_where_formed o k h.0)
-      ∙ ap (λ m. tree_pairs_more (Some k) m (tree_pairs_folded ps)) (folded_where_formed o v h.1)
-      ∙ ap (tree_pairs_more (Some k) (Some v)) (pairs_folded_where_formed o ps h.2)
+  pairs_folded_where_formed o (tree_pair k v ps) h = ap (λ m. tree_pairs_more m (folded v) (tree_pairs_folded ps))
+      (folded_where_formed o k h.0) ∙ ap (λ m. tree_pairs_more (Some k) m (tree_pairs_folded ps))
+      (folded_where_formed o v h.1) ∙ ap (tree_pairs_more (Some k) (Some v)) (pairs_folded_where_formed o ps h.2)
 
 mutual
   -- the keys of a formed tree rise

@@ -2,17 +2,15 @@
 use Rattle.std.proofs.Common.{◌≡◌, ℕ, List, Option, Some, None, option_map, inl, inr, ◌⊎◌, refl, sym, ap, ◌∙◌, subst}
 use Rattle.std.proofs.Common.{Result, Ok, Err, IfErr}
 use Rattle.ciborium_value.specs.DeterministicForms.{deterministic_form, deterministic_forms, pair_forms, sorted_pairs}
-use Rattle.ciborium_value.specs.DeterministicForms.{one_more, one_pair_more, tag_form}
-use Rattle.ciborium_value.specs.Folded.{folded, trees_folded, tree_pairs_folded, tree_folding_bytes}
-use Rattle.ciborium_value.specs.laws.FormLaws.{FormOrRefused, RefusedByDuplicates}
-use Rattle.ciborium_value.specs.Meaning.{bignum_meaning, tag_meaning, trees_more, tree_pairs_more}
-use Rattle.ciborium_value.specs.Given.{Outcome, gives, refuses, nests, then_take, outcome_map, of_meaning}
-use Rattle.ciborium_value.specs.Tree.{Tree, tag, array, map, Trees, no_trees, tree}
-use Rattle.ciborium_value.specs.Tree.{TreePairs, no_tree_pairs, tree_pair}
-use Rattle.ciborium_value.specs.declared.key_order.KeyOrder.{KeyOrder}
+use Rattle.ciborium_value.specs.{DeterministicForms.{one_more, one_pair_more, tag_form}, Folded.{folded, trees_folded}}
+use Rattle.ciborium_value.specs.{Folded.{tree_pairs_folded, tree_folding_bytes}, laws.FormLaws.FormOrRefused}
+use Rattle.ciborium_value.specs.{laws.FormLaws.RefusedByDuplicates, Meaning.{bignum_meaning, tag_meaning, trees_more}}
+use Rattle.ciborium_value.specs.{Meaning.tree_pairs_more, Given.{Outcome, gives, refuses, nests, then_take}}
+use Rattle.ciborium_value.specs.{Given.{outcome_map, of_meaning}, Tree.{Tree, tag, array, map, Trees, no_trees, tree}}
+use Rattle.ciborium_value.specs.{Tree.{TreePairs, no_tree_pairs, tree_pair}, declared.key_order.KeyOrder.KeyOrder}
 use Rattle.ciborium_value.specs.declared.kind.Kind.{Kind}
-use Rattle.ciborium_value.specs.declared.kind.Kind.TheVariants as kinds
 use Rattle.ciborium_value.proofs.Forms.SortedPairs.{IsSortedOrDuplicate, sorted-either}
+use Rattle.ciborium_value.specs.declared.kind.Kind.TheVariants as kinds
 
 -- ---- what a refusal is made of
 
@@ -171,9 +169,8 @@ mutual
 
   pair_reasons : (o : KeyOrder) (ps : TreePairs) → HasReason (pair_forms o ps)
   pair_reasons o no_tree_pairs = tt
-  pair_reasons o (tree_pair k v ps) =
-      reason_pair (deterministic_form o k) (deterministic_form o v) (pair_forms o ps) (reason o k) (reason o v)
-      (pair_reasons o ps)
+  pair_reasons o (tree_pair k v ps) = reason_pair (deterministic_form o k)
+      (deterministic_form o v) (pair_forms o ps) (reason o k) (reason o v) (pair_reasons o ps)
 
 pub form_or_refused : FormOrRefused
 form_or_refused o v = by (deterministic_form o v) (reason o v)

@@ -2,24 +2,17 @@
 use Rattle.std.proofs.Common.{◌≡◌, ℕ, zero, suc, ◌+◌, ◌<◌, List, [], ◌∷◌, length, get_or, set, refl, sym, ap, ◌∙◌}
 use Rattle.std.proofs.Common.{subst, arith, Ordering, Less, Equal, Greater, is_lt, false, Bool}
 use Rattle.std.proofs.lemmas.List.Sorted.{IsPermutation-keeps, ranks_by}
-use Rattle.std.specs.Cmp.{IsStrictWeakOrder}
-use Rattle.std.specs.List.{swap}
-use Rattle.std.specs.List.Sorted.{IsPermutation, IsSortedBy}
-use Rattle.ciborium_value.specs.Canonical.{key_order}
-use Rattle.ciborium_value.specs.Deterministic.{AreRising, keys_of}
-use Rattle.ciborium_value.specs.DeterministicForms.{inserted, sorted_pairs}
-use Rattle.ciborium_value.specs.SameContents.{IsAlike, PairsAreAlike, no_pairs, more_pairs, exchanged}
-use Rattle.ciborium_value.specs.SameContents.{one_after_another}
-use Rattle.ciborium_value.specs.SameContents as same
-use Rattle.ciborium_value.specs.Given.{gives, then_take}
-use Rattle.ciborium_value.specs.Tree.{Tree, TreePairs, no_tree_pairs, tree_pair}
-use Rattle.ciborium_value.specs.View.{tree_of, tree_pairs_of}
-use Rattle.ciborium_value.specs.declared.key_order.KeyOrder.{KeyOrder}
-use Rattle.ciborium_value.specs.declared.tree.Value.{Value}
+use Rattle.std.specs.{Cmp.IsStrictWeakOrder, List.swap, List.Sorted.{IsPermutation, IsSortedBy}}
+use Rattle.ciborium_value.specs.{Canonical.key_order, Deterministic.{AreRising, keys_of}, DeterministicForms.inserted}
+use Rattle.ciborium_value.specs.{DeterministicForms.sorted_pairs, SameContents.{IsAlike, PairsAreAlike, no_pairs}}
+use Rattle.ciborium_value.specs.{SameContents.{more_pairs, exchanged, one_after_another}, Given.{gives, then_take}}
+use Rattle.ciborium_value.specs.{Tree.{Tree, TreePairs, no_tree_pairs, tree_pair}, View.{tree_of, tree_pairs_of}}
+use Rattle.ciborium_value.specs.{declared.key_order.KeyOrder.KeyOrder, declared.tree.Value.Value}
 use Rattle.ciborium_value.specs.lemmas.GivenOutcomes.{one_given, refused_or_given, mapped_gives, then_gives}
 use Rattle.ciborium_value.proofs.Forms.SortedPairs.{AreInOrder, sorted-exchanged, inserted-Less, inserted-Equal}
 use Rattle.ciborium_value.proofs.Forms.SortedPairs.{inserted-Greater, less_where_greater}
 use Rattle.ciborium_value.proofs.Orders.TotalOrders.{key_order_total}
+use Rattle.ciborium_value.specs.SameContents as same
 
 -- each pair and the same one of the others, in any order
 pub data AreReordered : TreePairs → TreePairs → Type 0 where
@@ -71,8 +64,7 @@ swapped (x ∷ xs) i j h k = two_exchanged x (x ∷ xs) i j h k
 
 pub permuted-reordered : (xs ys : List (Value × Value)) → IsPermutation xs ys →
     AreReordered (tree_pairs_of xs) (tree_pairs_of ys)
-permuted-reordered xs ys =
-    IsPermutation-keeps xs (λ l. AreReordered (tree_pairs_of xs) (tree_pairs_of l)) as_they_are
+permuted-reordered xs ys = IsPermutation-keeps xs (λ l. AreReordered (tree_pairs_of xs) (tree_pairs_of l)) as_they_are
     (λ l i j h k before. then_again before (swapped l i j h k)) ys
 
 -- ---- what a sort gives

@@ -1,22 +1,17 @@
 -- Pairs sorted by their keys: in whatever order they were given, and refused where two keys tie.
 use Rattle.std.proofs.Common.{◌≡◌, ◌⊎◌, inl, inr, refl, sym, ap, ◌∙◌, Ordering, Less, Equal, Greater, is_eq, is_lt}
-use Rattle.std.proofs.Common.{true, false, length}
-use Rattle.std.specs.FinMap.{nat_cmp-IsAntisymmetric, slice_cmp-IsAntisymmetric}
-use Rattle.std.specs.Ordering.{nat_cmp, ordering_reverse, ordering_then}
-use Rattle.std.proofs.lemmas.Cmp.{nat_cmp_total, tied_itself}
-use Rattle.ciborium_value.specs.Canonical.{bytewise_order, key_order}
-use Rattle.ciborium_value.specs.Deterministic.{AreRising, keys_of}
-use Rattle.ciborium_value.specs.inner.OwnForms.{AreApart}
-use Rattle.ciborium_value.specs.DeterministicForms.{placed_pair, inserted, sorted_pairs}
-use Rattle.ciborium_value.specs.Encoding.{encoded_size, encoding}
-use Rattle.ciborium_value.specs.Visits.{saturated}
-use Rattle.ciborium_value.specs.declared.key_order.KeyOrder.TheVariants.{LengthFirst, Bytewise}
-use Rattle.ciborium_value.specs.Given.{Outcome, gives, refuses, nests, then_take, outcome_map}
-use Rattle.ciborium_value.specs.Tree.{Tree, TreePairs, no_tree_pairs, tree_pair}
-use Rattle.ciborium_value.specs.declared.key_order.KeyOrder.{KeyOrder}
-use Rattle.ciborium_value.specs.declared.kind.Kind.TheVariants as kinds
+use Rattle.std.proofs.{Common.{true, false, length}, lemmas.Cmp.{nat_cmp_total, tied_itself}}
+use Rattle.std.specs.{FinMap.{nat_cmp-IsAntisymmetric, slice_cmp-IsAntisymmetric}, Ordering.{nat_cmp, ordering_reverse}}
+use Rattle.std.specs.Ordering.{ordering_then}
+use Rattle.ciborium_value.specs.{Canonical.{bytewise_order, key_order}, Deterministic.{AreRising, keys_of}}
+use Rattle.ciborium_value.specs.{inner.OwnForms.AreApart, DeterministicForms.{placed_pair, inserted, sorted_pairs}}
+use Rattle.ciborium_value.specs.{Encoding.{encoded_size, encoding}, Visits.saturated}
+use Rattle.ciborium_value.specs.{declared.key_order.KeyOrder.TheVariants.{LengthFirst, Bytewise}, Given.Outcome}
+use Rattle.ciborium_value.specs.{Given.{gives, refuses, nests, then_take, outcome_map}, Tree.{Tree, TreePairs}}
+use Rattle.ciborium_value.specs.{Tree.{no_tree_pairs, tree_pair}, declared.key_order.KeyOrder.KeyOrder}
+use Rattle.ciborium_value.specs.lemmas.PutEntries.{not-at}
 use Rattle.ciborium_value.proofs.Orders.TotalOrders.{key_order_total}
-use Rattle.ciborium_value.specs.lemmas.ReadsBackMaps.{not-at}
+use Rattle.ciborium_value.specs.declared.kind.Kind.TheVariants as kinds
 
 -- ---- one pair among others
 
@@ -71,25 +66,22 @@ front_either u x k v l w ps e = absurd cc
 
 -- a first pair that stays first
 behind_first : (f : TreePairs → Outcome TreePairs) (p x : Tree) →
-    ((qs : TreePairs) → f (tree_pair p x qs) ≡ outcome_map (tree_pair p x) (f qs))
-    → (r : Outcome TreePairs) → then_take (outcome_map (tree_pair p x) r) f ≡ outcome_map (tree_pair p x)
-    (then_take r f)
+    ((qs : TreePairs) → f (tree_pair p x qs) ≡ outcome_map (tree_pair p x) (f qs)) →
+    (r : Outcome TreePairs) → then_take (outcome_map (tree_pair p x) r) f ≡ outcome_map (tree_pair p x) (then_take r f)
 behind_first f p x stays (gives qs) = stays qs
 behind_first f p x stays u = refl
 
 -- a pair that goes before it
 before_first : (f : TreePairs → Outcome TreePairs) (k v p x : Tree) →
-    ((qs : TreePairs) → f (tree_pair p x qs) ≡ gives (tree_pair k v (tree_pair p x qs)))
-    → (r : Outcome TreePairs) → then_take (outcome_map (tree_pair p x) r) f ≡ outcome_map (tree_pair k v)
-    (outcome_map (tree_pair p x) r)
+    ((qs : TreePairs) → f (tree_pair p x qs) ≡ gives (tree_pair k v (tree_pair p x qs))) → (r : Outcome TreePairs) →
+    then_take (outcome_map (tree_pair p x) r) f ≡ outcome_map (tree_pair k v) (outcome_map (tree_pair p x) r)
 before_first f k v p x goes (gives qs) = goes qs
 before_first f k v p x goes u = refl
 
 -- a pair that ties with it
 ties_first : (f : TreePairs → Outcome TreePairs) (p x : Tree) →
-    ((qs : TreePairs) → f (tree_pair p x qs) ≡ refuses kinds.DuplicateKey)
-    → (r : Outcome TreePairs) → IsSortedOrDuplicate r →
-    then_take (outcome_map (tree_pair p x) r) f ≡ refuses kinds.DuplicateKey
+    ((qs : TreePairs) → f (tree_pair p x qs) ≡ refuses kinds.DuplicateKey) → (r : Outcome TreePairs) →
+    IsSortedOrDuplicate r → then_take (outcome_map (tree_pair p x) r) f ≡ refuses kinds.DuplicateKey
 ties_first f p x ties r (inl (qs, e)) = ap (λ z. then_take (outcome_map (tree_pair p x) z) f) e ∙ ties qs
 ties_first f p x ties r (inr e) = ap (λ z. then_take (outcome_map (tree_pair p x) z) f) e
 
@@ -136,19 +128,16 @@ module _ (o : KeyOrder) (k v l w p x : Tree) (ps : TreePairs) where
       sym (ap (λ z. then_take z (inserted o l w)) (inserted-Equal o k v p x ps e))
 
   equal_greater : key_order o k p ≡ Equal → key_order o l p ≡ Greater → Commutes o k v l w (tree_pair p x ps)
-  equal_greater e h =
-      ap (λ z. then_take z (inserted o k v)) (inserted-Greater o l w p x ps h)
-      ∙ ties_first (inserted o k v) p x (λ rs. inserted-Equal o k v p x rs e) (inserted o l w ps)
-      (inserted-either o l w ps)
-      ∙ sym (ap (λ z. then_take z (inserted o l w)) (inserted-Equal o k v p x ps e))
+  equal_greater e h = ap (λ z. then_take z (inserted o k v)) (inserted-Greater o l w p x ps h) ∙
+      ties_first (inserted o k v) p x (λ rs. inserted-Equal o k v p x rs e) (inserted o l w ps)
+      (inserted-either o l w ps) ∙ sym (ap (λ z. then_take z (inserted o l w)) (inserted-Equal o k v p x ps e))
 
   greater_greater : key_order o k p ≡ Greater → key_order o l p ≡ Greater → Commutes o k v l w ps →
       Commutes o k v l w (tree_pair p x ps)
-  greater_greater e h same =
-      ap (λ z. then_take z (inserted o k v)) (inserted-Greater o l w p x ps h)
-      ∙ behind_first (inserted o k v) p x (λ rs. inserted-Greater o k v p x rs e) (inserted o l w ps)
-      ∙ ap (outcome_map (tree_pair p x)) same
-      ∙ sym (ap (λ z. then_take z (inserted o l w)) (inserted-Greater o k v p x ps e) ∙
+  greater_greater e h same = ap (λ z. then_take z (inserted o k v)) (inserted-Greater o l w p x ps h) ∙
+      behind_first (inserted o k v) p x (λ rs. inserted-Greater o k v p x rs e) (inserted o l w ps) ∙
+      ap (outcome_map (tree_pair p x)) same ∙
+      sym (ap (λ z. then_take z (inserted o l w)) (inserted-Greater o k v p x ps e) ∙
       behind_first (inserted o l w) p x (λ rs. inserted-Greater o l w p x rs h) (inserted o k v ps))
 
 pub commutes : (o : KeyOrder) (k v l w : Tree) (ps : TreePairs) → Commutes o k v l w ps
@@ -200,11 +189,9 @@ tie_refused o k v l w (tree_pair p x ps) e = by (tie_refused o k v l w ps e) (ke
     by same Less h = ap (λ z. then_take z (inserted o k v)) (inserted-Less o l w p x ps h) ∙
         inserted-Equal o k v l w (tree_pair p x ps) e
     by same Equal h = ap (λ z. then_take z (inserted o k v)) (inserted-Equal o l w p x ps h)
-    by same Greater h =
-        ap (λ z. then_take z (inserted o k v)) (inserted-Greater o l w p x ps h)
-        ∙ behind_first (inserted o k v) p x (λ rs. inserted-Greater o k v p x rs
-        ((key_order_total o).congr k l p e ∙ h)) (inserted o l w ps)
-        ∙ ap (outcome_map (tree_pair p x)) same
+    by same Greater h = ap (λ z. then_take z (inserted o k v)) (inserted-Greater o l w p x ps h) ∙
+        behind_first (inserted o k v) p x (λ rs. inserted-Greater o k v p x rs ((key_order_total o).congr k l p e ∙ h))
+        (inserted o l w ps) ∙ ap (outcome_map (tree_pair p x)) same
 
 pub neighbours_refused : (o : KeyOrder) (k v l w : Tree) (ps : TreePairs) → key_order o k l ≡ Equal →
     sorted_pairs o (tree_pair k v (tree_pair l w ps)) ≡ refuses kinds.DuplicateKey

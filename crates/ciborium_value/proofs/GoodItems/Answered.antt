@@ -2,42 +2,34 @@
 use Rattle.std.proofs.Common.{◌≡◌, ℕ, zero, suc, ◌+◌, ◌*◌, ◌<◌, ◌≤◌, cond, ltb, eqb, Bool, true, false, ◌&&◌, List, []}
 use Rattle.std.proofs.Common.{◌∷◌, ◌++◌, length, take, drop, Option, Some, None, option_map, refl, sym, ap, ◌∙◌, subst}
 use Rattle.std.proofs.Common.{arith, inl, inr, length-append, append_assoc, take-append-drop, lt-ltb, eq-eqb, eqb-true}
-use Rattle.std.proofs.Common.{ltb-true, ltb-false}
-use Rattle.std.proofs.lemmas.Bool.{cond_both, eqb-false}
-use Rattle.std.proofs.lemmas.List.{length-take-le}
+use Rattle.std.proofs.{Common.{ltb-true, ltb-false}, lemmas.Bool.{cond_both, eqb-false}, lemmas.List.length-take-le}
 use Rattle.std.proofs.lemmas.Str.{IsUtf8-from_is_utf8}
-use Rattle.ciborium_ll.specs.Bytes.{greatest_offset}
-use Rattle.ciborium_ll.specs.Head.{IsHead}
-use Rattle.ciborium_ll.specs.Refusal.{SemanticKind, Refusal, syntax, semantic, recursion_limit_exceeded, Float, Simple}
-use Rattle.ciborium_ll.specs.Refusal.{Break, TooLarge, IsUsable, HasHead, head_refusal, IsAtFront}
-use Rattle.ciborium_ll.specs.Spells.{IsDefiniteString, AreChunks, joined}
+use Rattle.ciborium_ll.specs.{Bytes.greatest_offset, Head.IsHead, Refusal.{SemanticKind, Refusal, syntax, semantic}}
+use Rattle.ciborium_ll.specs.Refusal.{recursion_limit_exceeded, Float, Simple, Break, TooLarge, IsUsable, HasHead}
+use Rattle.ciborium_ll.specs.{Refusal.{head_refusal, IsAtFront}, Spells.{IsDefiniteString, AreChunks, joined}}
 use Rattle.ciborium_ll.specs.StringRefusal.{StringKind, of_bytes, of_text, string_major, IsAllowed, PayloadRefuses}
 use Rattle.ciborium_ll.specs.StringRefusal.{StringRefuses, ChunkRefuses, HasStringHead}
 use Rattle.ciborium_ll.proofs.FrontHeads.{Front, nothing, counted, opened, plain, raw, front, front_open}
-use Rattle.ciborium_ll.proofs.ReadHeads.{Face, faces}
-use Rattle.ciborium_ll.proofs.UsableHeads.{EachIsByte, bytes_after, take_bytes, stands-front, stands-length}
-use Rattle.ciborium_ll.proofs.UsableHeads.{IsStringMajor}
-use Rattle.ciborium_value.specs.Meaning.{simple_meaning, bignum_meaning}
-use Rattle.ciborium_value.specs.Nesting.{Limit, IsOneLess}
+use Rattle.ciborium_ll.proofs.{ReadHeads.{Face, faces}, UsableHeads.{EachIsByte, bytes_after, take_bytes, stands-front}}
+use Rattle.ciborium_ll.proofs.UsableHeads.{stands-length, IsStringMajor}
+use Rattle.ciborium_value.specs.{Meaning.{simple_meaning, bignum_meaning}, Nesting.{Limit, IsOneLess}}
 use Rattle.ciborium_value.specs.Refuses.{HasGoodHead, Due, items, keys, values, next_due, keys_among, IsDue}
-use Rattle.ciborium_value.specs.Refuses.{BeginsContainer, IsInside, IsTagAt, IsFoldingAt, Refuses}
-use Rattle.ciborium_value.specs.Spelling.{Spelling, any, deterministic, spelling_fault, IsUnwanted}
-use Rattle.ciborium_value.specs.Tree as trees
-use Rattle.ciborium_value.specs.Tree.{Tree}
+use Rattle.ciborium_value.specs.{Refuses.{BeginsContainer, IsInside, IsTagAt, IsFoldingAt, Refuses}, Spelling.Spelling}
+use Rattle.ciborium_value.specs.{Spelling.{any, deterministic, spelling_fault, IsUnwanted}, Tree.Tree}
 use Rattle.ciborium_value.specs.inner.ReadItems.{ReadsItem, string_tree, IsComplete, container_of}
+use Rattle.ciborium_value.specs.lemmas.Descriptions.{both}
 use Rattle.ciborium_value.proofs.GoodItems.Bignums.{foldable-is, is-foldable, none-large}
-use Rattle.ciborium_value.proofs.GoodItems.Found.{kind_allowed, kind_major}
-use Rattle.ciborium_value.proofs.GoodItems.Accepted.{anyway}
+use Rattle.ciborium_value.proofs.{GoodItems.Found.{kind_allowed, kind_major}, GoodItems.Accepted.anyway}
 use Rattle.ciborium_value.proofs.GoodItems.Introduced.{reads-positive, reads-negative, reads-string, kind-below}
 use Rattle.ciborium_value.proofs.GoodItems.Introduced.{reads-open_string, reads-simple, inside-begun, inside-more}
 use Rattle.ciborium_value.proofs.GoodItems.Introduced.{reads-container, reads-tag, folding-reads, reads-folded}
-use Rattle.ciborium_value.proofs.GoodItems.Parts.{in_order-is, is-in_order}
-use Rattle.ciborium_value.proofs.GoodItems.Reader.{Answer, ends, refused, checked, and_then, made, given, past, allowed}
-use Rattle.ciborium_value.proofs.GoodItems.Reader.{string, chunk, piece, pieces, levels, break_at, end_at, or_end}
-use Rattle.ciborium_value.proofs.GoodItems.Reader.{in_order, folding, is_unwanted, bignum, counted_item, opened_item}
-use Rattle.ciborium_value.proofs.GoodItems.Reader.{item_at, next_part, read, parts}
-use Rattle.ciborium_value.proofs.GoodItems.Spelled.{folds-front, seen-folds, are_bytes, spells-pos}
-use Rattle.ciborium_value.specs.lemmas.Descriptions.{both}
+use Rattle.ciborium_value.proofs.{GoodItems.Parts.{in_order-is, is-in_order}, GoodItems.Reader.{Answer, ends, refused}}
+use Rattle.ciborium_value.proofs.GoodItems.Reader.{checked, and_then, made, given, past, allowed, string, chunk, piece}
+use Rattle.ciborium_value.proofs.GoodItems.Reader.{pieces, levels, break_at, end_at, or_end, in_order, folding}
+use Rattle.ciborium_value.proofs.GoodItems.Reader.{is_unwanted, bignum, counted_item, opened_item, item_at, next_part}
+use Rattle.ciborium_value.proofs.{GoodItems.Reader.{read, parts}, GoodItems.Spelled.{folds-front, seen-folds}}
+use Rattle.ciborium_value.proofs.GoodItems.Spelled.{are_bytes, spells-pos}
+use Rattle.ciborium_value.specs.Tree as trees
 
 checked-meets : {A : Type 0} (P : Answer A → Type 0) (o : Option Refusal) (a : Answer A) →
     ((e : Refusal) → o ≡ Some e → P (refused e)) → (o ≡ None → P a) → P (checked o a)
@@ -91,9 +83,8 @@ string-meets c b p q n k r bytes st e =
 abbrev PiecesMeet : StringKind → List ℕ → ℕ → Answer (List ℕ) → Type 0
 PiecesMeet c b q (ends y r u) = (s : List ℕ) × (ps : List (List ℕ)) × AreChunks (string_major c) (IsAllowed c) s ps ×
     (y ≡ joined ps) × (b ≡ s ++ (255 ∷ r)) × (u ≡ q + length s + 1) × (u ≤ greatest_offset)
-PiecesMeet c b q (refused e) = (s : List ℕ) × (ps : List (List ℕ)) × (r : List ℕ) ×
-    AreChunks (string_major c) (IsAllowed c) s ps × (q + length s ≤ greatest_offset) × (b ≡ s ++ r) ×
-    ChunkRefuses c r (q + length s) e
+PiecesMeet c b q (refused e) = (s : List ℕ) × (ps : List (List ℕ)) × (r : List ℕ) × AreChunks (string_major c)
+    (IsAllowed c) s ps × (q + length s ≤ greatest_offset) × (b ≡ s ++ r) × ChunkRefuses c r (q + length s) e
 
 string-begins : (c : StringKind) (b : List ℕ) (f : Front) → front b ≡ f →
     ((n : ℕ) (r : List ℕ) → f ≡ counted (string_major c) n r → ⊥) → HasStringHead c b → ⊥
@@ -205,8 +196,7 @@ abbrev EndMeets : Due → List ℕ → ℕ → Option (List ℕ × ℕ) → Type
 EndMeets now b p None = IsDue now b p
 EndMeets now b p (Some e) = IsComplete now b p e.0 e.1
 
-break-meets : (now : Due) (b : List ℕ) (p : ℕ) →
-    ((p < greatest_offset → IsAtFront 255 b → ⊥) → EndMeets now b p None) →
+break-meets : (now : Due) (b : List ℕ) (p : ℕ) → ((p < greatest_offset → IsAtFront 255 b → ⊥) → EndMeets now b p None) →
     ((r : List ℕ) → b ≡ 255 ∷ r → p < greatest_offset → EndMeets now b p (Some (r, p + 1))) →
     EndMeets now b p (break_at b p)
 break-meets now [] p f g = f (λ h k. let z = k.1 in absurd cc)
@@ -244,8 +234,7 @@ module _ (spelling : Spelling) where
   Meets b p l (refused e) = Refuses spelling b p l e
 
   abbrev ReadMeets : ℕ → Type 0
-  ReadMeets d = (b : List ℕ) (p : ℕ) (l : Limit) → EachIsByte b → 2 * length b < d →
-      Meets b p l (read spelling d b p l)
+  ReadMeets d = (b : List ℕ) (p : ℕ) (l : Limit) → EachIsByte b → 2 * length b < d → Meets b p l (read spelling d b p l)
 
   abbrev PartsMeet : ℕ → Type 0
   PartsMeet d = (b : List ℕ) (p : ℕ) (l : Limit) (vs : List Tree) (r : List ℕ) (q : ℕ) (now : Due) (below : Limit)
@@ -448,8 +437,7 @@ module _ (spelling : Spelling) where
             let lb : length b ≡ length f.0 + length r = ap length f.2 ∙ length-append f.0 r in
             subst (λ z. ReadsItem spelling l b p v r z) (omega (arith, lb))
             (reads-simple spelling b p l f.0 n r v f.1 f.2 e good.1 f.3)
-    item-meets (raw w r) f =
-        subst (λ c. Refuses spelling c p l (semantic p Float)) (sym f.3)
+    item-meets (raw w r) f = subst (λ c. Refuses spelling c p l (semantic p Float)) (sym f.3)
         (Refuses.float (subst (λ c. IsUsable c p) f.3 good.0) f.1 f.2)
 
   judged-meets : (d : ℕ) → ReadMeets d → PartsMeet d → (b : List ℕ) (p : ℕ) (l : Limit) → IsUsable b p →
@@ -463,11 +451,9 @@ module _ (spelling : Spelling) where
   mutual
     pub read-meets : (d : ℕ) → ReadMeets d
     read-meets zero b p l bytes fuel = let never : ⊥ = omega (arith, fuel) in absurd never
-    read-meets (suc d) b p l bytes fuel =
-        checked-meets (Meets b p l) (head_refusal b p) _ (λ e h. Refuses.no_head h)
+    read-meets (suc d) b p l bytes fuel = checked-meets (Meets b p l) (head_refusal b p) _ (λ e h. Refuses.no_head h)
         (λ h. judged-meets d (read-meets d) (parts-meet d) b p l h bytes (omega (arith, fuel))
-        (spelling_fault spelling b)
-        refl)
+        (spelling_fault spelling b) refl)
 
     pub parts-meet : (d : ℕ) → PartsMeet d
     parts-meet zero b p l vs r q now below i bytes fuel = let never : ⊥ = omega (arith, fuel) in absurd never

@@ -5,10 +5,9 @@ use Rattle.std.proofs.Common.{◌∙◌, subst, lit<, arith, le-ltb, ltb-true, l
 use Rattle.std.proofs.Math.Nat.{pow-le-pow_right, pow-succ', add-mul, mul_assoc, mul_left_comm, mul-le-mul_right}
 use Rattle.ciborium_ll.proofs.UsableHeads.{EachIsByte, pass}
 use Rattle.ciborium_value.specs.Meaning.{big_endian_behind, big_endian, without_zeros, bignum_meaning, is_bignum_tag}
-use Rattle.ciborium_value.specs.Spelling.{IsFoldable}
-use Rattle.ciborium_value.specs.Tree.{Tree, integer, bytes, tag}
+use Rattle.ciborium_value.specs.{Spelling.IsFoldable, Tree.{Tree, integer, bytes, tag}, lemmas.ReadsBackBignums.stays}
+use Rattle.ciborium_value.specs.lemmas.ReadsBackBignums.{length-without_zeros}
 use Rattle.ciborium_value.proofs.GoodItems.Reader.{begins_zero, is_foldable}
-use Rattle.ciborium_value.specs.lemmas.ReadsBackBignums.{stays, length-without_zeros}
 
 -- ---- the bounds of a number
 

@@ -2,20 +2,18 @@
 use Rattle.std.proofs.Common.{◌≡◌, ℕ, suc, ◌+◌, ◌^◌, ◌<◌, ◌≤◌, cond, ltb, leb, eqb, Bool, true, false, ◌||◌, List, []}
 use Rattle.std.proofs.Common.{◌∷◌, ◌++◌, length, Option, Some, None, ap, ◌∙◌, subst, arith, length-append, IsUtf8}
 use Rattle.std.proofs.Common.{option_map, pos, negsuc}
-use Rattle.ciborium_value.specs.Tree as trees
-use Rattle.ciborium_value.specs.Tree.{Tree, Trees, TreePairs}
-use Rattle.ciborium_ll.specs.Bytes.{AreBytes}
-use Rattle.ciborium_ll.specs.Item.{Item, unsigned, negative, bytes, text, array, map, tag, simple, float, Items}
-use Rattle.ciborium_ll.specs.Item.{no_items, item, items_count, Pairs, no_pairs, pair, pairs_count}
+use Rattle.ciborium_value.specs.{Tree.{Tree, Trees, TreePairs}, Meaning.{meaning, items_meaning, pairs_meaning}}
+use Rattle.ciborium_value.specs.Meaning.{trees_more, tree_pairs_more, simple_meaning, big_endian, is_bignum_tag}
+use Rattle.ciborium_value.specs.Meaning.{bignum_meaning, unsigned_bignum, negative_bignum, without_zeros, folding_bytes}
+use Rattle.ciborium_value.specs.{Meaning.{short_string, tag_meaning}, Counts.{node_count, payload_size}}
+use Rattle.ciborium_value.specs.Counts.{trees_node_count, trees_payload_size, tree_pairs_node_count}
+use Rattle.ciborium_value.specs.{Counts.tree_pairs_payload_size, lemmas.ReadsBackBignums.length-without_zeros}
+use Rattle.ciborium_ll.specs.{Bytes.AreBytes, Item.{Item, unsigned, negative, bytes, text, array, map, tag, simple}}
+use Rattle.ciborium_ll.specs.Item.{float, Items, no_items, item, items_count, Pairs, no_pairs, pair, pairs_count}
 use Rattle.ciborium_ll.specs.Spells.{AreChunks, joined, IsString, IsContainer, Spells, SpellsItems, SpellsPairs}
-use Rattle.ciborium_value.specs.Meaning.{meaning, items_meaning, pairs_meaning, trees_more, tree_pairs_more}
-use Rattle.ciborium_value.specs.Meaning.{simple_meaning, big_endian, is_bignum_tag, bignum_meaning, unsigned_bignum}
-use Rattle.ciborium_value.specs.Meaning.{negative_bignum, without_zeros, folding_bytes, short_string, tag_meaning}
-use Rattle.ciborium_value.specs.Counts.{node_count, payload_size, trees_node_count, trees_payload_size}
-use Rattle.ciborium_value.specs.Counts.{tree_pairs_node_count, tree_pairs_payload_size}
 use Rattle.ciborium_ll.proofs.FrontHeads.{head-length}
 use Rattle.ciborium_value.proofs.GoodItems.Spelled.{spells-pos}
-use Rattle.ciborium_value.specs.lemmas.ReadsBackBignums.{length-without_zeros}
+use Rattle.ciborium_value.specs.Tree as trees
 
 -- ---- what fits into n bytes: a tree, trees, pairs of trees, and the payload of a string with its head
 
@@ -98,9 +96,8 @@ short-fits _ s h = tt
 -- ---- bignums and tags
 
 unsigned-fits : (k : ℕ) (b : List ℕ) (n : ℕ) → 2 + length b ≤ n → Fits n (unsigned_bignum k b)
-unsigned-fits k b n h =
-    either-fits (ltb k (2 ^ 64)) (Some (trees.integer (pos k))) (Some (trees.tag 2 (trees.bytes b))) n
-    (omega (arith, h)) (omega (arith, h))
+unsigned-fits k b n h = either-fits (ltb k (2 ^ 64))
+    (Some (trees.integer (pos k))) (Some (trees.tag 2 (trees.bytes b))) n (omega (arith, h)) (omega (arith, h))
 
 negative-fits : (k : ℕ) (b : List ℕ) (n : ℕ) → 2 + length b ≤ n → Fits n (negative_bignum k b)
 negative-fits k b n h =
@@ -151,11 +148,9 @@ mutual
   item-fits (negative n) s h = let pos = spells-pos (negative n) s h in omega (arith, pos)
   item-fits (bytes o y) s h = let l = string-longer o 2 AreBytes s y h in omega (arith, l)
   item-fits (text o y) s h = let l = string-longer o 3 IsUtf8 s y h in omega (arith, l)
-  item-fits (array o is) s h =
-      array-fits (items_meaning is) (length h.0) (length s) (items-fit is h.0 h.1)
+  item-fits (array o is) s h = array-fits (items_meaning is) (length h.0) (length s) (items-fit is h.0 h.1)
       (enclosed-shorter o 4 (items_count is) s h.0 h.2)
-  item-fits (map o ps) s h =
-      map-fits (pairs_meaning ps) (length h.0) (length s) (pairs-fit ps h.0 h.1)
+  item-fits (map o ps) s h = map-fits (pairs_meaning ps) (length h.0) (length s) (pairs-fit ps h.0 h.1)
       (enclosed-shorter o 5 (pairs_count ps) s h.0 h.2)
   item-fits (tag t i) s h =
       let l : length s ≡ length h.0 + length h.1 = ap length h.4 ∙ length-append h.0 h.1 in
@@ -168,9 +163,8 @@ mutual
 
   items-fit : (is : Items) (s : List ℕ) → SpellsItems s is → TreesFit (length s) (items_meaning is)
   items-fit no_items s h = omega arith
-  items-fit (item i is) s h =
-      more-fit (meaning i) (items_meaning is) (length h.0) (length h.1) (length s) (item-fits i h.0 h.2)
-      (items-fit is h.1 h.3) (ap length h.4 ∙ length-append h.0 h.1)
+  items-fit (item i is) s h = more-fit (meaning i) (items_meaning is) (length h.0)
+      (length h.1) (length s) (item-fits i h.0 h.2) (items-fit is h.1 h.3) (ap length h.4 ∙ length-append h.0 h.1)
 
   pairs-fit : (ps : Pairs) (s : List ℕ) → SpellsPairs s ps → PairsFit (length s) (pairs_meaning ps)
   pairs-fit no_pairs s h = omega arith

@@ -1,14 +1,12 @@
 -- What a spelling asks of the head at the front.
-use Rattle.std.proofs.Common.{◌≡◌, ℕ, suc, ◌+◌, ◌*◌, ◌%◌, ◌<◌, ◌≤◌, cond, ltb, leb, eqb, Bool, true, false}
-use Rattle.std.proofs.Common.{◌&&◌, List, ◌∷◌, ◌++◌, length, Option, Some, None, refl, sym, ap, ◌∙◌, arith}
-use Rattle.std.proofs.Common.{lt-ltb, le-ltb, ltb-false, ne_eqb, inl, inr}
-use Rattle.std.proofs.lemmas.Nat.{div-mul-add, mod-mul-add}
+use Rattle.std.proofs.Common.{◌≡◌, ℕ, suc, ◌+◌, ◌*◌, ◌%◌, ◌<◌, ◌≤◌, cond, ltb, leb, eqb, Bool, true, false, ◌&&◌, List}
+use Rattle.std.proofs.Common.{◌∷◌, ◌++◌, length, Option, Some, None, refl, sym, ap, ◌∙◌, arith, lt-ltb, le-ltb}
+use Rattle.std.proofs.{Common.{ltb-false, ne_eqb, inl, inr}, lemmas.Nat.{div-mul-add, mod-mul-add}}
 use Rattle.std.proofs.lemmas.Bool.Decides.{nat_tests}
-use Rattle.ciborium_ll.specs.Head.{IsSimple, information, argument_bytes, shortest_head}
-use Rattle.ciborium_ll.specs.Refusal.{SemanticKind, NotShortest, Open, argument, argument_length, HasHead}
-use Rattle.ciborium_ll.proofs.ShortestHead.{no_other_is_as_short}
-use Rattle.ciborium_ll.proofs.UsableHeads.{argument-information, argument_length-information, information-below, pass}
-use Rattle.ciborium_ll.proofs.UsableHeads.{and_false}
+use Rattle.ciborium_ll.specs.{Head.{IsSimple, information, argument_bytes, shortest_head}, Refusal.SemanticKind}
+use Rattle.ciborium_ll.specs.Refusal.{NotShortest, Open, argument, argument_length, HasHead}
+use Rattle.ciborium_ll.proofs.{ShortestHead.no_other_is_as_short, UsableHeads.argument-information}
+use Rattle.ciborium_ll.proofs.UsableHeads.{argument_length-information, information-below, pass, and_false}
 use Rattle.ciborium_value.specs.Spelling.{Spelling, any, deterministic, deterministic_fault, spelling_fault}
 use Rattle.ciborium_value.specs.declared.key_order.KeyOrder.{KeyOrder}
 

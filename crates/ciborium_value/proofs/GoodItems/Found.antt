@@ -1,56 +1,44 @@
 -- What is read at the front, in any spelling, is what the reader answers.
-use Rattle.std.proofs.Common.{◌≡◌, ℕ, zero, suc, ◌+◌, ◌*◌, ◌<◌, ◌≤◌, cond, ltb, eqb, Bool, true, false, ◌&&◌}
-use Rattle.std.proofs.Common.{List, [], ◌∷◌, ◌++◌, length, Option, Some, None, option_map, pos, negsuc, refl, sym, ap}
-use Rattle.std.proofs.Common.{◌∙◌, subst, arith, inl, inr, length-append, append_assoc, append-nil, lt-ltb, eqb-true}
-use Rattle.std.proofs.lemmas.Bool.Decides.{nat_tests}
-use Rattle.std.proofs.lemmas.Str.{is_utf8-from_IsUtf8}
-use Rattle.std.proofs.lemmas.Bool.{cond-true}
-use Rattle.ciborium_ll.specs.Bytes.{greatest_offset}
-use Rattle.ciborium_ll.specs.Head.{IsHead, IsSimple, shortest_head}
-use Rattle.ciborium_ll.specs.Item as item
-use Rattle.ciborium_ll.specs.Item.{Item}
+use Rattle.std.proofs.Common.{◌≡◌, ℕ, zero, suc, ◌+◌, ◌*◌, ◌<◌, ◌≤◌, cond, ltb, eqb, Bool, true, false, ◌&&◌, List, []}
+use Rattle.std.proofs.Common.{◌∷◌, ◌++◌, length, Option, Some, None, option_map, pos, negsuc, refl, sym, ap, ◌∙◌, subst}
+use Rattle.std.proofs.Common.{arith, inl, inr, length-append, append_assoc, append-nil, lt-ltb, eqb-true}
+use Rattle.std.proofs.{lemmas.Bool.Decides.nat_tests, lemmas.Str.is_utf8-from_IsUtf8, lemmas.Bool.cond-true}
+use Rattle.ciborium_ll.specs.{Bytes.greatest_offset, Head.{IsHead, IsSimple, shortest_head}, Item.Item}
 use Rattle.ciborium_ll.specs.Refusal.{is_reserved, semantic, Break, Simple, TooLarge, IsUsable, HasHead}
-use Rattle.ciborium_ll.specs.Spells.{AreChunks, joined, IsString, Spells}
-use Rattle.ciborium_ll.specs.StringRefusal.{StringKind, of_bytes, of_text, string_major, IsAllowed}
-use Rattle.ciborium_ll.proofs.FrontHeads.{plain, front, front-simple}
-use Rattle.ciborium_ll.proofs.UsableHeads.{stands-usable, stands-length, IsStringMajor, pass}
-use Rattle.ciborium_value.specs.Deterministic.{AreRising}
-use Rattle.ciborium_value.specs.DeterministicTrees.{IsDeterministicTree}
-use Rattle.ciborium_value.specs.ProperTrees.{IsProperTree}
-use Rattle.ciborium_value.specs.lemmas.ItemsOfTrees.{short_string-item_of, tree_is_written_as_itself}
-use Rattle.ciborium_ll.specs.ProperItems.{IsArgument}
-use Rattle.ciborium_ll.proofs.ShortestHead.{shortest_is_head}
-use Rattle.ciborium_ll.proofs.CutHeads.{each-byte}
-use Rattle.ciborium_value.proofs.Writing.Written.{written_spells, IsProperItem-item_of, items_count-items_of}
-use Rattle.ciborium_value.proofs.Writing.Written.{pairs_count-pairs_of}
-use Rattle.ciborium_value.specs.Encoding.{written_tree, encoding, item_of, items_of, pairs_of, items_bytes, pairs_bytes}
-use Rattle.ciborium_value.specs.Folded.{folded, tree_folding_bytes}
-use Rattle.ciborium_value.specs.Meaning.{meaning, items_meaning, pairs_meaning, simple_meaning, bignum_meaning}
-use Rattle.ciborium_value.specs.Meaning.{is_bignum_tag, folding_bytes, tag_meaning}
+use Rattle.ciborium_ll.specs.{Spells.{AreChunks, joined, IsString, Spells}, StringRefusal.{StringKind, of_bytes}}
+use Rattle.ciborium_ll.specs.{StringRefusal.{of_text, string_major, IsAllowed}, ProperItems.IsArgument}
+use Rattle.ciborium_ll.proofs.{FrontHeads.{plain, front, front-simple}, UsableHeads.{stands-usable, stands-length}}
+use Rattle.ciborium_ll.proofs.{UsableHeads.{IsStringMajor, pass}, ShortestHead.shortest_is_head, CutHeads.each-byte}
+use Rattle.ciborium_value.specs.{Deterministic.AreRising, DeterministicTrees.IsDeterministicTree}
+use Rattle.ciborium_value.specs.{ProperTrees.IsProperTree, lemmas.ItemsOfTrees.short_string-item_of}
+use Rattle.ciborium_value.specs.{lemmas.ItemsOfTrees.tree_is_written_as_itself, Encoding.{written_tree, encoding}}
+use Rattle.ciborium_value.specs.{Encoding.{item_of, items_of, pairs_of, items_bytes, pairs_bytes}, Folded.folded}
+use Rattle.ciborium_value.specs.{Folded.tree_folding_bytes, Meaning.{meaning, items_meaning, pairs_meaning}}
+use Rattle.ciborium_value.specs.Meaning.{simple_meaning, bignum_meaning, is_bignum_tag, folding_bytes, tag_meaning}
 use Rattle.ciborium_value.specs.Nesting.{nesting, tag_nesting, items_nesting, pairs_nesting, Limit, IsWithin, IsOneLess}
 use Rattle.ciborium_value.specs.Refuses.{HasGoodHead, Due, items, keys, values, next_due, due_after, keys_among}
-use Rattle.ciborium_value.specs.Refuses.{keys_in, BeginsContainer, AreReadAs, IsInside, IsTagAt}
-use Rattle.ciborium_value.specs.Spelling.{Spelling, any, deterministic, IsReadAs, spelling_fault, IsUnwanted}
-use Rattle.ciborium_value.specs.Spelling.{AreInOrder}
-use Rattle.ciborium_value.specs.Tree as trees
-use Rattle.ciborium_value.specs.Tree.{Tree, Trees, TreePairs, trees_count, tree_pairs_count}
-use Rattle.ciborium_value.specs.View.{trees_from}
+use Rattle.ciborium_value.specs.{Refuses.{keys_in, BeginsContainer, AreReadAs, IsInside, IsTagAt}, Spelling.Spelling}
+use Rattle.ciborium_value.specs.Spelling.{any, deterministic, IsReadAs, spelling_fault, IsUnwanted, AreInOrder}
+use Rattle.ciborium_value.specs.{Tree.{Tree, Trees, TreePairs, trees_count, tree_pairs_count}, View.trees_from}
 use Rattle.ciborium_value.specs.inner.ReadItems.{string_tree, IsComplete, pairs_in, container_of}
 use Rattle.ciborium_value.specs.declared.key_order.KeyOrder.{KeyOrder}
-use Rattle.ciborium_value.proofs.GoodItems.Bignums.{foldable-is, kept-whole}
-use Rattle.ciborium_value.proofs.GoodItems.Faults.{short-fault, fault-simple}
-use Rattle.ciborium_value.proofs.GoodItems.Accepted.{anyway, accepted, deterministic_tree}
-use Rattle.ciborium_value.proofs.GoodItems.Parts.{within-zero, lower, levels-below, due-first, is-in_order}
-use Rattle.ciborium_value.proofs.GoodItems.Parts.{order-before, elements, turns, elements-in, turns-in, elements-due}
-use Rattle.ciborium_value.proofs.GoodItems.Parts.{turns-due, open-elements-due, open-turns-due, keys-turns, read-items}
-use Rattle.ciborium_value.proofs.GoodItems.Parts.{read-pairs, written-trees, written-pairs}
-use Rattle.ciborium_value.proofs.GoodItems.Reader.{Answer, ends, refused, and_then, made, given, past, allowed, string}
-use Rattle.ciborium_value.proofs.GoodItems.Reader.{pieces, break_at, end_at, or_end, is_unwanted, bignum, counted_item}
-use Rattle.ciborium_value.proofs.GoodItems.Reader.{opened_item, next_part, read, parts}
-use Rattle.ciborium_value.proofs.GoodItems.Spelled.{spells-pos, folds-front, folds-some, none-folds, not_so}
-use Rattle.ciborium_value.proofs.GoodItems.Steps.{opened-has, simple-has, read-head, read-counted, read-opened}
-use Rattle.ciborium_value.proofs.GoodItems.Steps.{ended-has, opens-read, tag-at, string-good, pieces-run, pieces-break}
+use Rattle.ciborium_value.proofs.Writing.Written.{written_spells, IsProperItem-item_of, items_count-items_of}
+use Rattle.ciborium_value.proofs.{Writing.Written.pairs_count-pairs_of, GoodItems.Bignums.{foldable-is, kept-whole}}
+use Rattle.ciborium_value.proofs.{GoodItems.Faults.{short-fault, fault-simple}, GoodItems.Accepted.{anyway, accepted}}
+use Rattle.ciborium_value.proofs.{GoodItems.Accepted.deterministic_tree, GoodItems.Parts.{within-zero, lower}}
+use Rattle.ciborium_value.proofs.GoodItems.Parts.{levels-below, due-first, is-in_order, order-before, elements, turns}
+use Rattle.ciborium_value.proofs.GoodItems.Parts.{elements-in, turns-in, elements-due, turns-due, open-elements-due}
+use Rattle.ciborium_value.proofs.GoodItems.Parts.{open-turns-due, keys-turns, read-items, read-pairs, written-trees}
+use Rattle.ciborium_value.proofs.{GoodItems.Parts.written-pairs, GoodItems.Reader.{Answer, ends, refused, and_then}}
+use Rattle.ciborium_value.proofs.GoodItems.Reader.{made, given, past, allowed, string, pieces, break_at, end_at, or_end}
+use Rattle.ciborium_value.proofs.GoodItems.Reader.{is_unwanted, bignum, counted_item, opened_item, next_part, read}
+use Rattle.ciborium_value.proofs.{GoodItems.Reader.parts, GoodItems.Spelled.{spells-pos, folds-front, folds-some}}
+use Rattle.ciborium_value.proofs.{GoodItems.Spelled.{none-folds, not_so}, GoodItems.Steps.{opened-has, simple-has}}
+use Rattle.ciborium_value.proofs.GoodItems.Steps.{read-head, read-counted, read-opened, ended-has, opens-read, tag-at}
+use Rattle.ciborium_value.proofs.GoodItems.Steps.{string-good, pieces-run, pieces-break}
 use Rattle.ciborium_value.proofs.GoodItems.Introduced.{kind-below}
+use Rattle.ciborium_ll.specs.Item as item
+use Rattle.ciborium_value.specs.Tree as trees
 
 pub kind_allowed : (c : StringKind) (t : List ℕ) → IsAllowed c t → allowed (string_major c) t ≡ true
 kind_allowed of_bytes t h = refl
@@ -168,10 +156,9 @@ module _ (spelling : Spelling) where
       (good-head b 1 n (length s) p x (omega arith) st fine (omega (arith, k, room))
       (λ z. absurd (no-string 1 (λ i. omega (arith, i)) (λ i. omega (arith, i)) z))) k
 
-  string-read : (kind : StringKind) (d p q : ℕ) (h y x b : List ℕ) (l : Limit) →
-      IsHead h (string_major kind) (length y) →
-      IsAllowed kind y → spelling_fault spelling b ≡ None → b ≡ (h ++ y) ++ x → q ≡ p + length (h ++ y) →
-      q ≤ greatest_offset → read spelling (suc d) b p l ≡ ends (string_tree kind y) x q
+  string-read : (kind : StringKind) (d p q : ℕ) (h y x b : List ℕ) (l : Limit) → IsHead h (string_major kind)
+      (length y) → IsAllowed kind y → spelling_fault spelling b ≡ None → b ≡ (h ++ y) ++ x →
+      q ≡ p + length (h ++ y) → q ≤ greatest_offset → read spelling (suc d) b p l ≡ ends (string_tree kind y) x q
   string-read kind d p q h y x b l is ok fine e k room =
       let m : ℕ = string_major kind in
       let n : ℕ = length y in
@@ -215,9 +202,8 @@ module _ (spelling : Spelling) where
       free of_bytes = refl
       free of_text = refl
 
-      chosen : (k : StringKind) → opened_item spelling (λ w. parts spelling d w (Some w) []) (pieces d)
-          (string_major k) (c ++ (255 ∷ x)) p l ≡ made (string_tree k) (pieces d (string_major k) (c ++ (255 ∷ x))
-          (p + 1))
+      chosen : (k : StringKind) → opened_item spelling (λ w. parts spelling d w (Some w) []) (pieces d) (string_major k)
+          (c ++ (255 ∷ x)) p l ≡ made (string_tree k) (pieces d (string_major k) (c ++ (255 ∷ x)) (p + 1))
       chosen of_bytes = refl
       chosen of_text = refl
 
@@ -267,8 +253,7 @@ module _ (spelling : Spelling) where
     -- with its item
     pub tag-read : (below : Limit) (v : Tree) → folding_bytes t i ≡ None → IsOneLess l below →
         IsReadAs spelling r (p + length h) below v → read spelling (suc d) b p l ≡ ends (trees.tag t v) x q
-    tag-read below v none level item =
-        tag-at spelling d p t b (r ++ x) (p + length h) l (begun below v item) ∙
+    tag-read below v none level item = tag-at spelling d p t b (r ++ x) (p + length h) l (begun below v item) ∙
         pass _ _ _ (none-folds t i r x (r ++ x) spelled refl none) ∙
         levels-below l below (λ m. made (trees.tag t) (read spelling d (r ++ x) (p + length h) m)) level ∙
         ap (made (trees.tag t)) (content below v item)
@@ -314,12 +299,11 @@ module _ (spelling : Spelling) where
       no_keys any = tt
       no_keys (deterministic order) = tt
 
-  map-read : (d : ℕ) → RunsAt d → (b : List ℕ) (p n k q : ℕ) (l below : Limit) (vs : List Tree) (g x : List ℕ) →
-      HasHead b 5 n k (g ++ x) → spelling_fault spelling b ≡ None → IsOneLess l below →
-      AreReadAs spelling g (p + k) below vs → AreInOrder spelling (keys_in vs) →
-      due_after (keys (Some n)) vs ≡ Some (keys (Some 0)) →
-      q ≡ p + k + length g → q ≤ greatest_offset → 2 * length b < suc d →
-      read spelling (suc d) b p l ≡ ends (trees.map (pairs_in vs)) x q
+  map-read : (d : ℕ) → RunsAt d →
+      (b : List ℕ) (p n k q : ℕ) (l below : Limit) (vs : List Tree) (g x : List ℕ) → HasHead b 5 n k (g ++ x) →
+      spelling_fault spelling b ≡ None → IsOneLess l below → AreReadAs spelling g (p + k) below vs →
+      AreInOrder spelling (keys_in vs) → due_after (keys (Some n)) vs ≡ Some (keys (Some 0)) → q ≡ p + k + length g →
+      q ≤ greatest_offset → 2 * length b < suc d → read spelling (suc d) b p l ≡ ends (trees.map (pairs_in vs)) x q
   map-read d run b p n k q l below vs g x st fine level read order due at fits fuel =
       container-read d run b p l below vs x x q q (keys (Some 0)) (record {
         size = k;
@@ -457,9 +441,8 @@ module _ (d : ℕ) (rd : ReadsAt any d) (run : RunsAt any d) (x b : List ℕ) (p
       }) (refl, omega (arith, k, ls, lg), room) fuel ∙
       ap (λ us. ends (trees.map us) x q) (turns-in ts)
 
-  any-tag : (t : ℕ) (i : Item) (v : Tree) (s : List ℕ) → Spells s (item.tag t i) →
-      tag_meaning t (folding_bytes t i) (meaning i) ≡ Some v →
-      IsWithin l (tag_nesting (folding_bytes t i) (nesting i)) →
+  any-tag : (t : ℕ) (i : Item) (v : Tree) (s : List ℕ) → Spells s (item.tag t i) → tag_meaning t (folding_bytes t i)
+      (meaning i) ≡ Some v → IsWithin l (tag_nesting (folding_bytes t i) (nesting i)) →
       b ≡ s ++ x → q ≡ p + length s → q ≤ greatest_offset → 2 * length b < suc d → read any (suc d) b p l ≡ ends v x q
   any-tag t i v s (h, r, head, spelled, e) means nests f k room fuel = by (folding_bytes t i) refl means nests
     where
@@ -661,8 +644,7 @@ module _ (order : KeyOrder) (d : ℕ) (rd : ReadsAt (deterministic order) d) (ru
           ) below.1 (omega (arith, k, len, room)))
 
   det-tree : (v : Tree) → IsDeterministicTree order v → IsWithin l (nesting (item_of v)) → b ≡ encoding v ++ x →
-      q ≡ p + length (encoding v) → q ≤ greatest_offset → 2 * length b < suc d →
-      read det (suc d) b p l ≡ ends v x q
+      q ≡ p + length (encoding v) → q ≤ greatest_offset → 2 * length b < suc d → read det (suc d) b p l ≡ ends v x q
   unfolding simple_meaning
   det-tree (trees.integer (pos n)) c nests f k room fuel =
       positive-read det d p q n (shortest_head 0 n) x b l (shortest_is_head 0 n c.proper)
@@ -674,8 +656,7 @@ module _ (order : KeyOrder) (d : ℕ) (rd : ReadsAt (deterministic order) d) (ru
   det-tree (trees.text y) c nests f k room fuel = det-string of_text y c.proper.0 c.proper.1.1 f k room
   det-tree (trees.boolean false) c nests f k room fuel = det-simple 20 (trees.boolean false) (omega arith) refl f k room
   det-tree (trees.boolean true) c nests f k room fuel = det-simple 21 (trees.boolean true) (omega arith) refl f k room
-  det-tree trees.null c nests f k room fuel = det-simple 22 trees.null (omega arith) refl f k
-      room
+  det-tree trees.null c nests f k room fuel = det-simple 22 trees.null (omega arith) refl f k room
   det-tree (trees.tag t w) c nests f k room fuel = det-tag t w c nests f k room fuel
   det-tree (trees.array ts) c nests f k room fuel = det-array ts c nests f k room fuel
   det-tree (trees.map ps) c nests f k room fuel = det-map ps c nests f k room fuel

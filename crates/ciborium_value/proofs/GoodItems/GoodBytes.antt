@@ -1,19 +1,16 @@
 -- Whatever is a good item is a list of bytes.
 use Rattle.std.proofs.Common.{◌≡◌, ℕ, ◌+◌, ◌*◌, ◌/◌, ◌%◌, ◌<◌, cond, ltb, ltb-true, Bool, true, false, List, [], ◌∷◌}
 use Rattle.std.proofs.Common.{◌++◌, length, Option, Some, None, IsSome, option_map, refl, sym, subst, arith, inl, inr}
-use Rattle.std.specs.Prelude.{IsUtf8}
-use Rattle.std.proofs.lemmas.Bool.{and_parts}
-use Rattle.std.proofs.lemmas.List.Elements.{All-append, All-nil, All-from_recursion}
+use Rattle.std.proofs.{lemmas.Bool.and_parts, lemmas.List.Elements.{All-append, All-nil, All-from_recursion}}
 use Rattle.std.proofs.lemmas.Nat.{mod_below}
-use lib.Utf8.{next, scalar, scalars, scalar_cases, encode, encodes}
-use Rattle.ciborium_ll.specs.Bytes.{AreBytes}
-use Rattle.ciborium_ll.specs.Head.{IsHead, IsSimple, within, one_byte, two_bytes, four_bytes, eight_bytes, head_in}
-use Rattle.ciborium_ll.specs.Item as item
-use Rattle.ciborium_ll.specs.Item.{Item, Items, Pairs, items_count, pairs_count}
+use Rattle.std.specs.Prelude.{IsUtf8}
+use Rattle.ciborium_ll.specs.{Bytes.AreBytes, Head.{IsHead, IsSimple, within, one_byte, two_bytes, four_bytes}}
+use Rattle.ciborium_ll.specs.{Head.{eight_bytes, head_in}, Item.{Item, Items, Pairs, items_count, pairs_count}}
 use Rattle.ciborium_ll.specs.Spells.{AreChunks, IsString, IsContainer, Spells, SpellsItems, SpellsPairs}
 use Rattle.ciborium_value.specs.Meaning.{meaning, items_meaning, pairs_meaning, tag_meaning, is_bignum_tag, trees_more}
-use Rattle.ciborium_value.specs.Meaning.{tree_pairs_more}
-use Rattle.ciborium_value.specs.Tree.{Tree, Trees, TreePairs, tag, array, map}
+use Rattle.ciborium_value.specs.{Meaning.tree_pairs_more, Tree.{Tree, Trees, TreePairs, tag, array, map}}
+use lib.Utf8.{next, scalar, scalars, scalar_cases, encode, encodes}
+use Rattle.ciborium_ll.specs.Item as item
 
 -- ---- heads
 
@@ -119,9 +116,8 @@ string_bytes : (o : Bool) (m : ℕ) (IsAllowed : List ℕ → Type 0) → m < 7 
     (s y : List ℕ) → IsString o m IsAllowed s y → AreBytes s
 string_bytes false m IsAllowed small ok s y (h, head, is_ok, is) =
     subst AreBytes (sym is) (All-append (λ x. x < 256) h y (head_bytes h m (length y) small head) (ok y is_ok))
-string_bytes true m IsAllowed small ok s y (ys, r, parts, same, is) =
-    subst AreBytes (sym is) (broken_bytes r (m * 32 + 31) (omega (arith, small))
-    (parts_bytes m IsAllowed small ok ys r parts))
+string_bytes true m IsAllowed small ok s y (ys, r, parts, same, is) = subst AreBytes (sym is)
+    (broken_bytes r (m * 32 + 31) (omega (arith, small)) (parts_bytes m IsAllowed small ok ys r parts))
 
 enclosed_bytes : (o : Bool) (m n : ℕ) → m < 7 → (s r : List ℕ) → IsContainer o m n s r → AreBytes r → AreBytes s
 enclosed_bytes false m n small s r (h, head, is) bytes =
@@ -181,9 +177,8 @@ mutual
       (items_bytes is r h (some-array (items_meaning is) m))
   item_bytes (item.map o ps) s (r, h, e) m = enclosed_bytes o 5 (pairs_count ps) (omega arith) s r e
       (pairs_bytes ps r h (some-map (pairs_meaning ps) m))
-  item_bytes (item.tag t i) s (h, r, head, k, e) m =
-      subst AreBytes (sym e) (All-append (λ x. x < 256) h r (head_bytes h 6 t (omega arith) head)
-      (item_bytes i r k (content-means t i m)))
+  item_bytes (item.tag t i) s (h, r, head, k, e) m = subst AreBytes (sym e)
+      (All-append (λ x. x < 256) h r (head_bytes h 6 t (omega arith) head) (item_bytes i r k (content-means t i m)))
   item_bytes (item.simple n) s h m = simple_bytes s n h
   item_bytes (item.float raw) s h m = absurd cc
 

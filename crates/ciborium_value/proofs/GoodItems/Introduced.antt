@@ -1,34 +1,28 @@
 -- How items are read, in every spelling: each by the rule for its head, and containers part by part.
-use Rattle.std.proofs.Common.{◌≡◌, ℕ, zero, suc, ◌+◌, ◌*◌, ◌<◌, ◌≤◌, cond, eqb, Bool, true, false, ◌||◌, List, []}
-use Rattle.std.proofs.Common.{◌∷◌, ◌++◌, length, Option, Some, None, option_map, pos, negsuc, refl, sym, ap, ◌∙◌, subst}
+use Rattle.std.proofs.Common.{◌≡◌, ℕ, zero, suc, ◌+◌, ◌*◌, ◌<◌, ◌≤◌, cond, eqb, Bool, true, false, ◌||◌, List, [], ◌∷◌}
+use Rattle.std.proofs.Common.{◌++◌, length, Option, Some, None, option_map, pos, negsuc, refl, sym, ap, ◌∙◌, subst}
 use Rattle.std.proofs.Common.{arith, inl, inr, length-append, append_assoc, eqb-true}
-use Rattle.ciborium_ll.specs.Bytes.{AreBytes, greatest_offset}
-use Rattle.ciborium_ll.specs.Head.{IsHead, IsSimple, shortest_head, open_byte, break_byte}
-use Rattle.ciborium_ll.specs.Item as item
-use Rattle.ciborium_ll.specs.Item.{Item}
-use Rattle.ciborium_ll.specs.Refusal.{NotShortest, HasHead, Open}
-use Rattle.ciborium_ll.specs.Spells.{AreChunks, joined, Spells}
-use Rattle.ciborium_ll.specs.StringRefusal.{StringKind, of_bytes, of_text, string_major, IsAllowed}
-use Rattle.ciborium_value.specs.Deterministic.{HasRisingKeys, AreRising}
-use Rattle.ciborium_value.specs.Encoding.{encoding, items_of, pairs_of}
+use Rattle.ciborium_ll.specs.{Bytes.{AreBytes, greatest_offset}, Head.{IsHead, IsSimple, shortest_head, open_byte}}
+use Rattle.ciborium_ll.specs.{Head.break_byte, Item.Item, Refusal.{NotShortest, HasHead, Open}, Spells.AreChunks}
+use Rattle.ciborium_ll.specs.{Spells.{joined, Spells}, StringRefusal.{StringKind, of_bytes, of_text, string_major}}
+use Rattle.ciborium_ll.specs.StringRefusal.{IsAllowed}
+use Rattle.ciborium_value.specs.{Deterministic.{HasRisingKeys, AreRising}, Encoding.{encoding, items_of, pairs_of}}
 use Rattle.ciborium_value.specs.Meaning.{meaning, simple_meaning, bignum_meaning, tag_meaning, is_bignum_tag}
-use Rattle.ciborium_value.specs.Meaning.{folding_bytes}
-use Rattle.ciborium_value.specs.Nesting.{nesting, tag_nesting, Limit, IsWithin, IsOneLess}
+use Rattle.ciborium_value.specs.{Meaning.folding_bytes, Nesting.{nesting, tag_nesting, Limit, IsWithin, IsOneLess}}
 use Rattle.ciborium_value.specs.Refuses.{HasGoodHead, Due, items, keys, values, next_due, due_after, keys_among}
 use Rattle.ciborium_value.specs.Refuses.{keys_in, AreReadAs, BeginsContainer, IsInside, IsTagAt, IsFoldingAt}
 use Rattle.ciborium_value.specs.Spelling.{Spelling, any, deterministic, IsReadAs, spelling_fault, IsUnwanted}
-use Rattle.ciborium_value.specs.Spelling.{AreInOrder, IsSpelledSo}
-use Rattle.ciborium_value.specs.Tree as trees
-use Rattle.ciborium_value.specs.Tree.{Tree, tree_pairs_count}
-use Rattle.ciborium_value.specs.View.{trees_from}
+use Rattle.ciborium_value.specs.{Spelling.{AreInOrder, IsSpelledSo}, Tree.{Tree, tree_pairs_count}, View.trees_from}
 use Rattle.ciborium_value.specs.inner.ReadItems.{ReadsItem, string_tree, IsComplete, pairs_in, container_of}
 use Rattle.ciborium_value.specs.declared.key_order.KeyOrder.{KeyOrder}
-use Rattle.ciborium_value.proofs.GoodItems.Bignums.{whole-kept}
-use Rattle.ciborium_value.proofs.GoodItems.Faults.{fault-short, fault-open, fault-undefined}
-use Rattle.ciborium_value.proofs.GoodItems.Parts.{within-zero, raise, due-more, counted-items, open-pairs}
-use Rattle.ciborium_value.proofs.GoodItems.Parts.{counted-pairs, keys-paired, keys-value, read-more, items-read}
-use Rattle.ciborium_value.proofs.GoodItems.Parts.{pairs-read, trees-written, pairs-written, ArePaired}
-use Rattle.ciborium_value.proofs.GoodItems.Spelled.{folds-none, folding-string, folding-over}
+use Rattle.ciborium_value.proofs.{GoodItems.Bignums.whole-kept, GoodItems.Faults.{fault-short, fault-open}}
+use Rattle.ciborium_value.proofs.{GoodItems.Faults.fault-undefined, GoodItems.Parts.{within-zero, raise, due-more}}
+use Rattle.ciborium_value.proofs.GoodItems.Parts.{counted-items, open-pairs, counted-pairs, keys-paired, keys-value}
+use Rattle.ciborium_value.proofs.GoodItems.Parts.{read-more, items-read, pairs-read, trees-written, pairs-written}
+use Rattle.ciborium_value.proofs.{GoodItems.Parts.ArePaired, GoodItems.Spelled.{folds-none, folding-string}}
+use Rattle.ciborium_value.proofs.GoodItems.Spelled.{folding-over}
+use Rattle.ciborium_ll.specs.Item as item
+use Rattle.ciborium_value.specs.Tree as trees
 
 -- ---- what a spelling asks, by its parts
 
@@ -102,9 +96,8 @@ so-folded : (spelling : Spelling) (h w : List ℕ) (t : ℕ) (y : List ℕ) (v :
     IsSpelledSo spelling w (trees.bytes y) → is_bignum_tag t ≡ true → (IsUnwanted spelling y → ⊥) →
     bignum_meaning t y ≡ Some v → IsSpelledSo spelling (h ++ w) v
 so-folded any h w t y v short so is wanted means = tt
-so-folded (deterministic order) h w t y v short so is wanted means =
-    subst (IsSpelledSo (deterministic order) (h ++ w)) (sym (whole-kept t y v is wanted means))
-    (so-tag (deterministic order) h w t (trees.bytes y) short so)
+so-folded (deterministic order) h w t y v short so is wanted means = subst (IsSpelledSo (deterministic order) (h ++ w))
+    (sym (whole-kept t y v is wanted means)) (so-tag (deterministic order) h w t (trees.bytes y) short so)
 
 -- ---- without parts
 
@@ -177,8 +170,7 @@ reads-string spelling kind b p n k l y r (h, is, len, split) size ok none fits =
 pub reads-open_string : (spelling : Spelling) (kind : StringKind) (b : List ℕ) (p : ℕ) (l : Limit) (c : List ℕ)
     (ys : List (List ℕ)) (r : List ℕ) → b ≡ open_byte (string_major kind) ∷ (c ++ (break_byte ∷ r)) →
     AreChunks (string_major kind) (IsAllowed kind) c ys → spelling_fault spelling b ≡ None →
-    p + length c + 2 ≤ greatest_offset →
-    ReadsItem spelling l b p (string_tree kind (joined ys)) r (p + length c + 2)
+    p + length c + 2 ≤ greatest_offset → ReadsItem spelling l b p (string_tree kind (joined ys)) r (p + length c + 2)
 reads-open_string spelling kind b p l c ys r split chunks none fits = record {
   taken = open_byte (string_major kind) ∷ (c ++ (break_byte ∷ []));
   read = by kind chunks split;
@@ -435,10 +427,9 @@ definite-read spelling h g b p l i v r s k q u spelled means nests so len split 
     }
 
 opened-read : (spelling : Spelling) (m : ℕ) (g b : List ℕ) (p : ℕ) (l : Limit) (i : Item) (v : Tree) (r s : List ℕ)
-    (q u : ℕ) → 2 ≤ m → m ≤ 5 → spelling_fault spelling b ≡ None →
-    Spells (open_byte m ∷ (g ++ (break_byte ∷ []))) i → meaning i ≡ Some v → IsWithin l (nesting i) →
-    b ≡ open_byte m ∷ (g ++ r) → r ≡ break_byte ∷ s → q + 1 ≡ u → q ≡ p + 1 + length g → u ≤ greatest_offset →
-    ReadsItem spelling l b p v s u
+    (q u : ℕ) → 2 ≤ m → m ≤ 5 → spelling_fault spelling b ≡ None → Spells (open_byte m ∷ (g ++ (break_byte ∷ []))) i →
+    meaning i ≡ Some v → IsWithin l (nesting i) → b ≡ open_byte m ∷ (g ++ r) →
+    r ≡ break_byte ∷ s → q + 1 ≡ u → q ≡ p + 1 + length g → u ≤ greatest_offset → ReadsItem spelling l b p v s u
 opened-read spelling m g b p l i v r s q u low high fine spelled means nests split same here at fits =
     let x : ℕ = open_byte m in
     let both : length (g ++ (break_byte ∷ [])) ≡ length g + 1 = length-append g (break_byte ∷ []) in
@@ -541,8 +532,7 @@ reads-tag spelling b p t l below r s q u v a never level i =
 
 -- what is read where a tag folds is a short byte string
 pub folding-reads : (spelling : Spelling) (t : ℕ) (l : Limit) (r s : List ℕ) (q u : ℕ) (v : Tree) →
-    ReadsItem spelling l r q v s u → IsFoldingAt t r → (y : List ℕ) × (v ≡ trees.bytes y) × (length y ≤ 16) ×
-    AreBytes y
+    ReadsItem spelling l r q v s u → IsFoldingAt t r → (y : List ℕ) × (v ≡ trees.bytes y) × (length y ≤ 16) × AreBytes y
 folding-reads spelling t l r s q u v i f =
     let (j, spelled, means, nests, fits, so) = i.read in
     let w = folding-string t j i.taken s r spelled i.split f in

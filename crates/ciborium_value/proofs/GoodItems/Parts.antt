@@ -2,29 +2,22 @@
 use Rattle.std.proofs.Common.{◌≡◌, ℕ, zero, suc, ◌+◌, ◌≤◌, max, List, [], ◌∷◌, ◌++◌, length, Option, Some, None}
 use Rattle.std.proofs.Common.{option_and_then, refl, sym, ap, ◌∙◌, subst, arith, length-append, append_assoc}
 use Rattle.std.proofs.Common.{append-nil, true, ◌&&◌}
-use Rattle.std.specs.declared.cmp.Ordering.{Ordering}
-use Rattle.std.specs.declared.cmp.Ordering.TheVariants.{Less}
-use Rattle.ciborium_ll.specs.Bytes.{greatest_offset}
-use Rattle.ciborium_ll.specs.Item.{Items, no_items, item, Pairs, no_pairs, pair, items_count, pairs_count}
-use Rattle.ciborium_ll.specs.Spells.{SpellsItems, SpellsPairs}
-use Rattle.ciborium_value.specs.Canonical.{key_order}
-use Rattle.ciborium_value.specs.Deterministic.{AreRising, HaveRisingKeys, PairsHaveRisingKeys, keys_of}
-use Rattle.ciborium_value.specs.Encoding.{encoding, items_of, pairs_of, items_bytes, pairs_bytes}
-use Rattle.ciborium_value.specs.Folded.{folded, trees_folded, tree_pairs_folded}
+use Rattle.std.specs.{declared.cmp.Ordering.Ordering, declared.cmp.Ordering.TheVariants.Less}
+use Rattle.ciborium_ll.specs.{Bytes.greatest_offset, Item.{Items, no_items, item, Pairs, no_pairs, pair, items_count}}
+use Rattle.ciborium_ll.specs.{Item.pairs_count, Spells.{SpellsItems, SpellsPairs}}
+use Rattle.ciborium_value.specs.{Canonical.key_order, Deterministic.{AreRising, HaveRisingKeys, PairsHaveRisingKeys}}
+use Rattle.ciborium_value.specs.{Deterministic.keys_of, Encoding.{encoding, items_of, pairs_of, items_bytes}}
+use Rattle.ciborium_value.specs.{Encoding.pairs_bytes, Folded.{folded, trees_folded, tree_pairs_folded}}
 use Rattle.ciborium_value.specs.Meaning.{meaning, items_meaning, pairs_meaning, trees_more, tree_pairs_more}
 use Rattle.ciborium_value.specs.Nesting.{items_nesting, pairs_nesting, Limit, IsWithin, IsOneLess}
-use Rattle.ciborium_value.specs.ProperTrees.{AreProperTrees, AreProperTreePairs}
-use Rattle.ciborium_value.specs.Refuses.{Due, items, keys, values, next_due, due_after, keys_among, keys_in, AreReadAs}
-use Rattle.ciborium_value.specs.Spelling.{Spelling, any, deterministic, IsReadAs, AreInOrder}
-use Rattle.ciborium_value.specs.Tree.{Tree, Trees, no_trees, tree, TreePairs, no_tree_pairs, tree_pair}
-use Rattle.ciborium_value.specs.Tree.{trees_count, tree_pairs_count}
-use Rattle.ciborium_value.specs.View.{trees_from}
-use Rattle.ciborium_value.specs.inner.ReadItems.{pairs_in}
-use Rattle.ciborium_value.specs.declared.key_order.KeyOrder.{KeyOrder}
-use Rattle.ciborium_value.proofs.GoodItems.Accepted.{accepted}
-use Rattle.ciborium_value.proofs.GoodItems.Reader.{Answer, levels, is_less, rising, in_order}
-use Rattle.ciborium_value.specs.lemmas.Descriptions.{both}
-use Rattle.ciborium_value.specs.lemmas.ReadsBackParts.{within-left, within-right}
+use Rattle.ciborium_value.specs.{ProperTrees.{AreProperTrees, AreProperTreePairs}, Refuses.{Due, items, keys, values}}
+use Rattle.ciborium_value.specs.{Refuses.{next_due, due_after, keys_among, keys_in, AreReadAs}, Spelling.Spelling}
+use Rattle.ciborium_value.specs.{Spelling.{any, deterministic, IsReadAs, AreInOrder}, Tree.{Tree, Trees, no_trees}}
+use Rattle.ciborium_value.specs.Tree.{tree, TreePairs, no_tree_pairs, tree_pair, trees_count, tree_pairs_count}
+use Rattle.ciborium_value.specs.{View.trees_from, inner.ReadItems.pairs_in, declared.key_order.KeyOrder.KeyOrder}
+use Rattle.ciborium_value.specs.{lemmas.Descriptions.both, lemmas.ReadsBackParts.{within-left, within-right}}
+use Rattle.ciborium_value.proofs.{GoodItems.Accepted.accepted, GoodItems.Reader.{Answer, levels, is_less, rising}}
+use Rattle.ciborium_value.proofs.GoodItems.Reader.{in_order}
 
 -- ---- limits
 
@@ -73,8 +66,7 @@ due-more start [] v now next h e =
     ap (option_and_then (λ n. Some n)) e
 due-more start (u ∷ vs) v now next h e = by (next_due start) (λ w k. due-more w vs v now next k e) h
   where
-    by : (o : Option Due) →
-        ((w : Due) → due_after w vs ≡ Some now → due_after w (vs ++ (v ∷ [])) ≡ Some next) →
+    by : (o : Option Due) → ((w : Due) → due_after w vs ≡ Some now → due_after w (vs ++ (v ∷ [])) ≡ Some next) →
         option_and_then (λ n. due_after n vs) o ≡ Some now →
         option_and_then (λ n. due_after n (vs ++ (v ∷ []))) o ≡ Some next
     by None f k = absurd cc
@@ -247,8 +239,7 @@ trees-some (Some v) (Some vs) ts e = (v, vs, refl, refl, cc)
 trees-some u v ts e = absurd cc
 
 pairs-some : (m n : Option Tree) (ms : Option TreePairs) (ts : TreePairs) → tree_pairs_more m n ms ≡ Some ts →
-    (k : Tree) × (v : Tree) × (ps : TreePairs) × (m ≡ Some k) × (n ≡ Some v) × (ms ≡ Some ps) ×
-    (ts ≡ tree_pair k v ps)
+    (k : Tree) × (v : Tree) × (ps : TreePairs) × (m ≡ Some k) × (n ≡ Some v) × (ms ≡ Some ps) × (ts ≡ tree_pair k v ps)
 pairs-some (Some k) (Some v) (Some ps) ts e = (k, v, ps, refl, refl, refl, cc)
 pairs-some u v w ts e = absurd cc
 
@@ -312,10 +303,9 @@ module _ (order : KeyOrder) where
         ap suc r.2,
       )
 
-  pub pairs-written : (vs : List Tree) (s : List ℕ) (p : ℕ) (l : Limit) → ArePaired vs →
-      AreReadAs (deterministic order) s p l vs → (s ≡ pairs_bytes (pairs_of (pairs_in vs))) ×
-      PairsHaveRisingKeys order (pairs_in vs) ×
-      (pairs_count (pairs_of (pairs_in vs)) ≡ tree_pairs_count (pairs_in vs))
+  pub pairs-written : (vs : List Tree) (s : List ℕ) (p : ℕ) (l : Limit) →
+      ArePaired vs → AreReadAs (deterministic order) s p l vs → (s ≡ pairs_bytes (pairs_of (pairs_in vs))) ×
+      PairsHaveRisingKeys order (pairs_in vs) × (pairs_count (pairs_of (pairs_in vs)) ≡ tree_pairs_count (pairs_in vs))
   pairs-written [] s p l even h = (h, tt, refl)
   pairs-written (k ∷ []) s p l even h = absurd even
   pairs-written (k ∷ (v ∷ vs)) s p l even

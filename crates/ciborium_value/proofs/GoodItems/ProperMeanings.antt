@@ -1,24 +1,21 @@
 -- What bytes within the greatest offset mean is a tree that a program can hold.
 use Rattle.std.proofs.Common.{◌≡◌, ℕ, ◌+◌, ◌*◌, ◌^◌, ◌<◌, ◌≤◌, cond, ltb, leb, eqb, Bool, true, false, ◌||◌, List, []}
 use Rattle.std.proofs.Common.{◌∷◌, ◌++◌, length, Option, Some, None, refl, ap, ◌∙◌, subst, sym, arith, length-append}
-use Rattle.std.proofs.Common.{IsUtf8, option_map, pos, negsuc, ltb-true}
-use Rattle.std.proofs.lemmas.Str.{IsUtf8-append, IsUtf8-nil}
+use Rattle.std.proofs.{Common.{IsUtf8, option_map, pos, negsuc, ltb-true}, lemmas.Str.{IsUtf8-append, IsUtf8-nil}}
 use Rattle.std.proofs.lemmas.List.Elements.{All-append, All-nil, All-from_recursion, recursion_from_All, All-tail}
-use Rattle.ciborium_ll.specs.Bytes.{AreBytes, greatest_offset}
-use Rattle.ciborium_ll.specs.Head.{within, one_byte, two_bytes, four_bytes, eight_bytes, IsHead}
-use Rattle.ciborium_ll.specs.Item.{Item, unsigned, negative, bytes, text, array, map, tag, simple, float, Items}
-use Rattle.ciborium_ll.specs.Item.{no_items, item, items_count, Pairs, no_pairs, pair, pairs_count}
-use Rattle.ciborium_ll.specs.ProperItems.{IsArgument, IsProperBytes}
-use Rattle.ciborium_ll.specs.Spells.{AreChunks, joined, IsString, IsContainer, Spells, SpellsItems, SpellsPairs}
+use Rattle.ciborium_ll.specs.{Bytes.{AreBytes, greatest_offset}, Head.{within, one_byte, two_bytes, four_bytes}}
+use Rattle.ciborium_ll.specs.{Head.{eight_bytes, IsHead}, Item.{Item, unsigned, negative, bytes, text, array, map, tag}}
+use Rattle.ciborium_ll.specs.Item.{simple, float, Items, no_items, item, items_count, Pairs, no_pairs, pair}
+use Rattle.ciborium_ll.specs.{Item.pairs_count, ProperItems.{IsArgument, IsProperBytes}, Spells.{AreChunks, joined}}
+use Rattle.ciborium_ll.specs.Spells.{IsString, IsContainer, Spells, SpellsItems, SpellsPairs}
 use Rattle.ciborium_value.specs.Meaning.{meaning, items_meaning, pairs_meaning, trees_more, tree_pairs_more}
 use Rattle.ciborium_value.specs.Meaning.{simple_meaning, big_endian, is_bignum_tag, bignum_meaning, unsigned_bignum}
 use Rattle.ciborium_value.specs.Meaning.{negative_bignum, without_zeros, folding_bytes, short_string, tag_meaning}
-use Rattle.ciborium_value.specs.ProperTrees.{IsProperTree, AreProperTrees, AreProperTreePairs}
-use Rattle.ciborium_value.specs.Tree as trees
-use Rattle.ciborium_value.specs.Tree.{Tree, Trees, TreePairs, trees_count, tree_pairs_count}
-use Rattle.ciborium_value.proofs.GoodItems.Bounded.{enclosed-shorter, string-longer}
-use Rattle.ciborium_value.proofs.GoodItems.Spelled.{spells-pos}
+use Rattle.ciborium_value.specs.{ProperTrees.{IsProperTree, AreProperTrees, AreProperTreePairs}, Tree.{Tree, Trees}}
+use Rattle.ciborium_value.specs.Tree.{TreePairs, trees_count, tree_pairs_count}
 use Rattle.ciborium_value.specs.lemmas.ReadsBackBignums.{length-without_zeros}
+use Rattle.ciborium_value.proofs.{GoodItems.Bounded.{enclosed-shorter, string-longer}, GoodItems.Spelled.spells-pos}
+use Rattle.ciborium_value.specs.Tree as trees
 
 -- ---- proper, where there is one
 

@@ -1,40 +1,35 @@
 -- What refuses at the front is what the reader answers.
 use Rattle.std.proofs.Common.{◌≡◌, ℕ, zero, suc, ◌+◌, ◌-◌, ◌*◌, ◌^◌, ◌<◌, ◌≤◌, cond, ltb, eqb, Bool, true, false, ◌&&◌}
-use Rattle.std.proofs.Common.{List, [], ◌∷◌, ◌++◌, length, take, Option, Some, None, refl, sym, ap, ◌∙◌, subst}
-use Rattle.std.proofs.Common.{arith, length-append, lt-ltb, le-ltb, eq-eqb, eqb-true, ltb-true}
-use Rattle.std.proofs.Math.Seq.{take-append_seam}
-use Rattle.ciborium_ll.specs.Bytes.{AreBytes, greatest_offset}
-use Rattle.ciborium_ll.specs.Head.{IsSimple}
-use Rattle.ciborium_ll.specs.Refusal.{SemanticKind, Refusal, syntax, semantic, Float, Simple, Break, TooLarge}
-use Rattle.ciborium_ll.specs.Refusal.{NotFolded, recursion_limit_exceeded, IsUsable, HeadRefuses, HasHead, IsAtFront}
-use Rattle.ciborium_ll.specs.Refusal as refusal
-use Rattle.ciborium_ll.specs.StringRefusal.{StringKind, of_bytes, of_text, string_major, IsAllowed, PayloadRefuses}
-use Rattle.ciborium_ll.specs.StringRefusal.{StringRefuses, ChunkRefuses, OpenStringRefuses, HasStringHead}
-use Rattle.ciborium_ll.proofs.FrontHeads.{Front, nothing, counted, opened, plain, raw, front}
-use Rattle.ciborium_ll.proofs.ReadHeads.{Face, faces}
+use Rattle.std.proofs.Common.{List, [], ◌∷◌, ◌++◌, length, take, Option, Some, None, refl, sym, ap, ◌∙◌, subst, arith}
+use Rattle.std.proofs.{Common.{length-append, lt-ltb, le-ltb, eq-eqb, eqb-true, ltb-true}, Math.Seq.take-append_seam}
+use Rattle.std.proofs.lemmas.Bool.{cond-true}
+use Rattle.ciborium_ll.specs.{Bytes.{AreBytes, greatest_offset}, Head.IsSimple, Refusal.{SemanticKind, Refusal, syntax}}
+use Rattle.ciborium_ll.specs.Refusal.{semantic, Float, Simple, Break, TooLarge, NotFolded, recursion_limit_exceeded}
+use Rattle.ciborium_ll.specs.{Refusal.{IsUsable, HeadRefuses, HasHead, IsAtFront}, StringRefusal.{StringKind, of_bytes}}
+use Rattle.ciborium_ll.specs.StringRefusal.{of_text, string_major, IsAllowed, PayloadRefuses, StringRefuses}
+use Rattle.ciborium_ll.specs.StringRefusal.{ChunkRefuses, OpenStringRefuses, HasStringHead}
+use Rattle.ciborium_ll.proofs.{FrontHeads.{Front, nothing, counted, opened, plain, raw, front}, ReadHeads.{Face, faces}}
 use Rattle.ciborium_ll.proofs.UsableHeads.{EachIsByte, bytes_after, stands-front, stands-length, pass}
 use Rattle.ciborium_ll.proofs.CutHeads.{each-byte}
-use Rattle.ciborium_value.specs.Meaning.{simple_meaning, big_endian}
-use Rattle.ciborium_value.specs.Nesting.{Limit}
-use Rattle.ciborium_value.specs.Refuses.{HasGoodHead, Due, items, keys, values, keys_among, IsDue}
-use Rattle.ciborium_value.specs.Refuses.{BeginsContainer, IsInside, IsTagAt, IsFoldingAt, Refuses}
-use Rattle.ciborium_value.specs.Spelling.{Spelling, any, deterministic, IsReadAs, spelling_fault, IsUnwanted}
-use Rattle.ciborium_value.specs.Tree as trees
-use Rattle.ciborium_value.specs.Tree.{Tree}
-use Rattle.ciborium_value.specs.inner.ReadItems.{string_tree, container_of}
-use Rattle.ciborium_value.proofs.GoodItems.Answered.{kind_ok, rest-bytes}
-use Rattle.ciborium_value.proofs.GoodItems.Bignums.{foldable-small, foldable-is, is-foldable, large-none}
+use Rattle.ciborium_value.specs.{Meaning.{simple_meaning, big_endian}, Nesting.Limit, Refuses.{HasGoodHead, Due, items}}
+use Rattle.ciborium_value.specs.Refuses.{keys, values, keys_among, IsDue, BeginsContainer, IsInside, IsTagAt}
+use Rattle.ciborium_value.specs.{Refuses.{IsFoldingAt, Refuses}, Spelling.{Spelling, any, deterministic, IsReadAs}}
+use Rattle.ciborium_value.specs.{Spelling.{spelling_fault, IsUnwanted}, Tree.Tree, inner.ReadItems.string_tree}
+use Rattle.ciborium_value.specs.inner.ReadItems.{container_of}
+use Rattle.ciborium_value.proofs.{GoodItems.Answered.{kind_ok, rest-bytes}, GoodItems.Bignums.foldable-small}
+use Rattle.ciborium_value.proofs.GoodItems.Bignums.{foldable-is, is-foldable, large-none}
 use Rattle.ciborium_value.proofs.GoodItems.Faults.{fault-break, fault-float, fault-simple}
 use Rattle.ciborium_value.proofs.GoodItems.Found.{kind_allowed, simple-front, read-good, parts-run}
-use Rattle.ciborium_value.proofs.GoodItems.Introduced.{folding-reads, kind-below}
-use Rattle.ciborium_value.proofs.GoodItems.Parts.{levels-below, in_order-is}
-use Rattle.ciborium_value.proofs.GoodItems.Reader.{Answer, ends, refused, and_then, made, given, past, allowed, string}
-use Rattle.ciborium_value.proofs.GoodItems.Reader.{chunk, piece, pieces, levels, break_at, end_at, or_end, is_unwanted}
-use Rattle.ciborium_value.proofs.GoodItems.Reader.{bignum, counted_item, opened_item, next_part, read, parts}
-use Rattle.ciborium_value.proofs.GoodItems.Spelled.{folds-front, seen-folds, not_so}
-use Rattle.ciborium_value.proofs.GoodItems.Steps.{checked-none, checked-some, read-head, read-fault, read-counted}
-use Rattle.ciborium_value.proofs.GoodItems.Steps.{read-opened, opens-read, tag-at, pieces-run}
-use Rattle.std.proofs.lemmas.Bool.{cond-true}
+use Rattle.ciborium_value.proofs.{GoodItems.Introduced.{folding-reads, kind-below}, GoodItems.Parts.levels-below}
+use Rattle.ciborium_value.proofs.{GoodItems.Parts.in_order-is, GoodItems.Reader.{Answer, ends, refused, and_then, made}}
+use Rattle.ciborium_value.proofs.GoodItems.Reader.{given, past, allowed, string, chunk, piece, pieces, levels, break_at}
+use Rattle.ciborium_value.proofs.GoodItems.Reader.{end_at, or_end, is_unwanted, bignum, counted_item, opened_item}
+use Rattle.ciborium_value.proofs.{GoodItems.Reader.{next_part, read, parts}, GoodItems.Spelled.folds-front}
+use Rattle.ciborium_value.proofs.{GoodItems.Spelled.{seen-folds, not_so}, GoodItems.Steps.{checked-none, checked-some}}
+use Rattle.ciborium_value.proofs.GoodItems.Steps.{read-head, read-fault, read-counted, read-opened, opens-read, tag-at}
+use Rattle.ciborium_value.proofs.GoodItems.Steps.{pieces-run}
+use Rattle.ciborium_ll.specs.Refusal as refusal
+use Rattle.ciborium_value.specs.Tree as trees
 
 front_bytes : (s r : List ℕ) → EachIsByte (s ++ r) → EachIsByte s
 front_bytes [] r h = tt
@@ -68,9 +63,8 @@ part-refused k (suc c) pos {b} {q} {e} (ChunkRefuses.no_head h) bytes = checked-
 part-refused k (suc c) pos {b} {q} {e} (ChunkRefuses.chunk h (n, j, r, st, f)) bytes =
     checked-none b q _ h ∙ ap (piece (pieces c (string_major k)) (string_major k) b q)
     (stands-front b (string_major k) n j r (kind-below k) st) ∙
-    cond-true _ _ _ (eq-eqb (string_major k) (string_major k) refl) ∙
-    ap (and_then (chunk (pieces c (string_major k)))) (payload-refused k f (rest-bytes b st.0 r st.3 bytes)
-    (past q b r))
+    cond-true _ _ _ (eq-eqb (string_major k) (string_major k) refl) ∙ ap (and_then (chunk (pieces c (string_major k))))
+    (payload-refused k f (rest-bytes b st.0 r st.3 bytes) (past q b r))
 part-refused k (suc c) pos {b} {q} {e} (ChunkRefuses.other h x y) bytes =
     checked-none b q _ h ∙ other-refused k b q (pieces c (string_major k)) x y (front b) (faces b q bytes h)
 
@@ -175,16 +169,14 @@ module _ (spelling : Spelling) where
     where
       at-part : (c : ℕ) → 2 * length r + 1 < c → parts spelling c i.start (Some now) vs r q below ≡ a
       at-part zero lc = let never : ⊥ = omega (arith, lc) in absurd never
-      at-part (suc c) lc =
-          ap (λ o. or_end o (container_of now vs)
+      at-part (suc c) lc = ap (λ o. or_end o (container_of now vs)
           (and_then (next_part spelling (parts spelling c i.start) i.start now vs q below) (read spelling c r q below)))
           (due-open now r q due) ∙ then c (omega (arith, lc))
 
   inside-bytes : (b : List ℕ) (p : ℕ) (l below : Limit) (vs : List Tree) (r : List ℕ) (q : ℕ) (now : Due) →
       IsInside spelling b p l vs r q now below → EachIsByte b → EachIsByte r
   inside-bytes b p l below vs r q now i bytes = bytes_after i.good r
-      (opens-bytes b (i.good ++ r) i.size i.start i.begins
-      bytes)
+      (opens-bytes b (i.good ++ r) i.size i.start i.begins bytes)
 
   -- ---- tags
 

@@ -1,23 +1,18 @@
 -- What is seen at the front of a spelled item, and whether a tag folds over it.
 use Rattle.std.proofs.Common.{◌≡◌, ℕ, suc, ◌+◌, ◌*◌, ◌<◌, ◌≤◌, cond, leb, eqb, Bool, true, false, ◌&&◌, List, [], ◌∷◌}
-use Rattle.std.proofs.Common.{◌++◌, length, Option, Some, None, refl, ap, ◌∙◌, subst, arith, inl, inr}
-use Rattle.std.proofs.Common.{length-append, append_assoc, le-leb, leb-true, eqb-true, IsUtf8}
-use Rattle.std.specs.List.{AllByRecursion}
+use Rattle.std.proofs.Common.{◌++◌, length, Option, Some, None, refl, ap, ◌∙◌, subst, arith, inl, inr, length-append}
+use Rattle.std.proofs.Common.{append_assoc, le-leb, leb-true, eqb-true, IsUtf8}
 use Rattle.std.proofs.lemmas.List.Elements.{All-from_recursion}
-use Rattle.ciborium_ll.specs.Bytes.{AreBytes}
-use Rattle.ciborium_ll.specs.Head.{IsHead}
-use Rattle.ciborium_ll.specs.Item.{Item, unsigned, negative, bytes, text, array, map, tag, simple, float, items_count}
-use Rattle.ciborium_ll.specs.Item.{pairs_count}
-use Rattle.ciborium_ll.specs.Refusal.{IsUsable, HasHead}
+use Rattle.std.specs.List.{AllByRecursion}
+use Rattle.ciborium_ll.specs.{Bytes.AreBytes, Head.IsHead, Item.{Item, unsigned, negative, bytes, text, array, map}}
+use Rattle.ciborium_ll.specs.{Item.{tag, simple, float, items_count, pairs_count}, Refusal.{IsUsable, HasHead}}
 use Rattle.ciborium_ll.specs.Spells.{IsString, IsContainer, Spells}
-use Rattle.ciborium_value.specs.Meaning.{is_bignum_tag, short_string, folding_bytes}
-use Rattle.ciborium_value.specs.Refuses.{IsFoldingAt}
-use Rattle.ciborium_ll.proofs.FrontHeads.{Front, nothing, counted, opened, plain, raw, front, front_open, front-simple}
-use Rattle.ciborium_ll.proofs.FrontHeads.{front-head, head-length}
-use Rattle.ciborium_ll.proofs.ReadHeads.{Face, faces}
-use Rattle.ciborium_ll.proofs.UsableHeads.{EachIsByte, stands-front}
-use Rattle.ciborium_value.proofs.GoodItems.Reader.{short, folding}
+use Rattle.ciborium_value.specs.{Meaning.{is_bignum_tag, short_string, folding_bytes}, Refuses.IsFoldingAt}
 use Rattle.ciborium_value.specs.lemmas.Descriptions.{both}
+use Rattle.ciborium_ll.proofs.FrontHeads.{Front, nothing, counted, opened, plain, raw, front, front_open, front-simple}
+use Rattle.ciborium_ll.proofs.{FrontHeads.{front-head, head-length}, ReadHeads.{Face, faces}, UsableHeads.EachIsByte}
+use Rattle.ciborium_ll.proofs.UsableHeads.{stands-front}
+use Rattle.ciborium_value.proofs.GoodItems.Reader.{short, folding}
 
 string_of-pos : (o : Bool) (m : ℕ) (IsAllowed : List ℕ → Type 0) (s y : List ℕ) → IsString o m IsAllowed s y →
     0 < length s
@@ -96,9 +91,8 @@ short-none (float r) s x b (inr (inl h)) e f = ap (λ c. short (front c)) (e ∙
 short-none (float r) s x b (inr (inr h)) e f = ap (λ c. short (front c)) (e ∙ ap (λ (c : List ℕ). c ++ x) h.1)
 
 pub folds-front : (t : ℕ) (r : List ℕ) → IsFoldingAt t r → folding t (front r) ≡ true
-folds-front t r f =
-    ap (λ g. folding t g) (stands-front r 2 f.1 f.2 f.3 (omega arith) f.4) ∙ ap (λ u. u && leb f.1 16) f.0 ∙
-    le-leb f.1 16 f.5
+folds-front t r f = ap (λ g. folding t g) (stands-front r 2 f.1 f.2 f.3 (omega arith) f.4) ∙
+    ap (λ u. u && leb f.1 16) f.0 ∙ le-leb f.1 16 f.5
 
 pub not_so : (t : Bool) → (t ≡ true → ⊥) → t ≡ false
 not_so true h = absurd (h refl)
@@ -176,8 +170,7 @@ folds-none t i s x r h e f = by (is_bignum_tag t) refl (short_string i) refl
   where
     by : (u : Bool) → is_bignum_tag t ≡ u → (o : Option (List ℕ)) → short_string i ≡ o → cond u o None ≡ None
     by true b None g = refl
-    by true b (Some y) g = absurd (f (folds-some t i s x r y h e
-        (ap (λ c. cond c (short_string i) None) b ∙ g)).0)
+    by true b (Some y) g = absurd (f (folds-some t i s x r y h e (ap (λ c. cond c (short_string i) None) b ∙ g)).0)
     by false b o g = refl
 
 pub none-folds : (t : ℕ) (i : Item) (s x r : List ℕ) → Spells s i → r ≡ s ++ x → folding_bytes t i ≡ None →

@@ -1,26 +1,20 @@
 -- One step of the reader, by the head at the front.
-use Rattle.std.proofs.Common.{◌≡◌, ℕ, zero, suc, ◌+◌, ◌*◌, ◌%◌, ◌<◌, ◌≤◌, cond, ltb, eqb, true, false, ◌&&◌}
-use Rattle.std.proofs.Common.{◌||◌, List, [], ◌∷◌, ◌++◌, length, take, drop, Option, Some, None, option_map, refl, sym}
-use Rattle.std.proofs.Common.{ap, ◌∙◌, subst, arith, length-append, append_assoc, le-ltb, eq-eqb, ne_eqb}
-use Rattle.std.proofs.Math.Seq.{take-append_seam, drop-append_seam}
-use Rattle.std.proofs.lemmas.Nat.{div-mul-add, mod-mul-add}
-use Rattle.std.proofs.lemmas.Bool.Decides.{nat_tests}
-use Rattle.std.proofs.lemmas.Bool.{cond-true}
-use Rattle.ciborium_ll.specs.Spells.{AreChunks, joined}
-use Rattle.ciborium_ll.specs.Refusal.{SemanticKind, Refusal, semantic, head_refusal, IsUsable, HeadRefuses, HasHead}
-use Rattle.ciborium_ll.specs.Refusal.{argument_length, is_reserved, is_low_simple, payload_length}
-use Rattle.ciborium_ll.specs.Bytes.{greatest_offset}
-use Rattle.ciborium_ll.proofs.FrontHeads.{Front, counted, opened, front, front_open}
-use Rattle.ciborium_ll.proofs.UsableHeads.{HeadFits, low, fits-usable, stands-usable, stands-front, stands-length, pass}
-use Rattle.ciborium_ll.proofs.UsableHeads.{and_false}
-use Rattle.ciborium_value.specs.Nesting.{Limit}
-use Rattle.ciborium_value.specs.Refuses.{HasGoodHead, Due, items, keys, BeginsContainer, IsTagAt}
-use Rattle.ciborium_value.specs.Spelling.{Spelling, spelling_fault}
-use Rattle.ciborium_value.specs.Tree as trees
-use Rattle.ciborium_value.specs.Tree.{Tree}
+use Rattle.std.proofs.Common.{◌≡◌, ℕ, zero, suc, ◌+◌, ◌*◌, ◌%◌, ◌<◌, ◌≤◌, cond, ltb, eqb, true, false, ◌&&◌, ◌||◌, List}
+use Rattle.std.proofs.Common.{[], ◌∷◌, ◌++◌, length, take, drop, Option, Some, None, option_map, refl, sym, ap, ◌∙◌}
+use Rattle.std.proofs.Common.{subst, arith, length-append, append_assoc, le-ltb, eq-eqb, ne_eqb}
+use Rattle.std.proofs.{Math.Seq.{take-append_seam, drop-append_seam}, lemmas.Nat.{div-mul-add, mod-mul-add}}
+use Rattle.std.proofs.{lemmas.Bool.Decides.nat_tests, lemmas.Bool.cond-true}
+use Rattle.ciborium_ll.specs.{Spells.{AreChunks, joined}, Refusal.{SemanticKind, Refusal, semantic, head_refusal}}
+use Rattle.ciborium_ll.specs.Refusal.{IsUsable, HeadRefuses, HasHead, argument_length, is_reserved, is_low_simple}
+use Rattle.ciborium_ll.specs.{Refusal.payload_length, Bytes.greatest_offset}
+use Rattle.ciborium_ll.proofs.{FrontHeads.{Front, counted, opened, front, front_open}, UsableHeads.{HeadFits, low}}
+use Rattle.ciborium_ll.proofs.UsableHeads.{fits-usable, stands-usable, stands-front, stands-length, pass, and_false}
+use Rattle.ciborium_value.specs.{Nesting.Limit, Refuses.{HasGoodHead, Due, items, keys, BeginsContainer, IsTagAt}}
+use Rattle.ciborium_value.specs.{Spelling.{Spelling, spelling_fault}, Tree.Tree}
 use Rattle.ciborium_value.proofs.GoodItems.Reader.{Answer, ends, refused, checked, and_then, made, past, allowed}
 use Rattle.ciborium_value.proofs.GoodItems.Reader.{string, chunk, piece, pieces, levels, folding, bignum, counted_item}
 use Rattle.ciborium_value.proofs.GoodItems.Reader.{opened_item, item_at, read, parts}
+use Rattle.ciborium_value.specs.Tree as trees
 
 pub not_low : (x : ℕ) (b : List ℕ) → (x ≡ 248 → ⊥) → is_low_simple x b ≡ false
 not_low x [] h = refl
@@ -43,8 +37,7 @@ byte-has m a b p h lp lo u =
 
 pub opened-has : (m p : ℕ) (r : List ℕ) → is_reserved m 31 ≡ false → p < greatest_offset →
     IsUsable ((m * 32 + 31) ∷ r) p
-opened-has m p r e h =
-    byte-has m 31 r p (omega arith) h (and_false _ _ (not_low (m * 32 + 31) r (λ k. omega arith)))
+opened-has m p r e h = byte-has m 31 r p (omega arith) h (and_false _ _ (not_low (m * 32 + 31) r (λ k. omega arith)))
     (e, omega arith, omega arith, omega (arith, payload_length-open m 31 r (omega arith)))
 
 pub simple-has : (n p : ℕ) (r : List ℕ) → n < 24 → p < greatest_offset → IsUsable ((224 + n) ∷ r) p
@@ -74,8 +67,7 @@ module _ (spelling : Spelling) where
       read spelling (suc d) b p l ≡ item_at spelling (read spelling d) (λ w. parts spelling d w (Some w) []) (pieces d)
       b p l f
   read-head d p b l f h e =
-      checked-none b p _ h.0 ∙
-      ap (λ o. checked (option_map (semantic p) o) (item_at spelling (read spelling d)
+      checked-none b p _ h.0 ∙ ap (λ o. checked (option_map (semantic p) o) (item_at spelling (read spelling d)
       (λ w. parts spelling d w (Some w) []) (pieces d) b p l (front b))) h.1 ∙
       ap (item_at spelling (read spelling d) (λ w. parts spelling d w (Some w) []) (pieces d) b p l) e
 
@@ -83,17 +75,14 @@ module _ (spelling : Spelling) where
   pub read-fault : (d p : ℕ) (b : List ℕ) (l : Limit) (kind : SemanticKind) → IsUsable b p →
       spelling_fault spelling b ≡ Some kind → read spelling (suc d) b p l ≡ refused (semantic p kind)
   read-fault d p b l kind h e =
-      checked-none b p _ h ∙
-      ap (λ o. checked (option_map (semantic p) o) (item_at spelling (read spelling d)
+      checked-none b p _ h ∙ ap (λ o. checked (option_map (semantic p) o) (item_at spelling (read spelling d)
       (λ w. parts spelling d w (Some w) []) (pieces d) b p l (front b))) e
 
   -- a good head with an argument
   pub read-counted : (d p q : ℕ) (b : List ℕ) (l : Limit) (m n k : ℕ) (r : List ℕ) → m < 7 → HasHead b m n k r →
-      HasGoodHead spelling b p → q ≡ p + k →
-      read spelling (suc d) b p l ≡ counted_item spelling (read spelling d) (λ w. parts spelling d w (Some w) []) m n r
-      p q l
-  read-counted d p q b l m n k r lt s h e =
-      read-head d p b l (counted m n r) h (stands-front b m n k r lt s) ∙
+      HasGoodHead spelling b p → q ≡ p + k → read spelling (suc d) b p l ≡ counted_item spelling (read spelling d)
+      (λ w. parts spelling d w (Some w) []) m n r p q l
+  read-counted d p q b l m n k r lt s h e = read-head d p b l (counted m n r) h (stands-front b m n k r lt s) ∙
       ap (λ z. counted_item spelling (read spelling d) (λ w. parts spelling d w (Some w) []) m n r p z l)
       (past-stands b m n k p q r s e)
 
@@ -121,9 +110,8 @@ module _ (spelling : Spelling) where
 module _ (spelling : Spelling) where
   -- the head of an array or map
   pub opens-read : (d p k : ℕ) (b r : List ℕ) (w : Due) (l : Limit) → HasGoodHead spelling b p →
-      BeginsContainer b k r w →
-      (read spelling (suc d) b p l ≡ levels l (parts spelling d w (Some w) [] r (p + k))) × (length b ≡ k + length r) ×
-      (0 < k)
+      BeginsContainer b k r w → (read spelling (suc d) b p l ≡ levels l (parts spelling d w (Some w) [] r (p + k))) ×
+      (length b ≡ k + length r) × (0 < k)
   opens-read d p k b r w l h (BeginsContainer.array n s) = let z = stands-length b 4 n k r s in
       (read-counted spelling d p (p + k) b l 4 n k r (omega arith) s h refl, z.0, z.1)
   opens-read d p k b r w l h (BeginsContainer.open_array e f) = (
@@ -205,6 +193,5 @@ pieces-run m IsAllowed lt ok (suc d) (y ∷ ps) s x b q u a g e k room fuel then
 pub pieces-break : (m d q u : ℕ) (x : List ℕ) → 0 < d → q < greatest_offset → u ≡ q + 1 →
     pieces d m (255 ∷ x) q ≡ ends [] x u
 pieces-break m zero q u x h lt e = let never : ⊥ = omega (arith, h) in absurd never
-pieces-break m (suc d) q u x h lt e =
-    checked-none (255 ∷ x) q _ (opened-has 7 q x refl lt) ∙ ap (piece (pieces d m) m (255 ∷ x) q) (front_open 7 x) ∙
-    ap (ends [] x) (sym e)
+pieces-break m (suc d) q u x h lt e = checked-none (255 ∷ x) q _ (opened-has 7 q x refl lt) ∙
+    ap (piece (pieces d m) m (255 ∷ x) q) (front_open 7 x) ∙ ap (ends [] x) (sym e)

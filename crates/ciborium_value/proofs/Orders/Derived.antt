@@ -1,14 +1,9 @@
 -- The derived comparisons of `Value` are those of the trees.
-use Rattle.std.proofs.Common.{◌≡◌, sym, ap, ◌∙◌, subst, Some, is_eq, Bool}
-use Rattle.std.specs.Cmp.{IsTotalOrder, IsEquivalence}
-use Rattle.std.specs.Ordering.{eq_by_cmp}
-use Rattle.std.proofs.lemmas.Cmp.{eq_by_cmp_equiv}
-use Rattle.ciborium_value.specs.Derived.{value_eq, value_cmp, value_partial_cmp}
-use Rattle.ciborium_value.specs.lemmas.DerivedOrder.{value_cmp-is}
-use Rattle.ciborium_value.specs.Order.{tree_cmp}
-use Rattle.ciborium_value.specs.View.{tree_of}
-use Rattle.ciborium_value.specs.contracts.tree.ValueOrd.TheImpl.Laws.{matches_eq-law, matches_partial_cmp-law}
-use Rattle.ciborium_value.specs.contracts.tree.ValueOrd.TheImpl.Laws.{total-law}
+use Rattle.std.proofs.{Common.{◌≡◌, sym, ap, ◌∙◌, subst, Some, is_eq, Bool}, lemmas.Cmp.eq_by_cmp_equiv}
+use Rattle.std.specs.{Cmp.{IsTotalOrder, IsEquivalence}, Ordering.eq_by_cmp}
+use Rattle.ciborium_value.specs.{Derived.{value_eq, value_cmp, value_partial_cmp}, lemmas.DerivedOrder.value_cmp-is}
+use Rattle.ciborium_value.specs.{Order.tree_cmp, View.tree_of, contracts.tree.ValueOrd.TheImpl.Laws.matches_eq-law}
+use Rattle.ciborium_value.specs.contracts.tree.ValueOrd.TheImpl.Laws.{matches_partial_cmp-law, total-law}
 use Rattle.ciborium_value.specs.declared.tree.Value.{Value}
 
 pub value_eq-is : (v w : Value) → value_eq v w ≡ is_eq (tree_cmp (tree_of v) (tree_of w))

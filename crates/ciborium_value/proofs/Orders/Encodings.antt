@@ -1,9 +1,7 @@
 -- The encodings of values with parts, and of lists of values.
 use Rattle.std.proofs.Common.{◌≡◌, ℕ, suc, ◌+◌, ◌<◌, List, [], ◌∷◌, ◌++◌, length, take, drop, get_or, refl, sym, ap}
 use Rattle.std.proofs.Common.{◌∙◌, append_assoc, append-nil}
-use Rattle.ciborium_value.specs.Encoding.{encoding}
-use Rattle.ciborium_value.specs.View.{tree_of}
-use Rattle.ciborium_value.specs.declared.tree.Value.{Value}
+use Rattle.ciborium_value.specs.{Encoding.encoding, View.tree_of, declared.tree.Value.Value}
 use Rattle.ciborium_value.specs.inner.EncodedLists.{encodings, pair_encodings}
 use Rattle.ciborium_value.proofs.Trees.Elements.{around, one_more}
 
@@ -40,14 +38,11 @@ pair_encodings-around i ps p h e = ap pair_encodings (around i ps p h e) ∙
 -- one more encoding
 pub encodings-more : (i : ℕ) (vs : List Value) (v : Value) → i < length vs → v ≡ get_or vs i v
     → encodings (take (i + 1) vs) ≡ encodings (take i vs) ++ encoding (tree_of v)
-encodings-more i vs v h e =
-    ap encodings (one_more i vs v h e) ∙ encodings-append (take i vs) (v ∷ []) ∙
-    ap (λ l. encodings (take i vs) ++ l) (append-nil (encoding (tree_of v)))
+encodings-more i vs v h e = ap encodings (one_more i vs v h e) ∙
+    encodings-append (take i vs) (v ∷ []) ∙ ap (λ l. encodings (take i vs) ++ l) (append-nil (encoding (tree_of v)))
 
 -- one more pair
-pub pair_encodings-more : (i : ℕ) (ps : List (Value × Value)) (p : Value × Value) → i < length ps → p ≡ get_or ps i p
-    → pair_encodings (take (i + 1) ps) ≡ pair_encodings (take i ps) ++
-    (encoding (tree_of p.0) ++ encoding (tree_of p.1))
-pair_encodings-more i ps p h e =
-    ap pair_encodings (one_more i ps p h e) ∙ pair_encodings-append (take i ps) (p ∷ [])
-    ∙ ap (λ l. pair_encodings (take i ps) ++ (encoding (tree_of p.0) ++ l)) (append-nil (encoding (tree_of p.1)))
+pub pair_encodings-more : (i : ℕ) (ps : List (Value × Value)) (p : Value × Value) → i < length ps → p ≡ get_or ps i p →
+    pair_encodings (take (i + 1) ps) ≡ pair_encodings (take i ps) ++ (encoding (tree_of p.0) ++ encoding (tree_of p.1))
+pair_encodings-more i ps p h e = ap pair_encodings (one_more i ps p h e) ∙ pair_encodings-append (take i ps) (p ∷ []) ∙
+    ap (λ l. pair_encodings (take i ps) ++ (encoding (tree_of p.0) ++ l)) (append-nil (encoding (tree_of p.1)))

@@ -1,15 +1,11 @@
 -- Shortest heads are ordered bytewise: by the major type, and then by the argument.
-use Rattle.std.proofs.Common.{◌≡◌, ℕ, ◌^◌, ◌<◌, ◌≤◌, List, [], ◌∷◌, ◌++◌, length, refl, sym, ap, ◌∙◌, lit<}
-use Rattle.std.proofs.Common.{arith, length-append, Ordering, Less, Equal, Greater, nat_cmp}
-use Rattle.std.proofs.lemmas.Bool.Decides.{nat_tests}
-use Rattle.std.specs.Cmp.Lexicographic.{slice_cmp}
-use Rattle.std.specs.FinMap.{nat_cmp-IsAntisymmetric}
-use Rattle.std.specs.Int.{bytes_high_first}
+use Rattle.std.proofs.Common.{◌≡◌, ℕ, ◌^◌, ◌<◌, ◌≤◌, List, [], ◌∷◌, ◌++◌, length, refl, sym, ap, ◌∙◌, lit<, arith}
+use Rattle.std.proofs.{Common.{length-append, Ordering, Less, Equal, Greater, nat_cmp}, lemmas.Bool.Decides.nat_tests}
+use Rattle.std.specs.{Cmp.Lexicographic.slice_cmp, FinMap.nat_cmp-IsAntisymmetric, Int.bytes_high_first}
 use Rattle.std.specs.Ordering.{ordering_then}
 use Rattle.ciborium_ll.specs.Head.{Width, within, one_byte, two_bytes, four_bytes, eight_bytes, capacity, information}
 use Rattle.ciborium_ll.specs.Head.{argument_bytes, narrowest, shortest_head}
-use Rattle.ciborium_ll.proofs.ShortestHead.{narrowest-holds}
-use Rattle.ciborium_ll.proofs.HeadOrder.{places, arguments_in_order}
+use Rattle.ciborium_ll.proofs.{ShortestHead.narrowest-holds, HeadOrder.{places, arguments_in_order}}
 use Rattle.ciborium_value.specs.lemmas.ReadsBackBignums.{length-bytes_high_first}
 
 -- ---- lists of which none is a proper beginning of the other

@@ -1,16 +1,12 @@
 -- Two strings of one major type: the shorter payload first, and of two of one length the bytewise lower one, in either
 -- order of their encodings.
-use Rattle.std.proofs.Common.{◌≡◌, ℕ, ◌+◌, ◌^◌, ◌<◌, ◌≤◌, List, ◌++◌, length, refl, ap, ◌∙◌, sym, arith}
-use Rattle.std.proofs.Common.{length-append, Ordering, Less, Equal, Greater, nat_cmp}
-use Rattle.std.proofs.lemmas.Bool.Decides.{nat_tests}
+use Rattle.std.proofs.Common.{◌≡◌, ℕ, ◌+◌, ◌^◌, ◌<◌, ◌≤◌, List, ◌++◌, length, refl, ap, ◌∙◌, sym, arith, length-append}
+use Rattle.std.proofs.{Common.{Ordering, Less, Equal, Greater, nat_cmp}, lemmas.Bool.Decides.nat_tests}
 use Rattle.std.proofs.lemmas.Cmp.{tied_itself, nat_cmp_total}
-use Rattle.std.specs.Cmp.Lexicographic.{slice_cmp}
-use Rattle.std.specs.Ordering.{ordering_then}
+use Rattle.std.specs.{Cmp.Lexicographic.slice_cmp, Ordering.ordering_then}
 use Rattle.ciborium_ll.specs.Head.{Width, within, one_byte, two_bytes, four_bytes, eight_bytes, head_in, narrowest}
 use Rattle.ciborium_ll.specs.Head.{shortest_head}
-use Rattle.ciborium_value.specs.Canonical.{canonical_order}
-use Rattle.ciborium_value.specs.Tree.{Tree, bytes, text}
-use Rattle.ciborium_value.specs.Visits.{saturated}
+use Rattle.ciborium_value.specs.{Canonical.canonical_order, Tree.{Tree, bytes, text}, Visits.saturated}
 use Rattle.ciborium_value.specs.inner.SideBySide.{payload_order}
 use Rattle.ciborium_value.proofs.Orders.HeadsInOrder.{heads_decide}
 
@@ -54,8 +50,7 @@ string major payload = shortest_head major (length payload) ++ payload
 module _ (major : ℕ) (a b : List ℕ) (h : length a < 2 ^ 64) (k : length b < 2 ^ 64) where
   -- bytewise, behind heads of one major type
   bytewise : slice_cmp nat_cmp (string major a) (string major b) ≡ payload_order a b
-  bytewise =
-      heads_decide major major (length a) (length b) a b h k ∙
+  bytewise = heads_decide major major (length a) (length b) a b h k ∙
       ap (λ o. ordering_then (ordering_then o (nat_cmp (length a) (length b))) (slice_cmp nat_cmp a b))
       (tied_itself nat_cmp_total major)
 

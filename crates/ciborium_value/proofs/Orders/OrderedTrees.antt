@@ -1,19 +1,14 @@
 -- The order of trees ties a tree with itself alone.
-use Rattle.std.proofs.Common.{◌≡◌, Bool, true, false, refl, sym, ap, ◌∙◌, Ordering, Equal, is_eq, IsTrue}
-use Rattle.std.proofs.Common.{◌↔◌}
+use Rattle.std.proofs.Common.{◌≡◌, Bool, true, false, refl, sym, ap, ◌∙◌, Ordering, Equal, is_eq, IsTrue, ◌↔◌}
 use Rattle.std.proofs.lemmas.Cmp.{tied_itself, nat_list_cmp_total, nat_cmp_total, int_cmp_total}
-use Rattle.std.specs.Cmp.{bool_cmp_total}
-use Rattle.std.specs.FinMap.{nat_cmp-IsAntisymmetric, int_cmp-IsAntisymmetric, slice_cmp-IsAntisymmetric}
-use Rattle.std.specs.Ordering.{nat_cmp, bool_cmp, ordering_then}
+use Rattle.std.specs.{Cmp.bool_cmp_total, FinMap.{nat_cmp-IsAntisymmetric, int_cmp-IsAntisymmetric}}
+use Rattle.std.specs.{FinMap.slice_cmp-IsAntisymmetric, Ordering.{nat_cmp, bool_cmp, ordering_then}}
 use Rattle.ciborium_value.specs.Tree.{Tree, integer, bytes, text, boolean, null, tag, array, map, Trees, no_trees, tree}
-use Rattle.ciborium_value.specs.Tree.{TreePairs, no_tree_pairs, tree_pair}
-use Rattle.ciborium_value.specs.Order.{tree_cmp, trees_cmp, tree_pairs_cmp}
-use Rattle.ciborium_value.specs.laws.OrderLaws.{TiedWhereEqual, EqualAsTrees, OrderedAsTrees, PartlyOrderedAsTrees}
-use Rattle.ciborium_value.specs.Derived.{value_eq}
-use Rattle.ciborium_value.specs.View.{tree_of}
-use Rattle.ciborium_value.proofs.Orders.Derived.{value_eq-is, value_partial_cmp-is}
-use Rattle.ciborium_value.proofs.Orders.SideBySide.{both_tied}
+use Rattle.ciborium_value.specs.{Tree.{TreePairs, no_tree_pairs, tree_pair}, Order.{tree_cmp, trees_cmp}}
+use Rattle.ciborium_value.specs.{Order.tree_pairs_cmp, laws.OrderLaws.{TiedWhereEqual, EqualAsTrees, OrderedAsTrees}}
+use Rattle.ciborium_value.specs.{laws.OrderLaws.PartlyOrderedAsTrees, Derived.value_eq, View.tree_of}
 use Rattle.ciborium_value.specs.lemmas.DerivedOrder.{value_cmp-is}
+use Rattle.ciborium_value.proofs.{Orders.Derived.{value_eq-is, value_partial_cmp-is}, Orders.SideBySide.both_tied}
 
 same_boolean : (x y : Bool) → bool_cmp x y ≡ Equal → x ≡ y
 same_boolean true true e = refl
@@ -67,9 +62,8 @@ mutual
 
   pairs_itself : (ps : TreePairs) → tree_pairs_cmp ps ps ≡ Equal
   pairs_itself no_tree_pairs = refl
-  pairs_itself (tree_pair k v ps) =
-      ap (λ o. ordering_then (ordering_then o (tree_cmp v v)) (tree_pairs_cmp ps ps)) (itself k) ∙
-      ap (λ o. ordering_then o (tree_pairs_cmp ps ps)) (itself v) ∙ pairs_itself ps
+  pairs_itself (tree_pair k v ps) = ap (λ o. ordering_then (ordering_then o (tree_cmp v v)) (tree_pairs_cmp ps ps))
+      (itself k) ∙ ap (λ o. ordering_then o (tree_pairs_cmp ps ps)) (itself v) ∙ pairs_itself ps
 
 pub tied_where_equal : TiedWhereEqual
 tied_where_equal v w = (same_tree v w, λ e. ap (tree_cmp v) (sym e) ∙ itself v)

@@ -1,14 +1,11 @@
 -- Encodings that are taken from a room, part by part.
-use Rattle.std.proofs.Common.{◌≡◌, ℕ, suc, ◌+◌, ◌-◌, ◌<◌, ◌≤◌, List, [], ◌++◌, length, take, drop, get_or}
-use Rattle.std.proofs.Common.{Option, Some, None, ap, ◌∙◌, length-append, arith}
+use Rattle.std.proofs.Common.{◌≡◌, ℕ, suc, ◌+◌, ◌-◌, ◌<◌, ◌≤◌, List, [], ◌++◌, length, take, drop, get_or, Option, Some}
+use Rattle.std.proofs.Common.{None, ap, ◌∙◌, length-append, arith}
 use Rattle.std.specs.Option.{SomeIff}
 use Rattle.ciborium_ll.specs.Head.{shortest_head}
-use Rattle.ciborium_value.specs.Encoding.{encoding}
-use Rattle.ciborium_value.specs.Tree.{Tree}
-use Rattle.ciborium_value.specs.View.{tree_of}
-use Rattle.ciborium_value.specs.declared.tree.Value.{Value}
-use Rattle.ciborium_value.specs.inner.EncodedLists.{encodings, pair_encodings}
-use Rattle.ciborium_value.specs.inner.TreeHeads.{tree_major, argument_of, content_bytes}
+use Rattle.ciborium_value.specs.{Encoding.encoding, Tree.Tree, View.tree_of, declared.tree.Value.Value}
+use Rattle.ciborium_value.specs.{inner.EncodedLists.{encodings, pair_encodings}, inner.TreeHeads.tree_major}
+use Rattle.ciborium_value.specs.inner.TreeHeads.{argument_of, content_bytes}
 use Rattle.ciborium_value.proofs.Orders.Encodings.{encodings-around, pair_encodings-around}
 use Rattle.ciborium_value.proofs.Orders.TreeEncodings.{encoding-length}
 
@@ -43,8 +40,7 @@ module _ (v : Tree) (major argument head room : ℕ) (m : major ≡ tree_major v
   -- a head behind which nothing stands
   pub spends_head : (left : ℕ) → content_bytes v ≡ [] → (head ≤ room) × (left ≡ room - head)
       → SomeIff (Some left) (length (encoding v) ≤ room) (room - length (encoding v))
-  spends_head left none first = spends_content 0 left (Some left) (ap length none) first
-      (omega arith, omega arith)
+  spends_head left none first = spends_content 0 left (Some left) (ap length none) first (omega arith, omega arith)
 
   -- not even the head
   pub spends_nothing : (result : Option ℕ) → result ≡ None → (head ≤ room → ⊥)

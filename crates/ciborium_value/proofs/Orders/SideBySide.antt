@@ -2,31 +2,26 @@
 -- apart are one.
 use Rattle.std.proofs.Common.{◌≡◌, ℕ, suc, ◌+◌, ◌^◌, ◌<◌, ◌≤◌, List, [], ◌∷◌, ◌++◌, length, take, drop, get_or, map}
 use Rattle.std.proofs.Common.{Bool, true, false, ℤ, pos, negsuc, ◌⊎◌, inl, inr, Vec, vec_len, String, string_bytes, Box}
-use Rattle.std.proofs.Common.{Global, rules, refl, sym, ap, ◌∙◌, subst, lit<, arith, Ordering, Equal}
-use Rattle.std.proofs.Common.{nat_cmp, append_assoc, append-nil}
-use Rattle.std.proofs.lemmas.List.{map-append, take_all}
-use Rattle.std.proofs.lemmas.Cmp.{tied_itself, nat_cmp_total, nat_list_cmp_total}
-use Rattle.std.specs.Cmp.Lexicographic.{slice_cmp}
-use Rattle.std.specs.FinMap.{nat_cmp-IsAntisymmetric, slice_cmp-IsAntisymmetric}
+use Rattle.std.proofs.Common.{Global, rules, refl, sym, ap, ◌∙◌, subst, lit<, arith, Ordering, Equal, nat_cmp}
+use Rattle.std.proofs.{Common.{append_assoc, append-nil}, lemmas.List.{map-append, take_all}, lemmas.Cmp.tied_itself}
+use Rattle.std.proofs.lemmas.Cmp.{nat_cmp_total, nat_list_cmp_total}
+use Rattle.std.specs.{Cmp.Lexicographic.slice_cmp, FinMap.{nat_cmp-IsAntisymmetric, slice_cmp-IsAntisymmetric}}
 use Rattle.std.specs.Ordering.{is_ne, ordering_then}
 use Rattle.ciborium_ll.specs.Head.{shortest_head}
 use Rattle.ciborium_value.specs.Encoding.{encoding, items_of, pairs_of, items_bytes, pairs_bytes}
-use Rattle.ciborium_value.specs.inner.SideBySide.{Decides}
-use Rattle.ciborium_value.specs.Tree as trees
-use Rattle.ciborium_value.specs.Tree.{Tree}
-use Rattle.ciborium_value.specs.View.{tree_of, trees_from, tree_pairs_from, pair_trees}
-use Rattle.ciborium_value.specs.declared.tree.Value as value
-use Rattle.ciborium_value.specs.declared.tree.Value.{Value, the_lemmas}
-use Rattle.ciborium_value.specs.declared.tree.Value.TheOpen.{Value-F}
-use Rattle.ciborium_value.specs.declared.tree.Value.TheViews.{out-Value, roll-Value}
+use Rattle.ciborium_value.specs.{inner.SideBySide.Decides, Tree.Tree, View.{tree_of, trees_from, tree_pairs_from}}
+use Rattle.ciborium_value.specs.{View.pair_trees, declared.tree.Value.{Value, the_lemmas}}
+use Rattle.ciborium_value.specs.{declared.tree.Value.TheOpen.Value-F, declared.tree.Value.TheViews.out-Value}
+use Rattle.ciborium_value.specs.{declared.tree.Value.TheViews.roll-Value, inner.TreeHeads.{tree_major, argument_of}}
+use Rattle.ciborium_value.specs.{inner.TreeHeads.{content_bytes, head_order}, inner.EncodedLists.encodings}
+use Rattle.ciborium_value.specs.inner.EncodedLists.{pair_encodings}
 use Rattle.ciborium_value.proofs.Trees.Views.{tree_of-Integer, tree_of-Bytes, tree_of-Text, tree_of-Bool, tree_of-Null}
-use Rattle.ciborium_value.specs.inner.TreeHeads.{tree_major, argument_of, content_bytes, head_order}
-use Rattle.ciborium_value.specs.inner.EncodedLists.{encodings, pair_encodings}
-use Rattle.ciborium_value.proofs.Trees.Elements.{one_more}
-use Rattle.ciborium_value.proofs.Orders.Encodings.{encodings-around, pair_encodings-around}
+use Rattle.ciborium_value.proofs.{Trees.Elements.one_more, Orders.Encodings.{encodings-around, pair_encodings-around}}
 use Rattle.ciborium_value.proofs.Orders.HeadsInOrder.{fronts_decide, heads_decide, one_length}
 use Rattle.ciborium_value.proofs.Orders.TreeEncodings.{encoding-is, argument_of-Array, argument_of-Map}
 use Rattle.ciborium_ll.proofs.HeadOrder.{then_equal}
+use Rattle.ciborium_value.specs.Tree as trees
+use Rattle.ciborium_value.specs.declared.tree.Value as value
 
 -- ---- orders that decide
 
@@ -57,37 +52,31 @@ same_decides a b e x y = ap (λ l. slice_cmp nat_cmp (l ++ x) (b ++ y)) e ∙ be
 
 -- behind one front
 pub behind_decides : (o : Ordering) (a b c d : List ℕ) → a ≡ b → Decides o c d → Decides o (a ++ c) (b ++ d)
-behind_decides o a b c d e h x y =
-    ap (λ l. slice_cmp nat_cmp ((l ++ c) ++ x) ((b ++ d) ++ y)) e
-    ∙ ap (λ l. slice_cmp nat_cmp l ((b ++ d) ++ y)) (append_assoc b c x) ∙
-    ap (slice_cmp nat_cmp (b ++ (c ++ x))) (append_assoc b d y)
-    ∙ behind_front b (c ++ x) (d ++ y) ∙ h x y
+behind_decides o a b c d e h x y = ap (λ l. slice_cmp nat_cmp ((l ++ c) ++ x) ((b ++ d) ++ y)) e ∙
+    ap (λ l. slice_cmp nat_cmp l ((b ++ d) ++ y)) (append_assoc b c x) ∙
+    ap (slice_cmp nat_cmp (b ++ (c ++ x))) (append_assoc b d y) ∙ behind_front b (c ++ x) (d ++ y) ∙ h x y
 
 -- before any two lists, where it is not `Equal`
 pub before_decides : (o : Ordering) (b : Bool) (a c d e : List ℕ) → b ≡ is_ne o → b ≡ true → Decides o a c →
     Decides o (a ++ d) (c ++ e)
-before_decides o b a c d e ne t h x y =
-    ap (λ l. slice_cmp nat_cmp l ((c ++ e) ++ y)) (append_assoc a d x) ∙
-    ap (slice_cmp nat_cmp (a ++ (d ++ x))) (append_assoc c e y)
-    ∙ h (d ++ x) (e ++ y) ∙ nothing_left o (slice_cmp nat_cmp (d ++ x) (e ++ y)) (slice_cmp nat_cmp x y) b ne t
+before_decides o b a c d e ne t h x y = ap (λ l. slice_cmp nat_cmp l ((c ++ e) ++ y)) (append_assoc a d x) ∙
+    ap (slice_cmp nat_cmp (a ++ (d ++ x))) (append_assoc c e y) ∙
+    h (d ++ x) (e ++ y) ∙ nothing_left o (slice_cmp nat_cmp (d ++ x) (e ++ y)) (slice_cmp nat_cmp x y) b ne t
 
 -- two payloads of one length
 pub payloads_decide : (a b : List ℕ) (o : Ordering) → length a ≡ length b → o ≡ slice_cmp nat_cmp a b → Decides o a b
-payloads_decide a b o long e x y =
-    fronts_decide a b x y (one_length a b long) (one_length b a (sym long)) ∙
+payloads_decide a b o long e x y = fronts_decide a b x y (one_length a b long) (one_length b a (sym long)) ∙
     ap (λ p. ordering_then p (slice_cmp nat_cmp x y)) (sym e)
 
 -- alone, without anything behind them, they compare so
 pub decided_alone : (o : Ordering) (a b : List ℕ) → Decides o a b → o ≡ slice_cmp nat_cmp a b
-decided_alone o a b h =
-    sym (then_equal o) ∙ sym (h [] []) ∙ ap (λ l. slice_cmp nat_cmp l (b ++ [])) (append-nil a) ∙
-    ap (slice_cmp nat_cmp a) (append-nil b)
+decided_alone o a b h = sym (then_equal o) ∙
+    sym (h [] []) ∙ ap (λ l. slice_cmp nat_cmp l (b ++ [])) (append-nil a) ∙ ap (slice_cmp nat_cmp a) (append-nil b)
 
 -- the encodings of one tree
 pub equal_where_same : (o : Ordering) (v w : Tree) → Decides o (encoding v) (encoding w) → v ≡ w → o ≡ Equal
-equal_where_same o v w h e =
-    decided_alone o (encoding v) (encoding w) h ∙ ap (λ t. slice_cmp nat_cmp (encoding t) (encoding w)) e ∙
-    tied_itself nat_list_cmp_total (encoding w)
+equal_where_same o v w h e = decided_alone o (encoding v) (encoding w) h ∙
+    ap (λ t. slice_cmp nat_cmp (encoding t) (encoding w)) e ∙ tied_itself nat_list_cmp_total (encoding w)
 
 -- ---- heads
 
@@ -95,33 +84,28 @@ equal_where_same o v w h e =
 heads_first : (v w : Tree) (x y : List ℕ) → argument_of v < 2 ^ 64 → argument_of w < 2 ^ 64
     → slice_cmp nat_cmp (encoding v ++ x) (encoding w ++ y) ≡ ordering_then (head_order v w)
     (slice_cmp nat_cmp (content_bytes v ++ x) (content_bytes w ++ y))
-heads_first v w x y h k =
-    ap (λ l. slice_cmp nat_cmp (l ++ x) (encoding w ++ y)) (encoding-is v)
-    ∙ ap (λ l. slice_cmp nat_cmp ((shortest_head (tree_major v) (argument_of v) ++ content_bytes v) ++ x) (l ++ y))
-    (encoding-is w)
-    ∙ ap (λ l. slice_cmp nat_cmp l ((shortest_head (tree_major w) (argument_of w) ++ content_bytes w) ++ y))
-    (append_assoc (shortest_head (tree_major v) (argument_of v)) (content_bytes v) x)
-    ∙ ap (slice_cmp nat_cmp (shortest_head (tree_major v) (argument_of v) ++ (content_bytes v ++ x)))
-    (append_assoc (shortest_head (tree_major w) (argument_of w)) (content_bytes w) y)
-    ∙ heads_decide (tree_major v) (tree_major w) (argument_of v) (argument_of w) (content_bytes v ++ x)
-    (content_bytes w ++ y) h k
+heads_first v w x y h k = ap (λ l. slice_cmp nat_cmp (l ++ x) (encoding w ++ y)) (encoding-is v) ∙
+    ap (λ l. slice_cmp nat_cmp ((shortest_head (tree_major v) (argument_of v) ++ content_bytes v) ++ x) (l ++ y))
+    (encoding-is w) ∙
+    ap (λ l. slice_cmp nat_cmp l ((shortest_head (tree_major w) (argument_of w) ++ content_bytes w) ++ y))
+    (append_assoc (shortest_head (tree_major v) (argument_of v)) (content_bytes v) x) ∙
+    ap (slice_cmp nat_cmp (shortest_head (tree_major v) (argument_of v) ++ (content_bytes v ++ x)))
+    (append_assoc (shortest_head (tree_major w) (argument_of w)) (content_bytes w) y) ∙ heads_decide (tree_major v)
+    (tree_major w) (argument_of v) (argument_of w) (content_bytes v ++ x) (content_bytes w ++ y) h k
 
-pub different_heads : (v w : Tree) (o : Ordering) (b : Bool) → argument_of v < 2 ^ 64 → argument_of w < 2 ^ 64 →
-    o ≡ head_order v w → b ≡ is_ne o → b ≡ true
-    → Decides o (encoding v) (encoding w)
-different_heads v w o b h k e ne t x y =
-    heads_first v w x y h k ∙ ap (λ p. ordering_then p
-    (slice_cmp nat_cmp (content_bytes v ++ x) (content_bytes w ++ y))) (sym e)
-    ∙ nothing_left o (slice_cmp nat_cmp (content_bytes v ++ x) (content_bytes w ++ y)) (slice_cmp nat_cmp x y) b ne t
+pub different_heads : (v w : Tree) (o : Ordering) (b : Bool) → argument_of v < 2 ^ 64 →
+    argument_of w < 2 ^ 64 → o ≡ head_order v w → b ≡ is_ne o → b ≡ true → Decides o (encoding v) (encoding w)
+different_heads v w o b h k e ne t x y = heads_first v w x y h k ∙
+    ap (λ p. ordering_then p (slice_cmp nat_cmp (content_bytes v ++ x) (content_bytes w ++ y))) (sym e) ∙
+    nothing_left o (slice_cmp nat_cmp (content_bytes v ++ x) (content_bytes w ++ y)) (slice_cmp nat_cmp x y) b ne t
 
 -- behind equal heads
 pub contents_decide : (v w : Tree) (o p : Ordering) (b : Bool) (c d : List ℕ) → argument_of v < 2 ^ 64 →
     argument_of w < 2 ^ 64 → o ≡ head_order v w → b ≡ is_ne o → b ≡ false
     → content_bytes v ≡ c → content_bytes w ≡ d → Decides p c d → Decides p (encoding v) (encoding w)
-contents_decide v w o p b c d h k e ne f is other decides x y =
-    heads_first v w x y h k ∙ ap (λ q. ordering_then q
-    (slice_cmp nat_cmp (content_bytes v ++ x) (content_bytes w ++ y))) (sym e ∙ tied o b ne f)
-    ∙ ap (λ l. slice_cmp nat_cmp (l ++ x) (content_bytes w ++ y)) is ∙
+contents_decide v w o p b c d h k e ne f is other decides x y = heads_first v w x y h k ∙
+    ap (λ q. ordering_then q (slice_cmp nat_cmp (content_bytes v ++ x) (content_bytes w ++ y)))
+    (sym e ∙ tied o b ne f) ∙ ap (λ l. slice_cmp nat_cmp (l ++ x) (content_bytes w ++ y)) is ∙
     ap (λ l. slice_cmp nat_cmp (c ++ x) (l ++ y)) other ∙ decides x y
 
 -- equal heads have one major type and one argument
@@ -144,9 +128,8 @@ integer_alone (negsuc n) = inl (lit< tt)
 
 -- none of the variants with something behind the head
 abbrev pub IsOther : Value → Type 0
-IsOther w =
-    ((v : Vec ℕ Global) → ¬ (w ≡ value.Bytes v)) × ((s : String Global) → ¬ (w ≡ value.Text s)) ×
-    ((t : ℕ) (v : Box Value Global) → ¬ (w ≡ value.Tag t v)) ×
+IsOther w = ((v : Vec ℕ Global) → ¬ (w ≡ value.Bytes v)) ×
+    ((s : String Global) → ¬ (w ≡ value.Text s)) × ((t : ℕ) (v : Box Value Global) → ¬ (w ≡ value.Tag t v)) ×
     ((v : Vec Value Global) → ¬ (w ≡ value.Array v)) × ((v : Vec (Value × Value) Global) → ¬ (w ≡ value.Map v))
 
 level_alone : (y : Value-F Value) → IsOther (roll-Value y) → IsAlone (tree_of (roll-Value y))
@@ -197,19 +180,16 @@ alone_tied w u o b e ne f other =
 
 -- ---- arrays and maps behind equal heads
 
-pub as_many_items : (w u : Value) (v x : Vec Value Global) (o : Ordering) (b : Bool) →
-    o ≡ head_order (tree_of w) (tree_of u) → b ≡ is_ne o → b ≡ false
-    → w ≡ value.Array v → u ≡ value.Array x → vec_len v ≡ vec_len x
-as_many_items w u v x o b e f g is other =
-    argument_of-Array w v (vec_len v) is refl ∙ one_argument (tree_of w) (tree_of u) (sym e ∙ tied o b f g) ∙
-    sym (argument_of-Array u x (vec_len x) other refl)
+pub as_many_items : (w u : Value) (v x : Vec Value Global) (o : Ordering) (b : Bool) → o ≡ head_order (tree_of w)
+    (tree_of u) → b ≡ is_ne o → b ≡ false → w ≡ value.Array v → u ≡ value.Array x → vec_len v ≡ vec_len x
+as_many_items w u v x o b e f g is other = argument_of-Array w v (vec_len v) is refl ∙
+    one_argument (tree_of w) (tree_of u) (sym e ∙ tied o b f g) ∙ sym (argument_of-Array u x (vec_len x) other refl)
 
 pub as_many_pairs : (w u : Value) (v x : Vec (Value × Value) Global) (o : Ordering) (b : Bool) →
     o ≡ head_order (tree_of w) (tree_of u) → b ≡ is_ne o → b ≡ false
     → w ≡ value.Map v → u ≡ value.Map x → vec_len v ≡ vec_len x
-as_many_pairs w u v x o b e f g is other =
-    argument_of-Map w v (vec_len v) is refl ∙ one_argument (tree_of w) (tree_of u) (sym e ∙ tied o b f g) ∙
-    sym (argument_of-Map u x (vec_len x) other refl)
+as_many_pairs w u v x o b e f g is other = argument_of-Map w v (vec_len v) is refl ∙
+    one_argument (tree_of w) (tree_of u) (sym e ∙ tied o b f g) ∙ sym (argument_of-Map u x (vec_len x) other refl)
 
 -- payloads behind equal heads
 
@@ -234,14 +214,12 @@ same_payload-Text w u s z is other e =
 -- ---- along lists
 
 -- one more value that is the same
-pub items_same : (i : ℕ) (vs ws : List Value) (v w : Value) → i < length vs → v ≡ get_or vs i v → i < length ws →
-    w ≡ get_or ws i w
-    → map tree_of (take i vs) ≡ map tree_of (take i ws) → tree_of v ≡ tree_of w →
-    map tree_of (take (i + 1) vs) ≡ map tree_of (take (i + 1) ws)
-items_same i vs ws v w h e k f before same =
-    ap (map tree_of) (one_more i vs v h e) ∙ map-append tree_of (take i vs) (v ∷ [])
-    ∙ ap (λ l. l ++ (tree_of v ∷ [])) before ∙ ap (λ t. map tree_of (take i ws) ++ (t ∷ [])) same
-    ∙ sym (ap (map tree_of) (one_more i ws w k f) ∙ map-append tree_of (take i ws) (w ∷ []))
+pub items_same : (i : ℕ) (vs ws : List Value) (v w : Value) → i < length vs →
+    v ≡ get_or vs i v → i < length ws → w ≡ get_or ws i w → map tree_of (take i vs) ≡ map tree_of (take i ws) →
+    tree_of v ≡ tree_of w → map tree_of (take (i + 1) vs) ≡ map tree_of (take (i + 1) ws)
+items_same i vs ws v w h e k f before same = ap (map tree_of) (one_more i vs v h e) ∙ map-append tree_of (take i vs)
+    (v ∷ []) ∙ ap (λ l. l ++ (tree_of v ∷ [])) before ∙ ap (λ t. map tree_of (take i ws) ++ (t ∷ [])) same ∙
+    sym (ap (map tree_of) (one_more i ws w k f) ∙ map-append tree_of (take i ws) (w ∷ []))
 
 -- behind values that are the same, two that differ decide
 pub items_differ : (i : ℕ) (vs ws : List Value) (v w : Value) (o : Ordering) (b : Bool) → i < length vs →
@@ -281,10 +259,9 @@ keys_differ i ps qs p q o b h e k f before ne t decides =
 
 -- or two values behind keys that are the same
 pub values_differ : (i : ℕ) (ps qs : List (Value × Value)) (p q : Value × Value) (o : Ordering) (b : Bool) →
-    i < length ps → p ≡ get_or ps i p → i < length qs → q ≡ get_or qs i q
-    → map pair_trees (take i ps) ≡ map pair_trees (take i qs) → tree_of p.0 ≡ tree_of q.0 → b ≡ is_ne o → b ≡ true →
-    Decides o (encoding (tree_of p.1)) (encoding (tree_of q.1))
-    → Decides o (pair_encodings ps) (pair_encodings qs)
+    i < length ps → p ≡ get_or ps i p → i < length qs → q ≡ get_or qs i q →
+    map pair_trees (take i ps) ≡ map pair_trees (take i qs) → tree_of p.0 ≡ tree_of q.0 → b ≡ is_ne o → b ≡ true →
+    Decides o (encoding (tree_of p.1)) (encoding (tree_of q.1)) → Decides o (pair_encodings ps) (pair_encodings qs)
 values_differ i ps qs p q o b h e k f before keys ne t decides =
     let whole = pair_encodings-around i ps p h e in
     let other = pair_encodings-around i qs q k f in
@@ -296,12 +273,10 @@ values_differ i ps qs p q o b h e k f before keys ne t decides =
 
 pub items_all : (i : ℕ) (vs ws : List Value) → length vs ≤ i → length ws ≤ i →
     map tree_of (take i vs) ≡ map tree_of (take i ws) → encodings vs ≡ encodings ws
-items_all i vs ws beyond other same =
-    ap (λ ts. items_bytes (items_of (trees_from ts))) (sym (ap (map tree_of) (take_all i vs beyond)) ∙ same ∙
-    ap (map tree_of) (take_all i ws other))
+items_all i vs ws beyond other same = ap (λ ts. items_bytes (items_of (trees_from ts)))
+    (sym (ap (map tree_of) (take_all i vs beyond)) ∙ same ∙ ap (map tree_of) (take_all i ws other))
 
 pub pairs_all : (i : ℕ) (ps qs : List (Value × Value)) → length ps ≤ i → length qs ≤ i →
     map pair_trees (take i ps) ≡ map pair_trees (take i qs) → pair_encodings ps ≡ pair_encodings qs
-pairs_all i ps qs beyond other same =
-    ap (λ ts. pairs_bytes (pairs_of (tree_pairs_from ts)))
+pairs_all i ps qs beyond other same = ap (λ ts. pairs_bytes (pairs_of (tree_pairs_from ts)))
     (sym (ap (map pair_trees) (take_all i ps beyond)) ∙ same ∙ ap (map pair_trees) (take_all i qs other))

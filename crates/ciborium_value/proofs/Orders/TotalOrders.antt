@@ -1,21 +1,14 @@
 -- The orders of values by their encodings are total, and tie equal values alone.
-use Rattle.std.proofs.Common.{◌≡◌, refl, sym, ap, ◌∙◌, Ordering, Less, Equal, Greater, is_eq}
-use Rattle.std.proofs.lemmas.Cmp.{tied_itself, nat_cmp_total, nat_list_cmp_total, then_total, on_total}
-use Rattle.std.specs.Cmp.{IsTotalOrder}
-use Rattle.std.specs.Ordering.{ordering_then}
-use Rattle.ciborium_value.specs.Canonical.{bytewise_order, canonical_order, key_order}
-use Rattle.ciborium_value.specs.Derived.{value_eq, value_cmp}
-use Rattle.ciborium_value.specs.Encoding.{encoding, encoded_size}
-use Rattle.ciborium_value.specs.Tree.{Tree}
-use Rattle.ciborium_value.specs.View.{tree_of}
-use Rattle.ciborium_value.specs.contracts.tree.ValueOrd.TheImpl.Laws.{matches_eq-law}
-use Rattle.ciborium_value.specs.declared.tree.Value.{Value}
-use Rattle.ciborium_value.proofs.Orders.Derived.{value_cmp_total}
-use Rattle.ciborium_value.specs.lemmas.DerivedOrder.{value_cmp-is}
-use Rattle.ciborium_value.proofs.Orders.OrderedTrees.{tied_where_equal}
-use Rattle.ciborium_value.specs.declared.key_order.KeyOrder.{KeyOrder}
+use Rattle.std.proofs.{Common.{◌≡◌, refl, sym, ap, ◌∙◌, Ordering, Less, Equal, Greater, is_eq}, lemmas.Cmp.tied_itself}
+use Rattle.std.proofs.lemmas.Cmp.{nat_cmp_total, nat_list_cmp_total, then_total, on_total}
+use Rattle.std.specs.{Cmp.IsTotalOrder, Ordering.ordering_then}
+use Rattle.ciborium_value.specs.{Canonical.{bytewise_order, canonical_order, key_order}, Derived.{value_eq, value_cmp}}
+use Rattle.ciborium_value.specs.{Encoding.{encoding, encoded_size}, Tree.Tree, View.tree_of}
+use Rattle.ciborium_value.specs.{contracts.tree.ValueOrd.TheImpl.Laws.matches_eq-law, declared.tree.Value.Value}
+use Rattle.ciborium_value.specs.{lemmas.DerivedOrder.value_cmp-is, declared.key_order.KeyOrder.KeyOrder}
 use Rattle.ciborium_value.specs.declared.key_order.KeyOrder.TheVariants.{LengthFirst, Bytewise}
 use Rattle.ciborium_value.specs.OrderedValues.{ordered_value_cmp}
+use Rattle.ciborium_value.proofs.{Orders.Derived.value_cmp_total, Orders.OrderedTrees.tied_where_equal}
 
 pub canonical_order_total : IsTotalOrder canonical_order
 canonical_order_total = then_total (on_total encoded_size nat_cmp_total) (on_total encoding nat_list_cmp_total)
@@ -43,9 +36,7 @@ value_cmp-tied v w e = (tied_where_equal (tree_of v) (tree_of w)).0 (sym (value_
 -- an order by encodings, and then that of values
 matches_eq : (order : Tree → Tree → Ordering) → IsTotalOrder order → (v w : Value) →
     value_eq v w ≡ is_eq (ordering_then (order (tree_of v) (tree_of w)) (value_cmp v w))
-matches_eq order total v w =
-    matches_eq-law v w
-    ∙ tests_agree (order (tree_of v) (tree_of w)) (value_cmp v w)
+matches_eq order total v w = matches_eq-law v w ∙ tests_agree (order (tree_of v) (tree_of w)) (value_cmp v w)
     (λ e. ap (order (tree_of v)) (sym (value_cmp-tied v w e)) ∙ tied_itself total (tree_of v))
 
 pub ordered_value_matches_eq : (o : KeyOrder) (v w : Value) → value_eq v w ≡ is_eq (ordered_value_cmp o v w)

@@ -2,25 +2,18 @@
 use Rattle.std.proofs.Common.{◌≡◌, ℕ, ◌+◌, ◌^◌, ◌<◌, List, [], ◌++◌, length, take, get_or, Bool, true, false, Vec}
 use Rattle.std.proofs.Common.{vec_len, String, string_bytes, Box, Global, ℤ, pos, negsuc, ◌⊎◌, inl, inr, refl, sym, ap}
 use Rattle.std.proofs.Common.{◌∙◌, arith, length-append, append-nil, Equal, nat_cmp}
-use Rattle.std.specs.Cmp.Lexicographic.{slice_cmp}
-use Rattle.std.specs.FinMap.{nat_cmp-IsAntisymmetric, slice_cmp-IsAntisymmetric}
-use Rattle.ciborium_ll.specs.Head.{shortest_head}
-use Rattle.ciborium_ll.specs.Spells.{Spells}
+use Rattle.std.specs.{Cmp.Lexicographic.slice_cmp, FinMap.{nat_cmp-IsAntisymmetric, slice_cmp-IsAntisymmetric}}
+use Rattle.ciborium_ll.specs.{Head.shortest_head, Spells.Spells}
 use Rattle.ciborium_value.specs.Encoding.{encoding, encoded_size, item_of, items_of, pairs_of, items_bytes, pairs_bytes}
-use Rattle.ciborium_value.specs.ProperTrees.{IsProperTree}
-use Rattle.ciborium_value.specs.Tree.{Tree, integer, boolean, array, map}
-use Rattle.ciborium_value.specs.View.{tree_of}
-use Rattle.ciborium_value.specs.declared.tree.Value as value
-use Rattle.ciborium_value.specs.declared.tree.Value.{Value}
+use Rattle.ciborium_value.specs.{ProperTrees.IsProperTree, Tree.{Tree, integer, boolean, array, map}, View.tree_of}
+use Rattle.ciborium_value.specs.{declared.tree.Value.Value, inner.TreeHeads.{tree_major, argument_of, content_bytes}}
+use Rattle.ciborium_value.specs.{Visits.saturated, inner.EncodedLists.{encodings, pair_encodings}}
 use Rattle.ciborium_value.proofs.Trees.Views.{tree_of-Integer, tree_of-Bytes, tree_of-Text, tree_of-Bool, tree_of-Null}
 use Rattle.ciborium_value.proofs.Trees.Views.{tree_of-Tag, tree_of-Array, tree_of-Map, trees_count-trees_of}
-use Rattle.ciborium_value.proofs.Trees.Views.{tree_pairs_count-tree_pairs_of}
-use Rattle.ciborium_value.proofs.Writing.Written.{written_spells, IsProperItem-item_of, items_count-items_of}
-use Rattle.ciborium_value.proofs.Writing.Written.{pairs_count-pairs_of}
-use Rattle.ciborium_value.specs.inner.TreeHeads.{tree_major, argument_of, content_bytes}
-use Rattle.ciborium_value.specs.Visits.{saturated}
-use Rattle.ciborium_value.specs.inner.EncodedLists.{encodings, pair_encodings}
+use Rattle.ciborium_value.proofs.{Trees.Views.tree_pairs_count-tree_pairs_of, Writing.Written.written_spells}
+use Rattle.ciborium_value.proofs.Writing.Written.{IsProperItem-item_of, items_count-items_of, pairs_count-pairs_of}
 use Rattle.ciborium_value.proofs.Orders.Encodings.{encodings-more, pair_encodings-more}
+use Rattle.ciborium_value.specs.declared.tree.Value as value
 
 pub encoding-is : (v : Tree) → encoding v ≡ shortest_head (tree_major v) (argument_of v) ++ content_bytes v
 unfolding shortest_head
@@ -50,8 +43,7 @@ encoded_size-is v major argument head content size m n h c s =
 
 -- a head behind which nothing stands
 pub encoded_size-head : (v : Tree) (major argument head : ℕ) → major ≡ tree_major v → argument ≡ argument_of v →
-    head ≡ length (shortest_head major argument)
-    → head < 2 ^ 64 → content_bytes v ≡ [] → head ≡ encoded_size v
+    head ≡ length (shortest_head major argument) → head < 2 ^ 64 → content_bytes v ≡ [] → head ≡ encoded_size v
 encoded_size-head v major argument head m n h fits none =
     let empty = ap length none in
     encoded_size-is v major argument head 0 head m n h (omega (arith, empty)) (omega (arith, fits))
@@ -84,9 +76,8 @@ content_bytes-none w (inr (inr is)) = ap (λ x. content_bytes (tree_of x)) is �
 
 pub content_bytes-Tag : (w : Value) (t : ℕ) (b : Box Value Global) (v : Value) → w ≡ value.Tag t b → v ≡ b.value →
     content_bytes (tree_of w) ≡ encoding (tree_of v)
-content_bytes-Tag w t b v is content =
-    ap (λ x. content_bytes (tree_of x)) is ∙ ap content_bytes (tree_of-Tag t b) ∙
-    ap (λ x. encoding (tree_of x)) (sym content)
+content_bytes-Tag w t b v is content = ap (λ x. content_bytes (tree_of x)) is ∙
+    ap content_bytes (tree_of-Tag t b) ∙ ap (λ x. encoding (tree_of x)) (sym content)
 
 pub content_bytes-Array : (w : Value) (v : Vec Value Global) → w ≡ value.Array v →
     content_bytes (tree_of w) ≡ encodings v.items
@@ -106,8 +97,7 @@ encodings-more-length i vs v h e = ap length (encodings-more i vs v h e) ∙
 
 -- one more pair
 pub pair_encodings-more-length : (i : ℕ) (ps : List (Value × Value)) (p : Value × Value) → i < length ps →
-    p ≡ get_or ps i p
-    → length (pair_encodings (take (i + 1) ps)) ≡ length (pair_encodings (take i ps)) +
+    p ≡ get_or ps i p → length (pair_encodings (take (i + 1) ps)) ≡ length (pair_encodings (take i ps)) +
     (length (encoding (tree_of p.0)) + length (encoding (tree_of p.1)))
 pair_encodings-more-length i ps p h e =
     let key = encoding (tree_of p.0) in
@@ -119,14 +109,12 @@ pair_encodings-more-length i ps p h e =
 
 pub argument_of-Array : (w : Value) (v : Vec Value Global) (n : ℕ) → w ≡ value.Array v → n ≡ vec_len v →
     n ≡ argument_of (tree_of w)
-argument_of-Array w v n is count =
-    count ∙ v.ok.0 ∙ sym (trees_count-trees_of v.items) ∙
-    sym (ap (λ x. argument_of (tree_of x)) is ∙ ap argument_of (tree_of-Array v))
+argument_of-Array w v n is count = count ∙ v.ok.0 ∙
+    sym (trees_count-trees_of v.items) ∙ sym (ap (λ x. argument_of (tree_of x)) is ∙ ap argument_of (tree_of-Array v))
 
 pub argument_of-Map : (w : Value) (v : Vec (Value × Value) Global) (n : ℕ) → w ≡ value.Map v → n ≡ vec_len v →
     n ≡ argument_of (tree_of w)
-argument_of-Map w v n is count =
-    count ∙ v.ok.0 ∙ sym (tree_pairs_count-tree_pairs_of v.items) ∙
+argument_of-Map w v n is count = count ∙ v.ok.0 ∙ sym (tree_pairs_count-tree_pairs_of v.items) ∙
     sym (ap (λ x. argument_of (tree_of x)) is ∙ ap argument_of (tree_of-Map v))
 
 pub argument_of-Bytes : (w : Value) (v : Vec ℕ Global) (b : List ℕ) → w ≡ value.Bytes v → b ≡ v.items →

@@ -2,13 +2,10 @@
 use Rattle.std.proofs.Common.{◌≡◌, ℕ, ◌+◌, ◌*◌, ◌^◌, ◌<◌, ◌≤◌, List, [], ◌∷◌, ◌++◌, length, take, drop, get_or, Bool}
 use Rattle.std.proofs.Common.{true, false, refl, sym, ap, ◌∙◌, arith, Ordering, Equal, take-append-drop}
 use Rattle.std.specs.Ordering.{is_ne}
-use Rattle.ciborium_value.specs.Counts.{node_count, trees_node_count, tree_pairs_node_count}
-use Rattle.ciborium_value.specs.Tree.{Tree}
-use Rattle.ciborium_value.specs.View.{tree_of, trees_of, tree_pairs_of}
-use Rattle.ciborium_value.specs.declared.tree.Value.{Value}
-use Rattle.ciborium_value.specs.Visits.{AddsVisits, AddsAtMost, both_node_count, saturated}
-use Rattle.ciborium_value.proofs.Trees.Elements.{one_more}
-use Rattle.ciborium_value.proofs.Orders.SideBySide.{tied}
+use Rattle.ciborium_value.specs.{Counts.{node_count, trees_node_count, tree_pairs_node_count}, Tree.Tree, View.tree_of}
+use Rattle.ciborium_value.specs.{View.{trees_of, tree_pairs_of}, declared.tree.Value.Value, Visits.AddsVisits}
+use Rattle.ciborium_value.specs.Visits.{AddsAtMost, both_node_count, saturated}
+use Rattle.ciborium_value.proofs.{Trees.Elements.one_more, Orders.SideBySide.tied}
 
 -- ---- nodes
 
@@ -60,8 +57,7 @@ AddsVisits-then k m n old mid new sum h l = omega (arith, sum, h, l)
 
 -- an exact count, and then a walk of some of the rest that found a difference
 AddsAtMost-differ : (k m n : ℕ) (answer : Ordering) (b : Bool) (old mid new : ℕ) → old < 2 ^ 64 → m + n ≤ k →
-    b ≡ is_ne answer → b ≡ true
-    → AddsVisits m old mid → AddsAtMost n answer mid new → AddsAtMost k answer old new
+    b ≡ is_ne answer → b ≡ true → AddsVisits m old mid → AddsAtMost n answer mid new → AddsAtMost k answer old new
 AddsAtMost-differ k m n answer b old mid new fits sum ne t h l =
     let more = l.more in
     let most = l.most in
@@ -88,8 +84,7 @@ pairs_visits i ps qs = tree_pairs_node_count (tree_pairs_of (take i ps)) + tree_
 module _ (i : ℕ) (vs ws : List Value) (v w : Value) (h : i < length vs) (e : v ≡ get_or vs i v) (k : i < length ws)
     (f : w ≡ get_or ws i w) where
   pub items_visits-differ : (o : Ordering) (b : Bool) (old mid new : ℕ) → old < 2 ^ 64 → b ≡ is_ne o → b ≡ true →
-      AddsVisits (items_visits i vs ws) old mid
-      → AddsAtMost (both_node_count (tree_of v) (tree_of w)) o mid new →
+      AddsVisits (items_visits i vs ws) old mid → AddsAtMost (both_node_count (tree_of v) (tree_of w)) o mid new →
       AddsAtMost (trees_node_count (trees_of vs) + trees_node_count (trees_of ws)) o old new
   items_visits-differ o b old mid new fits ne t before now =
       let left = trees_node_count-more i vs v h e in
@@ -109,8 +104,7 @@ module _ (i : ℕ) (vs ws : List Value) (v w : Value) (h : i < length vs) (e : v
 module _ (i : ℕ) (ps qs : List (Value × Value)) (p q : Value × Value) (h : i < length ps) (e : p ≡ get_or ps i p)
     (k : i < length qs) (f : q ≡ get_or qs i q) where
   pub keys_visits-differ : (o : Ordering) (b : Bool) (old mid new : ℕ) → old < 2 ^ 64 → b ≡ is_ne o → b ≡ true →
-      AddsVisits (pairs_visits i ps qs) old mid
-      → AddsAtMost (both_node_count (tree_of p.0) (tree_of q.0)) o mid new →
+      AddsVisits (pairs_visits i ps qs) old mid → AddsAtMost (both_node_count (tree_of p.0) (tree_of q.0)) o mid new →
       AddsAtMost (tree_pairs_node_count (tree_pairs_of ps) + tree_pairs_node_count (tree_pairs_of qs)) o old new
   keys_visits-differ o b old mid new fits ne t before now =
       let left = tree_pairs_node_count-more i ps p h e in
@@ -120,8 +114,7 @@ module _ (i : ℕ) (ps qs : List (Value × Value)) (p q : Value × Value) (h : i
       AddsAtMost-differ _ _ _ o b old mid new fits (omega (arith, left, right, some, others)) ne t before now
 
   keys_visits-same : (o : Ordering) (b : Bool) (old mid new : ℕ) → b ≡ is_ne o → b ≡ false →
-      AddsVisits (pairs_visits i ps qs) old mid
-      → AddsAtMost (both_node_count (tree_of p.0) (tree_of q.0)) o mid new →
+      AddsVisits (pairs_visits i ps qs) old mid → AddsAtMost (both_node_count (tree_of p.0) (tree_of q.0)) o mid new →
       AddsVisits (pairs_visits i ps qs + both_node_count (tree_of p.0) (tree_of q.0)) old new
   keys_visits-same o b old mid new ne t before now = AddsVisits-then _ _ _ old mid new refl before
       (AddsAtMost-same _ o b mid new ne t now)

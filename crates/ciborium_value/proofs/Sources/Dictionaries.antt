@@ -3,16 +3,14 @@ use Rattle.std.proofs.Common.{◌≡◌, ℕ, Bool, true, false, if◌then◌els
 use Rattle.std.proofs.Common.{subst}
 use Rattle.std.specs.BTreeMap.{insert_entry}
 use Rattle.ciborium_ll.specs.Item.{Item}
-use Rattle.ciborium_value.specs.Ahead.{Ahead, Rest, Span, item, after, pairs, entry, inside, end_of}
-use Rattle.ciborium_value.specs.Nesting.{Limit}
-use Rattle.ciborium_value.specs.Places.{Shape, dictionary}
-use Rattle.ciborium_value.specs.Sources.{Fault, of_kind, IsFaultOf, TakesAhead, RefusesAhead, EntersMap, GoesOn, Leaves}
-use Rattle.ciborium_value.specs.Sources.{RefusesNext, TakesTo, TakesItem, OwesLess, OwesNothing}
-use Rattle.ciborium_value.specs.Given.{Outcome, Steps, Given, chosen, deeper_if, outcome, refuse, refuses, then_read}
-use Rattle.ciborium_value.specs.Given.{then_take}
-use Rattle.ciborium_value.specs.GivenParts.{has_key, put_each, given_map}
-use Rattle.ciborium_value.specs.declared.kind.Kind.TheVariants as kinds
+use Rattle.ciborium_value.specs.{Ahead.{Ahead, Rest, Span, item, after, pairs, entry, inside, end_of}, Nesting.Limit}
+use Rattle.ciborium_value.specs.{Places.{Shape, dictionary}, Sources.{Fault, of_kind, IsFaultOf, TakesAhead}}
+use Rattle.ciborium_value.specs.Sources.{RefusesAhead, EntersMap, GoesOn, Leaves, RefusesNext, TakesTo, TakesItem}
+use Rattle.ciborium_value.specs.{Sources.{OwesLess, OwesNothing}, Given.{Outcome, Steps, Given, chosen, deeper_if}}
+use Rattle.ciborium_value.specs.{Given.{outcome, refuse, refuses, then_read, then_take}, GivenParts.{has_key, put_each}}
+use Rattle.ciborium_value.specs.GivenParts.{given_map}
 use Rattle.ciborium_value.proofs.Sources.Sequences.{fault_then, fault_outside, Follows, so, IsBlamed, IsBefore, IsPast}
+use Rattle.ciborium_value.specs.declared.kind.Kind.TheVariants as kinds
 
 -- ---- from one place to the next
 

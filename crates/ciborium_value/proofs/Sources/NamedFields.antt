@@ -1,17 +1,15 @@
 -- What is read of a map by the labels of fields, pair by pair, from any source.
 use Rattle.std.proofs.Common.{◌≡◌, ℕ, Bool, true, false, if◌then◌else◌, List, ◌∷◌, refl, sym, ◌∙◌, ap, subst}
 use Rattle.ciborium_ll.specs.Item.{Item}
-use Rattle.ciborium_value.specs.Ahead.{Ahead, Rest, Span, item, after, pairs, entry, inside, end_of}
-use Rattle.ciborium_value.specs.Nesting.{Limit}
+use Rattle.ciborium_value.specs.{Ahead.{Ahead, Rest, Span, item, after, pairs, entry, inside, end_of}, Nesting.Limit}
 use Rattle.ciborium_value.specs.Sources.{Fault, IsFaultOf, TakesAhead, RefusesAhead, GoesOn, Leaves, RefusesNext}
-use Rattle.ciborium_value.specs.StructReadings.{FieldsGiven, take_fields, take_named}
-use Rattle.ciborium_value.specs.Labels.{Label, label_kind, label_place, placed, given_label}
-use Rattle.ciborium_value.specs.Given.{Outcome, gives, nests, outcome, outcome_map, refuses, given_integer, given_name}
-use Rattle.ciborium_value.specs.Given.{given_skip, then_read, then_take}
-use Rattle.ciborium_value.specs.declared.labels.LabelKind.{LabelKind}
-use Rattle.ciborium_value.specs.declared.labels.LabelKind.TheVariants as kind
+use Rattle.ciborium_value.specs.{StructReadings.{FieldsGiven, take_fields, take_named}, Labels.{Label, label_kind}}
+use Rattle.ciborium_value.specs.{Labels.{label_place, placed, given_label}, Given.{Outcome, gives, nests, outcome}}
+use Rattle.ciborium_value.specs.Given.{outcome_map, refuses, given_integer, given_name, given_skip, then_read}
+use Rattle.ciborium_value.specs.{Given.then_take, declared.labels.LabelKind.LabelKind}
 use Rattle.ciborium_value.specs.declared.wanted.FieldPlace.TheVariants.{First, Behind}
 use Rattle.ciborium_value.proofs.Sources.Sequences.{fault_then, fault_outside, Follows, so, IsBlamed, IsPast}
+use Rattle.ciborium_value.specs.declared.labels.LabelKind.TheVariants as kind
 
 -- ---- a label by its place
 
@@ -90,9 +88,8 @@ module _ {S Q : Type 0} (StandsBefore : S → Limit → Ahead → Type 0) (SeqSt
     -- the key was read as a label with this place, and its value is ahead
     abbrev IsAtField : S → Q → C → P → Limit → Rest → Outcome C → Type 0
     IsAtField now q c p l f o = (span : Span) × (v : Item) × (ps : List (Item × Item)) ×
-        StandsBefore now (inside span l) (item v (pairs span ps f)) × SeqStands q l (pairs span ps f) ×
-        (name : Label) × (place name ≡ p) ×
-        (o ≡ outcome (inside span l) (then_read (fields name c v) (λ d. take_fields fields d ps)))
+        StandsBefore now (inside span l) (item v (pairs span ps f)) × SeqStands q l (pairs span ps f) × (name : Label) ×
+        (place name ≡ p) × (o ≡ outcome (inside span l) (then_read (fields name c v) (λ d. take_fields fields d ps)))
 
     name_blames : {old : S} {q : Q} (c : C) (fault : Fault) → RefusesAhead StandsBefore old (label_place place) fault →
         Follows (IsAtName old q c) (IsBlamed fault)

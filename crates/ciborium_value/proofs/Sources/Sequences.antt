@@ -1,20 +1,15 @@
 -- What is read of a sequence, part by part, from any source.
-use Rattle.std.proofs.Common.{◌≡◌, ℕ, ◌≤◌, List, [], ◌∷◌, ◌++◌, refl, sym, ◌∙◌, ap, subst, append_assoc}
-use Rattle.std.proofs.Common.{append-nil, Result, Ok, Err, IsErrAnd}
+use Rattle.std.proofs.Common.{◌≡◌, ℕ, ◌≤◌, List, [], ◌∷◌, ◌++◌, refl, sym, ◌∙◌, ap, subst, append_assoc, append-nil}
+use Rattle.std.proofs.Common.{Result, Ok, Err, IsErrAnd}
 use Rattle.ciborium_ll.specs.Item.{Item}
-use Rattle.ciborium_value.specs.Ahead.{Ahead, Rest, Span, item, after, parts, past, inside, end_of}
-use Rattle.ciborium_value.specs.Nesting.{Limit}
-use Rattle.ciborium_value.specs.Places.{Shape, sequence}
-use Rattle.ciborium_value.specs.EnteredSequences.{RefusesInTurn, TakesRest, TakesInTurn}
+use Rattle.ciborium_value.specs.{Ahead.{Ahead, Rest, Span, item, after, parts, past, inside, end_of}, Nesting.Limit}
+use Rattle.ciborium_value.specs.{Places.{Shape, sequence}, EnteredSequences.{RefusesInTurn, TakesRest, TakesInTurn}}
 use Rattle.ciborium_value.specs.Sources.{Fault, of_kind, of_nesting, of_syntax, of_memory, of_device, of_end, of_length}
 use Rattle.ciborium_value.specs.Sources.{IsFaultOf, IsOutsideFault, TakesAhead, RefusesAhead, Enters, GoesOn, Leaves}
 use Rattle.ciborium_value.specs.Sources.{RefusesNext, TakesTo, TakesItem, OwesLess, OwesNothing, TakesOnly}
-use Rattle.ciborium_value.specs.Sources.{TakesOneItem}
-use Rattle.ciborium_value.specs.lemmas.GivenOutcomes.{and_take}
-use Rattle.ciborium_value.specs.Given.{Outcome, Steps, Given, deeper_if, gives, mapped, nests, outcome, outcome_map}
-use Rattle.ciborium_value.specs.Given.{refuses, take_each, given_value, then_take}
-use Rattle.ciborium_value.specs.GivenParts.{given_list, no_part_given}
-use Rattle.ciborium_value.specs.Tree.{Tree}
+use Rattle.ciborium_value.specs.{Sources.TakesOneItem, lemmas.GivenOutcomes.and_take, Given.{Outcome, Steps, Given}}
+use Rattle.ciborium_value.specs.Given.{deeper_if, gives, mapped, nests, outcome, outcome_map, refuses, take_each}
+use Rattle.ciborium_value.specs.{Given.{given_value, then_take}, GivenParts.{given_list, no_part_given}, Tree.Tree}
 
 -- ---- who is to blame
 
@@ -98,15 +93,13 @@ passes_on {StandsBefore = StandsBefore} {cause = cause} {old = old} {new = new} 
 module _ {S Q : Type 0} (StandsBefore : S → Limit → Ahead → Type 0) (SeqStands : Q → Limit → Rest → Type 0) where
   -- items of a sequence are left, of which k makes the outcome
   abbrev pub IsInside : {C : Type 0} → S → Q → (List Item → Steps C) → Limit → Rest → Outcome C → Type 0
-  IsInside now q k l f o = (span : Span) × (is : List Item) ×
-      StandsBefore now (inside span l) (after (parts span is f)) × SeqStands q l (parts span is f) ×
-      (o ≡ outcome (inside span l) (k is))
+  IsInside now q k l f o = (span : Span) × (is : List Item) × StandsBefore now (inside span l)
+      (after (parts span is f)) × SeqStands q l (parts span is f) × (o ≡ outcome (inside span l) (k is))
 
   -- one of them is ahead
   abbrev pub IsAtPart : {C : Type 0} → S → Q → (List Item → Steps C) → Limit → Rest → Outcome C → Type 0
-  IsAtPart now q k l f o = (span : Span) × (i : Item) × (is : List Item) ×
-      StandsBefore now (inside span l) (item i (parts span is f)) × SeqStands q l (parts span is f) ×
-      (o ≡ outcome (inside span l) (k (i ∷ is)))
+  IsAtPart now q k l f o = (span : Span) × (i : Item) × (is : List Item) × StandsBefore now (inside span l)
+      (item i (parts span is f)) × SeqStands q l (parts span is f) × (o ≡ outcome (inside span l) (k (i ∷ is)))
 
   module _ {C : Type 0} (k : List Item → Steps C) where
     pub goes_on : {old new : S} {q q' : Q} → GoesOn StandsBefore SeqStands old new q q' →
@@ -265,8 +258,7 @@ module _ {S Q : Type 0} (IsUnread : S → List ℕ → Type 0) (Owes : Q → Sha
   TakesOwed old new q q' = TakesTo IsUnread old new (λ c u. (b : List ℕ) → Owes q sequence b c → Owes q' sequence b u)
 
   pub dropped_more : (old mid ahead new : S) (p q q' : Q) → TakesOwed old mid p q →
-      TakesTo IsUnread mid ahead (OwesLess Owes q q') → TakesItem IsUnread ahead new →
-      TakesOwed old new p q'
+      TakesTo IsUnread mid ahead (OwesLess Owes q q') → TakesItem IsUnread ahead new → TakesOwed old new p q'
   dropped_more old mid ahead new p q q' h g t b u =
       let (c, un, ow) = h b u in
       let (d, un', less) = g c un in

@@ -1,8 +1,7 @@
 -- What passing over an item gives: nothing, where the item nests within the levels.
 use Rattle.std.proofs.Common.{◌≡◌, ℕ, zero, suc, ◌<◌, Some, None, refl, ap, arith}
 use Rattle.ciborium_ll.specs.Item.{Item}
-use Rattle.ciborium_value.specs.Labels.{Label, label_kind, label_place, other}
-use Rattle.ciborium_value.specs.Nesting.{Limit, IsWithin, nesting}
+use Rattle.ciborium_value.specs.{Labels.{Label, label_kind, label_place, other}, Nesting.{Limit, IsWithin, nesting}}
 use Rattle.ciborium_value.specs.Given.{gives, nests, outcome, outcome_map, give, within_levels, given_skip}
 use Rattle.ciborium_value.specs.declared.labels.LabelKind.TheVariants as kind
 

@@ -2,21 +2,14 @@
 use Rattle.std.proofs.Common.{◌≡◌, ◌<◌, ℕ, None, Result, Ok, Err, IfOk, IfErr, refl, sym, ap, ◌∙◌, subst, arith}
 use Rattle.std.specs.Borrow.{Bor}
 use Rattle.ciborium_ll.specs.Item.{Item}
-use Rattle.ciborium_value.specs.Sources.{IsFaultOf, TakesOneItem}
-use Rattle.ciborium_value.specs.Given.{Outcome, Given, gives, outcome}
-use Rattle.ciborium_value.specs.Ahead.{end_of}
-use Rattle.ciborium_value.specs.TreeAnswers.{IsErrorOf, tree_fault, value_item}
-use Rattle.ciborium_value.specs.declared.deserialized.Pending.{Pending}
+use Rattle.ciborium_value.specs.{Sources.{IsFaultOf, TakesOneItem}, Given.{Outcome, Given, gives, outcome}}
+use Rattle.ciborium_value.specs.{Ahead.end_of, TreeAnswers.{IsErrorOf, tree_fault, value_item}}
+use Rattle.ciborium_value.specs.{declared.deserialized.Pending.Pending, declared.deserialized.TreeSource.TreeSource}
+use Rattle.ciborium_value.specs.{declared.error.Error.Error, declared.error.Error.TheVariants.{Custom, Memory}}
+use Rattle.ciborium_value.specs.{declared.tree.Value.Value, inner.TreeSources.{IsPending, IsTreeAt, due_weight}}
+use Rattle.ciborium_value.specs.{inner.TreeSources.{pending_due, pending_tree_weight, source_weight}, View.tree_of}
+use Rattle.ciborium_value.proofs.{Sources.TreeLevels.due_is_ahead, Sources.TreeReading.{due_next, some_node}}
 use Rattle.ciborium_value.specs.declared.deserialized.Pending.TheVariants as pending
-use Rattle.ciborium_value.specs.declared.deserialized.TreeSource.{TreeSource}
-use Rattle.ciborium_value.specs.declared.error.Error.{Error}
-use Rattle.ciborium_value.specs.declared.error.Error.TheVariants.{Custom, Memory}
-use Rattle.ciborium_value.specs.declared.tree.Value.{Value}
-use Rattle.ciborium_value.specs.inner.TreeSources.{IsPending, IsTreeAt, due_weight, pending_due, pending_tree_weight}
-use Rattle.ciborium_value.specs.inner.TreeSources.{source_weight}
-use Rattle.ciborium_value.specs.View.{tree_of}
-use Rattle.ciborium_value.proofs.Sources.TreeLevels.{due_is_ahead}
-use Rattle.ciborium_value.proofs.Sources.TreeReading.{due_next, some_node}
 
 -- an error is one for which the item is refused
 fault_of_error : {A : Type 0} (end : ℕ) (e : Error) (o : Outcome A) → IsErrorOf e o → IsFaultOf end (tree_fault e) o

@@ -1,10 +1,7 @@
 -- An error of a tree is the fault of the item that is refused, wherever that stands.
 use Rattle.std.proofs.Common.{ℕ}
-use Rattle.ciborium_value.specs.Sources.{IsFaultOf}
-use Rattle.ciborium_value.specs.Given.{Outcome}
-use Rattle.ciborium_value.specs.TreeAnswers.{IsErrorOf, tree_fault}
-use Rattle.ciborium_value.specs.declared.error.Error.{Error}
-use Rattle.ciborium_value.specs.declared.error.Error.TheVariants.{Custom, Memory}
+use Rattle.ciborium_value.specs.{Sources.IsFaultOf, Given.Outcome, TreeAnswers.{IsErrorOf, tree_fault}}
+use Rattle.ciborium_value.specs.{declared.error.Error.Error, declared.error.Error.TheVariants.{Custom, Memory}}
 
 pub fault_error : {A : Type 0} (e : Error) (o : Outcome A) (end : ℕ) → IsErrorOf e o → IsFaultOf end (tree_fault e) o
 fault_error (Custom k) o end h = h

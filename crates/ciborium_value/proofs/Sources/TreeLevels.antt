@@ -1,22 +1,16 @@
 -- Names, tags and variants of a tree.
 use Rattle.std.proofs.Common.{◌≡◌, ℕ, Bool, true, false, List, [], ◌∷◌, length, Vec, Global, Option, Some, None, refl}
-use Rattle.std.proofs.Common.{sym, ap, ◌∙◌, subst, ◌==◌}
-use Rattle.std.specs.Str.{is_utf8, IsUtf8}
-use Rattle.std.proofs.lemmas.Str.{IsUtf8-from_is_utf8, is_utf8-from_IsUtf8}
+use Rattle.std.proofs.{Common.{sym, ap, ◌∙◌, subst, ◌==◌}, lemmas.Str.{IsUtf8-from_is_utf8, is_utf8-from_IsUtf8}}
+use Rattle.std.specs.{Str.{is_utf8, IsUtf8}, Borrow.Bor}
 use Rattle.ciborium_ll.specs.Item.{Item}
-use Rattle.ciborium_value.specs.Encoding.{item_of, pairs_of}
-use Rattle.ciborium_value.specs.Given.{gives, refuses, given_name, bare_name, lone_pair, given_variant, bare_variant}
-use Rattle.ciborium_value.specs.Given.{outcome, settled, untagged}
-use Rattle.std.specs.Borrow.{Bor}
-use Rattle.ciborium_value.specs.Ahead.{Rest, entry, past}
-use Rattle.ciborium_value.specs.inner.TreeSources.{IsTreeAhead, IsDueValue, IsPending, pending_due}
-use Rattle.ciborium_value.specs.TreeAnswers.{value_item}
-use Rattle.ciborium_value.specs.declared.deserialized.TreeSource.{TreeSource}
-use Rattle.ciborium_value.specs.View.{tree_of, tree_pairs_of}
+use Rattle.ciborium_value.specs.{Encoding.{item_of, pairs_of}, Given.{gives, refuses, given_name, bare_name, lone_pair}}
+use Rattle.ciborium_value.specs.{Given.{given_variant, bare_variant, outcome, settled, untagged}, Ahead.{Rest, entry}}
+use Rattle.ciborium_value.specs.{Ahead.past, inner.TreeSources.{IsTreeAhead, IsDueValue, IsPending, pending_due}}
+use Rattle.ciborium_value.specs.{TreeAnswers.value_item, declared.deserialized.TreeSource.TreeSource, View.tree_of}
+use Rattle.ciborium_value.specs.{View.tree_pairs_of, declared.tree.Value.Value}
+use Rattle.ciborium_value.proofs.Trees.Views.{tree_of-Bytes, tree_of-Map}
 use Rattle.ciborium_value.specs.declared.kind.Kind.TheVariants as kinds
 use Rattle.ciborium_value.specs.declared.tree.Value as value
-use Rattle.ciborium_value.specs.declared.tree.Value.{Value}
-use Rattle.ciborium_value.proofs.Trees.Views.{tree_of-Bytes, tree_of-Map}
 
 -- ---- names
 
@@ -49,8 +43,7 @@ pub variant_of_map : (v : Value) (ps : Vec (Value × Value) Global) (qs : List (
     v ≡ value.Map ps → value_item v ≡ untagged i → qs ≡ ps.items →
     outcome None (given_variant i) ≡ outcome None (lone_pair (pairs_of (tree_pairs_of qs)))
 variant_of_map v ps qs i is h e =
-    ap (λ j. outcome None (bare_variant j)) (sym h ∙ ap item_of (ap tree_of is ∙ tree_of-Map ps)) ∙
-    (rw (sym e) refl)
+    ap (λ j. outcome None (bare_variant j)) (sym h ∙ ap item_of (ap tree_of is ∙ tree_of-Map ps)) ∙ (rw (sym e) refl)
 
 -- ---- what is due
 

@@ -1,7 +1,6 @@
 -- A list round an index.
 use Rattle.std.proofs.Common.{◌≡◌, ℕ, suc, ◌+◌, ◌<◌, List, [], ◌∷◌, ◌++◌, length, take, drop, get_or, sym, ap, ◌∙◌}
-use Rattle.std.proofs.Common.{add-one, take-append-drop, drop-cons}
-use Rattle.std.proofs.Math.Seq.{take-suc}
+use Rattle.std.proofs.{Common.{add-one, take-append-drop, drop-cons}, Math.Seq.take-suc}
 
 -- the elements before an index, the one there, and those behind it
 pub around : {A : Type 0} (i : ℕ) (xs : List A) (x : A) → i < length xs → x ≡ get_or xs i x →

@@ -1,15 +1,10 @@
 -- What is looked up in a list of values, and in their trees.
-use Rattle.std.proofs.Common.{◌≡◌, ◌∙◌, ℕ, zero, suc, ◌<◌, ◌≤◌, List, [], ◌∷◌, ◌++◌, length, get_or, take, drop}
-use Rattle.std.proofs.Common.{Option, Some, None, option_map, Bor, true, if◌then◌else◌, refl, sym, ap, arith}
-use Rattle.std.proofs.Common.{take-append-drop, drop-cons}
-use Rattle.std.proofs.lemmas.List.{get_or_default}
-use Rattle.std.specs.Option.{option_or}
-use Rattle.std.specs.Slice.{IsItemAt}
-use Rattle.ciborium_value.specs.Labels.{Label, is_label}
-use Rattle.ciborium_value.specs.Lookups.{last_with, nth_tree, tree_label}
-use Rattle.ciborium_value.specs.Tree.{Tree}
-use Rattle.ciborium_value.specs.View.{tree_of, trees_of, tree_pairs_of}
-use Rattle.ciborium_value.specs.declared.tree.Value.{Value}
+use Rattle.std.proofs.Common.{◌≡◌, ◌∙◌, ℕ, zero, suc, ◌<◌, ◌≤◌, List, [], ◌∷◌, ◌++◌, length, get_or, take, drop, Option}
+use Rattle.std.proofs.Common.{Some, None, option_map, Bor, true, if◌then◌else◌, refl, sym, ap, arith, take-append-drop}
+use Rattle.std.proofs.{Common.drop-cons, lemmas.List.get_or_default}
+use Rattle.std.specs.{Option.option_or, Slice.IsItemAt}
+use Rattle.ciborium_value.specs.{Labels.{Label, is_label}, Lookups.{last_with, nth_tree, tree_label}, Tree.Tree}
+use Rattle.ciborium_value.specs.{View.{tree_of, trees_of, tree_pairs_of}, declared.tree.Value.Value}
 
 -- the item at an index
 pub nth_within : (i : ℕ) (vs : List Value) (v : Value) → i < length vs → v ≡ get_or vs i v →
@@ -38,9 +33,8 @@ last_behind l v (p ∷ ps) qs e =
 
 -- a pair of the label is the last one if none behind it is
 pub last_found : (l : Label) (ps : List (Value × Value)) (i : ℕ) (p : Value × Value) → i < length ps →
-    last_with l (tree_pairs_of (drop (suc i) ps)) ≡ None →
-    is_label (tree_label (tree_of (get_or ps i p).0)) l ≡ true → (d : Value × Value) →
-    last_with l (tree_pairs_of ps) ≡ Some (tree_of (get_or ps i d).1)
+    last_with l (tree_pairs_of (drop (suc i) ps)) ≡ None → is_label (tree_label (tree_of (get_or ps i p).0)) l ≡ true →
+    (d : Value × Value) → last_with l (tree_pairs_of ps) ≡ Some (tree_of (get_or ps i d).1)
 last_found l ps i p h none is_it d =
     let q = get_or ps i p in
     let here : last_with l (tree_pairs_of (drop i ps)) ≡ Some (tree_of q.1) =

@@ -1,15 +1,12 @@
 -- What is made of the values of a list, one by one: the parts of a type that holds itself, whose values are trees of
 -- one shape.
 use Rattle.std.proofs.Common.{◌≡◌, ℕ, zero, suc, ◌+◌, ◌<◌, Bool, true, false, ◌&&◌, List, [], ◌∷◌, ◌++◌, length, map}
-use Rattle.std.proofs.Common.{take, get_or, refl, sym, ap, ◌∙◌, add-one, arith}
-use Rattle.std.proofs.Math.Seq.{take-suc}
-use Rattle.ciborium_value.specs.Tree as trees
-use Rattle.ciborium_value.specs.Tree.{Tree, Trees}
-use Rattle.ciborium_value.specs.View.{tree_of, trees_of}
-use Rattle.ciborium_value.specs.declared.tree.Value.{Value}
+use Rattle.std.proofs.{Common.{take, get_or, refl, sym, ap, ◌∙◌, add-one, arith}, Math.Seq.take-suc}
+use Rattle.ciborium_value.specs.{Tree.{Tree, Trees}, View.{tree_of, trees_of}, declared.tree.Value.Value}
 use Rattle.ciborium_value.specs.lemmas.Descriptions.{both}
 use Rattle.ciborium_ll.proofs.UsableHeads.{and_false}
 use Rattle.std.specs.Cmp.Derive.{both_true}
+use Rattle.ciborium_value.specs.Tree as trees
 
 -- the next element
 one_more : {A : Type 0} (i : ℕ) (xs : List A) (x : A) → i < length xs → x ≡ get_or xs i x →
@@ -24,10 +21,9 @@ map-append f (y ∷ ys) x = ap (λ zs. f y ∷ zs) (map-append f ys x)
 pub one_made : {T : Type 0} (f : T → Tree) (i : ℕ) (vs : List Value) (v : Value) (ts us : List T) (t : T) →
     i < length vs → v ≡ get_or vs i v →
     map f ts ≡ map tree_of (take i vs) → us ≡ ts ++ t ∷ [] → f t ≡ tree_of v → map f us ≡ map tree_of (take (i + 1) vs)
-one_made f i vs v ts us t h e before more same =
-    ap (map f) more ∙ map-append f ts t ∙ ap (λ l. l ++ f t ∷ []) before ∙
-    ap (λ x. map tree_of (take i vs) ++ x ∷ []) same ∙ sym (map-append tree_of (take i vs) v) ∙
-    ap (map tree_of) (sym (one_more i vs v h e))
+one_made f i vs v ts us t h e before more same = ap (map f) more ∙
+    map-append f ts t ∙ ap (λ l. l ++ f t ∷ []) before ∙ ap (λ x. map tree_of (take i vs) ++ x ∷ []) same ∙
+    sym (map-append tree_of (take i vs) v) ∙ ap (map tree_of) (sym (one_more i vs v h e))
 
 -- a test of trees, and of lists of trees: each passes it
 module _ (is : Tree → Bool) (are : Trees → Bool) (none : are trees.no_trees ≡ true)

@@ -2,23 +2,18 @@
 use Rattle.std.proofs.Common.{◌≡◌, ℕ, ◌+◌, ◌/◌, ◌%◌, ◌<◌, true, false, Option, List, [], ◌∷◌, ◌++◌, length, take, drop}
 use Rattle.std.proofs.Common.{get_or, slice_index, codes, decimal, refl, sym, ap, subst, ◌∙◌, arith, append-nil}
 use Rattle.std.proofs.Common.{append_assoc, add-one, suc, take-append-drop, drop-cons}
-use Rattle.std.specs.Fmt.{HasWrittenStyled, IsFlush, WritesInCalls}
-use Rattle.std.specs.Fmt.InlineText.{AppendsIfIntact, IsIntact, inline_text}
-use Rattle.std.specs.List.{FoldsTo, concat, flat_map}
-use Rattle.std.specs.declared.fmt.InlineText.{InlineText}
+use Rattle.std.proofs.{Output.{has_written_styled_append, has_written_styled_of_eq}, lemmas.Grind.flat_map-append}
+use Rattle.std.proofs.{lemmas.Bool.Decides.nat_tests, lemmas.List.Elements.{All-head, All-tail}}
+use Rattle.std.specs.{Fmt.{HasWrittenStyled, IsFlush, WritesInCalls}, Fmt.InlineText.{AppendsIfIntact, IsIntact}}
+use Rattle.std.specs.{Fmt.InlineText.inline_text, List.{FoldsTo, concat, flat_map}, declared.fmt.InlineText.InlineText}
 use Rattle.std.specs.declared.fmt.Formatter.{Formatter}
-use Rattle.std.proofs.Output.{has_written_styled_append, has_written_styled_of_eq}
-use Rattle.std.proofs.lemmas.Grind.{flat_map-append}
-use Rattle.std.proofs.lemmas.Bool.Decides.{nat_tests}
-use Rattle.std.proofs.lemmas.List.Elements.{All-head, All-tail}
 use Rattle.hex.specs.Hex.{encode_lower, encode_with, lower_digits}
 use Rattle.ciborium_value.specs.Notation.{IsPlain, comma, one_level_more, escape, escaped, last_break, line_break}
-use Rattle.ciborium_value.specs.Notation.{needs_escape, notation_on, notations_on, pair_notations_on}
-use Rattle.ciborium_value.specs.Tree.{Tree, array, map, tag}
-use Rattle.ciborium_value.specs.View.{tree_of, trees_of, tree_pairs_of}
+use Rattle.ciborium_value.specs.{Notation.{needs_escape, notation_on, notations_on, pair_notations_on}, Tree.Tree}
+use Rattle.ciborium_value.specs.{Tree.{array, map, tag}, View.{tree_of, trees_of, tree_pairs_of}}
 use Rattle.ciborium_value.specs.declared.tree.Value.{Value}
-use Rattle.ciborium_value.proofs.Trees.Elements.{one_more}
-use Rattle.ciborium_value.proofs.Trees.Views.{trees_count-trees_of, tree_pairs_count-tree_pairs_of}
+use Rattle.ciborium_value.proofs.{Trees.Elements.one_more, Trees.Views.trees_count-trees_of}
+use Rattle.ciborium_value.proofs.Trees.Views.{tree_pairs_count-tree_pairs_of}
 
 -- ---- one write behind another
 
@@ -38,9 +33,8 @@ module _ {n : ℕ} where
   held : (parts : List (List ℕ)) (s t : InlineText n) → FoldsTo AppendsIfIntact s parts t → IsIntact s →
       inline_text t ≡ inline_text s ++ concat parts
   held [] s t e intact = subst (λ u. inline_text u ≡ inline_text s ++ []) e (sym (append-nil (inline_text s)))
-  held (x ∷ xs) s t (j, taken, rest) intact =
-      held xs j t rest (taken intact).0 ∙ (ap (λ l. l ++ concat xs) (taken intact).1 ∙
-      append_assoc (inline_text s) x (concat xs))
+  held (x ∷ xs) s t (j, taken, rest) intact = held xs j t rest (taken intact).0 ∙
+      (ap (λ l. l ++ concat xs) (taken intact).1 ∙ append_assoc (inline_text s) x (concat xs))
 
   -- a text that began empty holds what was written to it
   pub digits_held : (s t : InlineText n) (bs : List ℕ) → WritesInCalls AppendsIfIntact s bs t → IsIntact s →
@@ -115,9 +109,8 @@ lead_behind-comma : {A : Type 0} (lines : Option ℕ) (xs : List A) → lead_beh
 lead_behind-comma lines [] = refl
 lead_behind-comma lines (x ∷ xs) = refl
 
-pub lead_behind-more : {A : Type 0} (lines : Option ℕ) (lead : List ℕ) (i : ℕ) (xs : List A) (x : A) → i < length xs →
-    x ≡ get_or xs i x
-    → lead_behind lines lead (take (i + 1) xs) ≡ comma lines
+pub lead_behind-more : {A : Type 0} (lines : Option ℕ) (lead : List ℕ) (i : ℕ) (xs : List A) (x : A) →
+    i < length xs → x ≡ get_or xs i x → lead_behind lines lead (take (i + 1) xs) ≡ comma lines
 lead_behind-more {A = A} lines lead i xs x h e = rw (one_more i xs x h e) (last (take i xs))
   where
     last : (l : List A) → lead_behind lines lead (l ++ (x ∷ [])) ≡ comma lines
@@ -143,15 +136,13 @@ notations_on-append lines lead (x ∷ xs) v =
     ∙ apart lead _ _
 
 -- one more item
-pub notations_on-more : (lines : Option ℕ) (i : ℕ) (vs : List Value) (v : Value) → i < length vs → v ≡ get_or vs i v
-    → notations_on lines [] (trees_of (take i vs)) ++ (lead_behind lines [] (take i vs) ++
-    (line_break lines ++ notation_on lines (tree_of v)))
-    ≡ notations_on lines [] (trees_of (take (i + 1) vs))
+pub notations_on-more : (lines : Option ℕ) (i : ℕ) (vs : List Value) (v : Value) → i < length vs →
+    v ≡ get_or vs i v → notations_on lines [] (trees_of (take i vs)) ++ (lead_behind lines [] (take i vs) ++
+    (line_break lines ++ notation_on lines (tree_of v))) ≡ notations_on lines [] (trees_of (take (i + 1) vs))
 notations_on-more lines i vs v h e = rw (one_more i vs v h e) (sym (notations_on-append lines [] (take i vs) v))
 
 pair_notations_on-append : (lines : Option ℕ) (lead : List ℕ) (ps : List (Value × Value)) (p : Value × Value) →
-    pair_notations_on lines lead (tree_pairs_of (ps ++ (p ∷ [])))
-    ≡ pair_notations_on lines lead (tree_pairs_of ps) ++
+    pair_notations_on lines lead (tree_pairs_of (ps ++ (p ∷ []))) ≡ pair_notations_on lines lead (tree_pairs_of ps) ++
     (lead_behind lines lead ps ++ (line_break lines ++
     (notation_on lines (tree_of p.0) ++ (codes ": " ++ notation_on lines (tree_of p.1)))))
 pair_notations_on-append lines lead [] p = ap (λ l. lead ++
@@ -172,9 +163,8 @@ pair_notations_on-append lines lead (x ∷ xs) p =
 
 -- one more pair
 pub pair_notations_on-more : (lines : Option ℕ) (i : ℕ) (ps : List (Value × Value)) (p : Value × Value) →
-    i < length ps → p ≡ get_or ps i p
-    → pair_notations_on lines [] (tree_pairs_of (take i ps)) ++
-    (lead_behind lines [] (take i ps) ++ (line_break lines ++
+    i < length ps → p ≡ get_or ps i p →
+    pair_notations_on lines [] (tree_pairs_of (take i ps)) ++ (lead_behind lines [] (take i ps) ++ (line_break lines ++
     (notation_on lines (tree_of p.0) ++ (codes ": " ++ notation_on lines (tree_of p.1)))))
     ≡ pair_notations_on lines [] (tree_pairs_of (take (i + 1) ps))
 pair_notations_on-more lines i ps p h e = rw (one_more i ps p h e)

@@ -1,15 +1,11 @@
 -- A value that a program holds is proper: what its fields' types give.
 use Rattle.std.proofs.Common.{◌≡◌, ℕ, ◌+◌, ◌^◌, ◌<◌, List, [], ◌∷◌, ◌++◌, length, take, get_or, String, string_bytes}
-use Rattle.std.proofs.Common.{Vec, Global, sym, ap, ◌∙◌, subst, arith}
-use Rattle.std.proofs.lemmas.Str.{IsUtf8-string_bytes}
-use Rattle.ciborium_ll.specs.Bytes.{AreBytes}
-use Rattle.ciborium_ll.specs.ProperItems.{IsProperBytes}
-use Rattle.ciborium_value.specs.ProperTrees.{AreProperTrees, AreProperTreePairs, IsProperTree}
-use Rattle.ciborium_value.specs.View.{tree_of, trees_of, tree_pairs_of}
+use Rattle.std.proofs.{Common.{Vec, Global, sym, ap, ◌∙◌, subst, arith}, lemmas.Str.IsUtf8-string_bytes}
+use Rattle.ciborium_ll.specs.{Bytes.AreBytes, ProperItems.IsProperBytes}
+use Rattle.ciborium_value.specs.{ProperTrees.{AreProperTrees, AreProperTreePairs, IsProperTree}, View.tree_of}
+use Rattle.ciborium_value.specs.{View.{trees_of, tree_pairs_of}, declared.tree.Value.Value}
+use Rattle.ciborium_value.proofs.{Trees.Views.{tree_of-Bytes, tree_of-Text}, Trees.Elements.one_more}
 use Rattle.ciborium_value.specs.declared.tree.Value as value
-use Rattle.ciborium_value.specs.declared.tree.Value.{Value}
-use Rattle.ciborium_value.proofs.Trees.Views.{tree_of-Bytes, tree_of-Text}
-use Rattle.ciborium_value.proofs.Trees.Elements.{one_more}
 
 -- ---- lists
 
@@ -27,18 +23,15 @@ AreProperTreePairs-append (x ∷ ps) qs p q = (p.0, p.1, AreProperTreePairs-appe
 -- one more proper tree
 pub AreProperTrees-more : (i : ℕ) (vs : List Value) (v : Value) → i < length vs → v ≡ get_or vs i v
     → AreProperTrees (trees_of (take i vs)) → IsProperTree (tree_of v) → AreProperTrees (trees_of (take (i + 1) vs))
-AreProperTrees-more i vs v h e p q =
-    subst (λ l. AreProperTrees (trees_of l)) (sym (one_more i vs v h e))
+AreProperTrees-more i vs v h e p q = subst (λ l. AreProperTrees (trees_of l)) (sym (one_more i vs v h e))
     (AreProperTrees-append (take i vs) (v ∷ []) p (q, tt))
 
 -- one more pair of proper trees
-pub AreProperTreePairs-more : (i : ℕ) (ps : List (Value × Value)) (p : Value × Value) → i < length ps →
-    p ≡ get_or ps i p
-    → AreProperTreePairs (tree_pairs_of (take i ps)) → IsProperTree (tree_of p.0) → IsProperTree (tree_of p.1) →
-    AreProperTreePairs (tree_pairs_of (take (i + 1) ps))
-AreProperTreePairs-more i ps p h e before key mapped =
-    subst (λ l. AreProperTreePairs (tree_pairs_of l)) (sym (one_more i ps p h e))
-    (AreProperTreePairs-append (take i ps) (p ∷ []) before (key, mapped, tt))
+pub AreProperTreePairs-more : (i : ℕ) (ps : List (Value × Value)) (p : Value × Value) →
+    i < length ps → p ≡ get_or ps i p → AreProperTreePairs (tree_pairs_of (take i ps)) →
+    IsProperTree (tree_of p.0) → IsProperTree (tree_of p.1) → AreProperTreePairs (tree_pairs_of (take (i + 1) ps))
+AreProperTreePairs-more i ps p h e before key mapped = subst (λ l. AreProperTreePairs (tree_pairs_of l))
+    (sym (one_more i ps p h e)) (AreProperTreePairs-append (take i ps) (p ∷ []) before (key, mapped, tt))
 
 -- ---- each variant with a length
 
@@ -53,6 +46,5 @@ is_proper-Bytes w v b is payload bytes short =
 
 pub is_proper-Text : (w : Value) (s : String Global) (b : List ℕ) → w ≡ value.Text s → b ≡ string_bytes s → AreBytes b →
     length b < 2 ^ 64 → IsProperTree (tree_of w)
-is_proper-Text w s b is payload bytes short =
-    subst IsProperTree (sym (ap tree_of is ∙ tree_of-Text s))
+is_proper-Text w s b is payload bytes short = subst IsProperTree (sym (ap tree_of is ∙ tree_of-Text s))
     (IsUtf8-string_bytes s, are_proper b (string_bytes s) payload bytes short)

@@ -1,16 +1,12 @@
 -- What is replaced in a list of values, and in their trees.
-use Rattle.std.proofs.Common.{◌≡◌, ◌∙◌, ℕ, zero, suc, ◌<◌, List, [], ◌∷◌, length, get_or, set, drop, Some, None}
-use Rattle.std.proofs.Common.{Option, true, if◌then◌else◌, refl, sym, ap, subst, arith}
-use Rattle.std.proofs.lemmas.List.{drop-set-lt, get_or-set_same, length-set}
-use Rattle.std.proofs.lemmas.Bool.Decides.{Decides-int_eq}
+use Rattle.std.proofs.Common.{◌≡◌, ◌∙◌, ℕ, zero, suc, ◌<◌, List, [], ◌∷◌, length, get_or, set, drop, Some, None, Option}
+use Rattle.std.proofs.{Common.{true, if◌then◌else◌, refl, sym, ap, subst, arith}, lemmas.List.drop-set-lt}
+use Rattle.std.proofs.{lemmas.List.{get_or-set_same, length-set}, lemmas.Bool.Decides.Decides-int_eq}
 use Rattle.std.proofs.lemmas.Slice.Eq.{bytes_eq-Decides}
-use Rattle.std.specs.Option.{option_or}
-use Rattle.std.specs.Prelude.{◌≢◌, ◌&&◌, Bool, false, IsTrue, is_none}
-use Rattle.ciborium_value.specs.Labels.{Label, named, numbered, other, is_label}
-use Rattle.ciborium_value.specs.Lookups.{last_with, nth_tree, replaced_last, replaced_nth, tree_label}
-use Rattle.ciborium_value.specs.Tree.{Tree, tree, tree_pair}
-use Rattle.ciborium_value.specs.View.{tree_of, trees_of, tree_pairs_of}
-use Rattle.ciborium_value.specs.declared.tree.Value.{Value}
+use Rattle.std.specs.{Option.option_or, Prelude.{◌≢◌, ◌&&◌, Bool, false, IsTrue, is_none}}
+use Rattle.ciborium_value.specs.{Labels.{Label, named, numbered, other, is_label}, Lookups.{last_with, nth_tree}}
+use Rattle.ciborium_value.specs.{Lookups.{replaced_last, replaced_nth, tree_label}, Tree.{Tree, tree, tree_pair}}
+use Rattle.ciborium_value.specs.{View.{tree_of, trees_of, tree_pairs_of}, declared.tree.Value.Value}
 use Rattle.ciborium_value.proofs.Trees.LookedUp.{last_found, nth_within}
 
 -- a pair of the label has the new value, if none behind it has that label
@@ -32,9 +28,8 @@ tree_pairs_of-set l w (q ∷ qs) (suc i) p h none is_it =
     (last_found l qs i p (omega (arith, h)) none is_it p))
 
 -- and is then what is found
-pub last_with-set : (l : Label) (w : Value) (ps : List (Value × Value)) (i : ℕ) (p : Value × Value) →
-    i < length ps → last_with l (tree_pairs_of (drop (suc i) ps)) ≡ None →
-    is_label (tree_label (tree_of (get_or ps i p).0)) l ≡ true →
+pub last_with-set : (l : Label) (w : Value) (ps : List (Value × Value)) (i : ℕ) (p : Value × Value) → i < length ps →
+    last_with l (tree_pairs_of (drop (suc i) ps)) ≡ None → is_label (tree_label (tree_of (get_or ps i p).0)) l ≡ true →
     last_with l (tree_pairs_of (set ps i ((get_or ps i p).0, w))) ≡ Some (tree_of w)
 last_with-set l w ps i p h none is_it =
     let q : Value × Value = ((get_or ps i p).0, w) in let same = get_or-set_same ps i q q h in

@@ -2,14 +2,11 @@
 use Rattle.std.proofs.Common.{◌≡◌, ℕ, suc, ◌+◌, ◌-◌, ◌<◌, List, [], ◌∷◌, ◌++◌, length, map, slice_index_or, slice_set}
 use Rattle.std.proofs.Common.{reverse, Bool, true, Option, None, Some, refl, sym, ap, ◌∙◌, arith, length-append}
 use Rattle.std.proofs.lemmas.List.{map-append, reverse-append, reverse-reverse}
-use Rattle.ciborium_value.specs.inner.Frames as frames
 use Rattle.ciborium_value.specs.inner.Frames.{Filled, Placed, fill, fill_map, placed, more, still, waiting_keys, whole}
-use Rattle.ciborium_value.specs.inner.Frames.{with_last}
-use Rattle.ciborium_value.specs.inner.Stack.{frame_of, map_frame, tree_frames, waiting_frame}
-use Rattle.ciborium_value.specs.Tree.{Tree}
-use Rattle.ciborium_value.specs.View.{pair_trees, tree_of}
-use Rattle.ciborium_value.specs.declared.stack.Frame.{Frame}
+use Rattle.ciborium_value.specs.{inner.Frames.with_last, inner.Stack.{frame_of, map_frame, tree_frames, waiting_frame}}
+use Rattle.ciborium_value.specs.{Tree.Tree, View.{pair_trees, tree_of}, declared.stack.Frame.Frame}
 use Rattle.ciborium_value.specs.declared.tree.Value.{Value}
+use Rattle.ciborium_value.specs.inner.Frames as frames
 
 pub frames_last : (frames : List Frame) (frame : Frame) →
     tree_frames (frames ++ frame ∷ []) ≡ frame_of frame ∷ tree_frames frames
@@ -79,8 +76,7 @@ waiting-filled ps n p v behind b waits size some at waiting there =
     ap (λ w. fill (map_frame (map pair_trees ps) behind w) (tree_of v)) (sym waiting)
 
 -- a list of two at least has a last element and one before it
-snoc-two : {A : Type 0} (xs : List A) → 1 < length xs →
-    (zs : List A) × (z : A) × (y : A) × (xs ≡ zs ++ z ∷ y ∷ [])
+snoc-two : {A : Type 0} (xs : List A) → 1 < length xs → (zs : List A) × (z : A) × (y : A) × (xs ≡ zs ++ z ∷ y ∷ [])
 snoc-two (x ∷ y ∷ []) h = ([], x, y, refl)
 snoc-two {A} (w ∷ x ∷ y ∷ xs) h =
     let s = snoc-two (x ∷ y ∷ xs) (omega arith) in (w ∷ s.0, s.1, s.2, ap (λ (l : List A). w ∷ l) s.3)

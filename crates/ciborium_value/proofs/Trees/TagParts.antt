@@ -1,4 +1,10 @@
 -- A tag behind a `&mut` is cut in two: its number and its box are lent side by side.
+use Rattle.std.proofs.Common.{◌≡◌, ℕ, List, [], ◌∷◌, refl, sym, ap}
+use Rattle.std.specs.{Box.with_value, contracts.impls.GlobalAllocator.TheImpl.ghosts}
+use Rattle.ciborium_value.proofs.tree.Value.TheLaws.{the_alike, the_loose}
+use Rattle.ciborium_value.specs.{LentParts.{value_with_tag, level_with_tag}, contracts.tree.Value.{enum, the_type}}
+use Rattle.ciborium_value.specs.{contracts.tree.Value.the_row as R, declared.tree.Value.TheOpen.Value-F}
+use Rattle.ciborium_value.specs.declared.tree.Value.TheViews.{outs-Tag}
 use Prim.Native.Nat.{◌+◌}
 use base.Fml.{Fml, fex, Lft, GName, Share, flft, fobs, fauth, fres, fobor, fbor}
 use base.Fraction.{full_share}
@@ -28,16 +34,8 @@ use types.Kit.{‵, raw, ◌⊛◌, some, later, ◌$◌, ◌∵◌, !, qed, by,
 use types.Kit.{fsplit, fsplit3, fjoin, fjoin3, feq_i, each, assume, await, pick, rewrite, group, updating, now, show}
 use types.Logic.{Logic, sem}
 use types.SemTy.{Body}
-use Rattle.std.proofs.Common.{◌≡◌, ℕ, List, [], ◌∷◌, refl, sym, ap}
-use Rattle.std.specs.Box.{with_value}
 use Rattle.std.specs.contracts.alloc.Global as global
 use Rattle.std.specs.contracts.boxed.Box as box
-use Rattle.std.specs.contracts.impls.GlobalAllocator.TheImpl.{ghosts}
-use Rattle.ciborium_value.proofs.tree.Value.TheLaws.{the_alike, the_loose}
-use Rattle.ciborium_value.specs.LentParts.{value_with_tag, level_with_tag}
-use Rattle.ciborium_value.specs.contracts.tree.Value.{enum, the_type, the_row as R}
-use Rattle.ciborium_value.specs.declared.tree.Value.TheOpen.{Value-F}
-use Rattle.ciborium_value.specs.declared.tree.Value.TheViews.{outs-Tag}
 
 -- a box of a value
 abbrev pub B : RattleType
@@ -105,9 +103,8 @@ module _ {M : Type 1} {𝓤 : Ura M} (𝓛 : Logic 𝓤) where
     back : (t : ℕ) (c : B.Denot) → ent 𝓤 (sep 𝓤 (sem 𝓛 ((mem u64).own_at t b (o + 8)))
         (sep 𝓤 (sem 𝓛 ((mem B).own_at c b (o + 16))) Rest)) (sem 𝓛 ((mem R).own_at (Tag t c) b o))
     back t c = qed 𝓛 (‵ ((mem u64).own_at t b (o + 8)) ∷ ‵ ((mem B).own_at c b (o + 16)) ∷
-        (‵ (part_at u8 full_share k b (o + 0)) ⊛ raw Mended) ∷ []) ∵
-        move ! (1 ∷ []) $ rewrite ! 0 (λ (X : Fml). ‵ X) (alike c) refl $ nothing ! $ move ! (1 ∷ 0 ∷ []) $ fjoin ! $
-        move ! (1 ∷ 0 ∷ []) $ fjoin ! $
+        (‵ (part_at u8 full_share k b (o + 0)) ⊛ raw Mended) ∷ []) ∵ move ! (1 ∷ []) $ rewrite ! 0 (λ (X : Fml). ‵ X)
+        (alike c) refl $ nothing ! $ move ! (1 ∷ 0 ∷ []) $ fjoin ! $ move ! (1 ∷ 0 ∷ []) $ fjoin ! $
         -- [the two fields; the tag and the way back]
         move ! (1 ∷ []) $ split ! $ move ! (0 ∷ 2 ∷ []) $ fjoin ! $ move ! (1 ∷ []) $
         use1 𝓛 (raw (wand 𝓤 (sem 𝓛 (parts_at full_share (tag_m ∷ members) 0 (k, (t, (c, tt))) b o))

@@ -1,11 +1,10 @@
 -- The tree of a value, variant by variant and along its lists.
-use Rattle.std.proofs.Common.{◌≡◌, ℕ, suc, List, [], ◌∷◌, length, string_bytes, String, Vec, Box, Global}
-use Rattle.std.proofs.Common.{ℤ, Bool, rules, refl, ap}
+use Rattle.std.proofs.Common.{◌≡◌, ℕ, suc, List, [], ◌∷◌, length, string_bytes, String, Vec, Box, Global, ℤ, Bool}
+use Rattle.std.proofs.Common.{rules, refl, ap}
+use Rattle.ciborium_value.specs.{Tree.{Tree, TreePairs, Trees, trees_count, tree_pairs_count}, View.{tree_of, trees_of}}
+use Rattle.ciborium_value.specs.{View.tree_pairs_of, declared.tree.Value.{Value, the_lemmas}}
 use Rattle.ciborium_value.specs.Tree as trees
-use Rattle.ciborium_value.specs.Tree.{Tree, TreePairs, Trees, trees_count, tree_pairs_count}
-use Rattle.ciborium_value.specs.View.{tree_of, trees_of, tree_pairs_of}
 use Rattle.ciborium_value.specs.declared.tree.Value as value
-use Rattle.ciborium_value.specs.declared.tree.Value.{Value, the_lemmas}
 
 -- ---- each variant
 

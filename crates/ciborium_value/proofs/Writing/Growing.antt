@@ -1,17 +1,16 @@
 -- What a sink over a tree holds while items are added.
 use Rattle.std.proofs.Common.{◌≡◌, ℕ, zero, suc, ◌+◌, ◌<◌, true, false, List, [], ◌∷◌, ◌++◌, length, map, Option, Some}
 use Rattle.std.proofs.Common.{None, refl, sym, ◌∙◌, ap, subst, append_assoc, append-nil, arith}
-use Rattle.ciborium_ll.specs.Item as item
 use Rattle.ciborium_ll.specs.Item.{Item}
-use Rattle.ciborium_value.specs.Encoding.{written_tree, written_trees, written_pairs}
+use Rattle.ciborium_value.specs.{Encoding.{written_tree, written_trees, written_pairs}, inner.Frames.TreeFrame}
+use Rattle.ciborium_value.specs.{inner.Frames.{Placed, done, more, placed, tree_ended, closed}, Places.Shape}
+use Rattle.ciborium_value.specs.Places.{sequence, dictionary, size_of, items_from, pairs_from, container, Place, top}
+use Rattle.ciborium_value.specs.{Places.{within, tagged, HasRoom, added, IsFull}, Tree.Tree, inner.TreeSinks.put_tree}
+use Rattle.ciborium_value.specs.{inner.TreeSinks.{put_items, begun, tagged_by, built, IsSound}, View.trees_from}
+use Rattle.ciborium_value.specs.View.{tree_pairs_from}
+use Rattle.ciborium_ll.specs.Item as item
 use Rattle.ciborium_value.specs.inner.Frames as frames
-use Rattle.ciborium_value.specs.inner.Frames.{TreeFrame, Placed, done, more, placed, tree_ended, closed}
-use Rattle.ciborium_value.specs.Places.{Shape, sequence, dictionary, size_of, items_from, pairs_from, container, Place}
-use Rattle.ciborium_value.specs.Places.{top, within, tagged, HasRoom, added, IsFull}
 use Rattle.ciborium_value.specs.Tree as trees
-use Rattle.ciborium_value.specs.Tree.{Tree}
-use Rattle.ciborium_value.specs.inner.TreeSinks.{put_tree, put_items, begun, tagged_by, built, IsSound}
-use Rattle.ciborium_value.specs.View.{trees_from, tree_pairs_from}
 
 -- ---- items in a row
 
@@ -57,8 +56,7 @@ array_still (suc m) vs (i ∷ is) os h = array_still m (vs ++ written_tree i ∷
 array_whole : (m : ℕ) (vs : List Tree) (is : List Item) (os : List TreeFrame) → length is ≡ suc m →
     put_items (more (frames.array vs (Some m) ∷ os)) is ≡ placed os (trees.array (trees_from (vs ++ tree_list is)))
 array_whole zero vs (i ∷ []) os h = refl
-array_whole (suc m) vs (i ∷ is) os h =
-    array_whole m (vs ++ written_tree i ∷ []) is os (omega (arith, h)) ∙
+array_whole (suc m) vs (i ∷ is) os h = array_whole m (vs ++ written_tree i ∷ []) is os (omega (arith, h)) ∙
     ap (λ l. placed os (trees.array (trees_from l))) (append_assoc vs (written_tree i ∷ []) (tree_list is))
 array_whole u vs v os h = absurd (omega (arith, h))
 
@@ -141,8 +139,7 @@ full_whole sequence (suc m) is os h = array_whole m [] is os h ∙ ap (λ l. pla
 full_whole dictionary (suc m) is os h = map_whole m [] is os h ∙ ap (λ l. placed os (trees.map l)) (tree_pairs-from is)
 
 pub built-ended : (s : Shape) (n : ℕ) (is : List Item) (around : Place) → IsSound (within s (Some n) is around) →
-    length is ≡ size_of s n →
-    built (within s (Some n) is around) ≡ built (added around (container s false is))
+    length is ≡ size_of s n → built (within s (Some n) is around) ≡ built (added around (container s false is))
 built-ended s n is around sound h =
     let k = still_open around sound.0 sound.1 in
     ap (λ t. put_items (begun s (Some n) t) is) k.1 ∙ full_whole s n is k.0 h ∙

@@ -3,19 +3,17 @@ use Rattle.std.proofs.Common.{Bool, true, cond, nat_le, ◌≡◌, ℕ, ◌+◌,
 use Rattle.std.proofs.Common.{length, Option, Some, None, Result, Ok, Err, OnErr, IfErr, IsErrAnd, refl, sym, ◌∙◌, ap}
 use Rattle.std.proofs.Common.{subst, append_assoc, append-nil, arith, length-append, drop, drop-cons, get_or}
 use Rattle.std.proofs.lemmas.List.{drop_all}
-use Rattle.ciborium_ll.specs.Item as item
-use Rattle.ciborium_ll.specs.Item.{Item}
+use Rattle.ciborium_ll.specs.{Item.Item, Bytes.greatest_offset}
 use Rattle.ciborium_value.specs.Places.{Shape, sequence, dictionary, size_of, container, Place, within, tagged, HasRoom}
-use Rattle.ciborium_value.specs.Places.{added, is_open, IsFull, IsOutAt, Out}
-use Rattle.ciborium_value.specs.Progress.{oks, BreaksAll, CanTake, IsSized, Owes, TakesAll, counted, counted_of}
-use Rattle.ciborium_value.specs.Sinks.{Named, and_then, all_named, contained, container_of, in_turn, tag_of, Cause}
-use Rattle.ciborium_value.specs.Sinks.{value, IsOwed, IsReady, Begins, Tags, CanEnd, Ends, Breaks}
-use Rattle.ciborium_value.specs.Sinks.{BreaksBegin, BreaksTag, BreaksEnd, AddsNamed, BreaksNamed}
-use Rattle.ciborium_value.specs.declared.kind.Kind.{Kind}
+use Rattle.ciborium_value.specs.{Places.{added, is_open, IsFull, IsOutAt, Out}, Progress.{oks, BreaksAll, CanTake}}
+use Rattle.ciborium_value.specs.{Progress.{IsSized, Owes, TakesAll, counted, counted_of}, Sinks.{Named, and_then}}
+use Rattle.ciborium_value.specs.Sinks.{all_named, contained, container_of, in_turn, tag_of, Cause, value, IsOwed}
+use Rattle.ciborium_value.specs.Sinks.{IsReady, Begins, Tags, CanEnd, Ends, Breaks, BreaksBegin, BreaksTag, BreaksEnd}
+use Rattle.ciborium_value.specs.{Sinks.{AddsNamed, BreaksNamed}, declared.kind.Kind.Kind}
 use Rattle.ciborium_value.specs.declared.kind.Kind.TheVariants.{Other}
-use Rattle.ciborium_ll.specs.Bytes.{greatest_offset}
 use Rattle.ciborium_value.proofs.Writing.Standing.{IsBefore, before_itself, before_within, before_full, before_tagged}
 use Rattle.ciborium_value.proofs.Writing.Standing.{tagged_before, cut_nothing, cut_wider}
+use Rattle.ciborium_ll.specs.Item as item
 
 -- ---- results
 
@@ -322,9 +320,8 @@ next_part f xs k x lt is =
 pub no_part : {A : Type 0} (f : A → Named) (xs : List A) (k : ℕ) → length xs ≤ k → map f (drop k xs) ≡ []
 no_part f xs k le = ap (map f) (drop_all k xs le)
 
-pub next_pair : {A B : Type 0} (f : A → Named) (g : B → Named) (es : List (A × B)) (k : ℕ) (e : A × B) → k < length es →
-    e ≡ get_or es k e →
-    in_turn f g (drop k es) ≡ f e.0 ∷ g e.1 ∷ in_turn f g (drop (k + 1) es)
+pub next_pair : {A B : Type 0} (f : A → Named) (g : B → Named) (es : List (A × B)) (k : ℕ) (e : A × B) →
+    k < length es → e ≡ get_or es k e → in_turn f g (drop k es) ≡ f e.0 ∷ g e.1 ∷ in_turn f g (drop (k + 1) es)
 next_pair f g es k e lt is =
     let same : suc k ≡ k + 1 = omega arith in
     ap (in_turn f g) (drop-cons es k e lt ∙ ap (λ y. y ∷ drop (suc k) es) (sym is) ∙ ap (λ j. e ∷ drop j es) same)

@@ -1,22 +1,20 @@
 -- What typed writing puts out is read back.
 use Rattle.std.proofs.Common.{◌≡◌, ℕ, zero, suc, ◌+◌, ◌-◌, ◌<◌, ◌≤◌, Bool, true, false, List, pos, negsuc, cond, None}
 use Rattle.std.proofs.Common.{option_map, inl, IsUtf8, length, refl, sym, ◌∙◌, ap, subst, arith}
-use Rattle.ciborium_ll.specs.Bytes.{AreBytes, greatest_offset}
-use Rattle.ciborium_ll.specs.Item.{Item, bytes, array, map, tag, simple, float, Items}
-use Rattle.ciborium_ll.specs.Item.{no_items, item, items_count, Pairs, no_pairs, pair, pairs_count}
+use Rattle.ciborium_ll.specs.{Bytes.{AreBytes, greatest_offset}, Item.{Item, bytes, array, map, tag, simple, float}}
+use Rattle.ciborium_ll.specs.Item.{Items, no_items, item, items_count, Pairs, no_pairs, pair, pairs_count}
 use Rattle.ciborium_ll.specs.Spells.{IsContainer, IsString}
-use Rattle.ciborium_value.specs.Encoding.{item_of, items_of, pairs_of, enclosed, items_bytes, pairs_bytes}
-use Rattle.ciborium_value.specs.Encoding.{simple_tree, string_bytes, written_pairs, written_tree, written_trees}
-use Rattle.ciborium_value.specs.Folded.{folded, trees_folded, tree_pairs_folded, short_bytes, tree_folding_bytes}
+use Rattle.ciborium_value.specs.Encoding.{item_of, items_of, pairs_of, enclosed, items_bytes, pairs_bytes, simple_tree}
+use Rattle.ciborium_value.specs.{Encoding.{string_bytes, written_pairs, written_tree, written_trees}, Folded.folded}
+use Rattle.ciborium_value.specs.Folded.{trees_folded, tree_pairs_folded, short_bytes, tree_folding_bytes}
 use Rattle.ciborium_value.specs.Meaning.{meaning, items_meaning, pairs_meaning, simple_meaning, short_string}
 use Rattle.ciborium_value.specs.Meaning.{is_bignum_tag, tag_meaning, trees_more, tree_pairs_more}
-use Rattle.ciborium_value.specs.ProperTrees.{IsProperTree, AreProperTrees, AreProperTreePairs}
-use Rattle.ciborium_value.specs.Tree as trees
-use Rattle.ciborium_value.specs.Tree.{Tree, Trees, TreePairs}
-use Rattle.ciborium_value.specs.WrittenItems.{IsAnnounced, IsWritten, AreWritten, PairsAreWritten, WrittenSpells}
-use Rattle.ciborium_value.specs.WrittenItems.{WrittenTreeFolds, WrittenTreeIsProper}
+use Rattle.ciborium_value.specs.{ProperTrees.{IsProperTree, AreProperTrees, AreProperTreePairs}, Tree.{Tree, Trees}}
+use Rattle.ciborium_value.specs.{Tree.TreePairs, WrittenItems.{IsAnnounced, IsWritten, AreWritten, PairsAreWritten}}
+use Rattle.ciborium_value.specs.WrittenItems.{WrittenSpells, WrittenTreeFolds, WrittenTreeIsProper}
 use Rattle.ciborium_value.proofs.Writing.Written.{string_written, parts_enclosed, simple_written, spells_item}
 use Rattle.ciborium_value.proofs.Writing.Written.{items_count-items_of, pairs_count-pairs_of}
+use Rattle.ciborium_value.specs.Tree as trees
 
 -- ---- it spells the item
 
@@ -68,9 +66,8 @@ mutual
   pub written_item_folds : (i : Item) → IsWritten i → meaning i ≡ folded (written_tree i)
   written_item_folds (array open_ is) h = ap (option_map trees.array) (written_items_fold is h.1)
   written_item_folds (map open_ ps) h = ap (option_map trees.map) (written_pairs_fold ps h.1)
-  written_item_folds (tag t i) h =
-      ap (λ o. tag_meaning t (cond (is_bignum_tag t) o None) (meaning i)) (short-bytes i h.1) ∙
-      ap (tag_meaning t (tree_folding_bytes t (written_tree i))) (written_item_folds i h.1)
+  written_item_folds (tag t i) h = ap (λ o. tag_meaning t (cond (is_bignum_tag t) o None) (meaning i))
+      (short-bytes i h.1) ∙ ap (tag_meaning t (tree_folding_bytes t (written_tree i))) (written_item_folds i h.1)
   written_item_folds (simple n) h = simple-folds n h.0 h.1
   written_item_folds (float raw) h = absurd h
   written_item_folds _ h = refl

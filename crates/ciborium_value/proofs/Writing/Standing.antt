@@ -17,8 +17,7 @@ use Rattle.ciborium_value.specs.Places.{IsCutBetween}
 pub items_bytes-append : (xs ys : List Item) → items_bytes (items_from (xs ++ ys)) ≡ items_bytes (items_from xs) ++
     items_bytes (items_from ys)
 items_bytes-append [] ys = refl
-items_bytes-append (x ∷ xs) ys =
-    ap (λ b. written_bytes x ++ b) (items_bytes-append xs ys) ∙
+items_bytes-append (x ∷ xs) ys = ap (λ b. written_bytes x ++ b) (items_bytes-append xs ys) ∙
     sym (append_assoc (written_bytes x) (items_bytes (items_from xs)) (items_bytes (items_from ys)))
 
 items_bytes-one : (xs : List Item) (i : Item) → items_bytes (items_from (xs ++ i ∷ [])) ≡ items_bytes (items_from xs) ++
@@ -45,9 +44,8 @@ pairs-from (k ∷ v ∷ is) (suc m) h =
 bytes-container : (s : Shape) (n : Option ℕ) (is : List Item) → IsFull s n is →
     written_bytes (container s (is_open n) is) ≡ begin_bytes s n ++ (items_bytes (items_from is) ++ end_bytes n)
 bytes-container sequence None is h = refl
-bytes-container sequence (Some n) is h =
-    ap (λ k. shortest_head 4 k ++ items_bytes (items_from is)) (items_count-from is ∙ h) ∙
-    ap (λ b. shortest_head 4 n ++ b) (sym (append-nil (items_bytes (items_from is))))
+bytes-container sequence (Some n) is h = ap (λ k. shortest_head 4 k ++ items_bytes (items_from is))
+    (items_count-from is ∙ h) ∙ ap (λ b. shortest_head 4 n ++ b) (sym (append-nil (items_bytes (items_from is))))
 bytes-container dictionary None is h = ap (λ b. open_byte 5 ∷ (b ++ break_byte ∷ [])) (pairs-from is h.0 h.1).0
 bytes-container dictionary (Some n) is h =
     let p = pairs-from is n h in

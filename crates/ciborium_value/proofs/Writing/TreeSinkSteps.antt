@@ -2,25 +2,20 @@
 use Rattle.std.proofs.Common.{◌≡◌, ℕ, true, false, List, [], ◌∷◌, Bool, Option, Some, None, Result, Ok, Err, OnOk, pos}
 use Rattle.std.proofs.Common.{negsuc, ℤ, ◌^◌, nat_lt, if◌then◌else◌, refl, sym, ◌∙◌, ap, lit<}
 use Rattle.std.proofs.lemmas.Result.{on_ok_weaker}
-use Rattle.ciborium_ll.specs.Item as item
 use Rattle.ciborium_ll.specs.Item.{Item}
-use Rattle.ciborium_value.specs.Encoding.{written_tree, boolean_item}
-use Rattle.ciborium_value.specs.Number.{number_tree, shortest_bytes}
-use Rattle.ciborium_value.specs.inner.Frames.{TreeFrame, done, more, placed, closed}
-use Rattle.ciborium_value.specs.Places as places
-use Rattle.ciborium_value.specs.Places.{Shape, sequence, dictionary, Place, top, within, HasRoom, added, container}
-use Rattle.ciborium_value.specs.Places.{IsComplete, writer_at}
-use Rattle.ciborium_value.specs.Sinks.{Named, number_item, Adds, Begins, Ends, AddsNamed}
-use Rattle.ciborium_value.specs.inner.Stack.{frames_of, placed_of}
-use Rattle.ciborium_value.specs.Tree as trees
-use Rattle.ciborium_value.specs.Tree.{Tree}
-use Rattle.ciborium_value.specs.inner.TreeSinks.{put_tree, empty_container, begun, built, state_of, IsBuiltAt}
-use Rattle.ciborium_value.specs.TreeAnswers.{IsTreeOf}
-use Rattle.ciborium_value.specs.View.{tree_of}
-use Rattle.ciborium_value.specs.declared.serialized.TreeSink.{TreeSink}
+use Rattle.ciborium_value.specs.{Encoding.{written_tree, boolean_item}, Number.{number_tree, shortest_bytes}}
+use Rattle.ciborium_value.specs.{inner.Frames.{TreeFrame, done, more, placed, closed}, Places.{Shape, sequence}}
+use Rattle.ciborium_value.specs.Places.{dictionary, Place, top, within, HasRoom, added, container, IsComplete}
+use Rattle.ciborium_value.specs.{Places.writer_at, Sinks.{Named, number_item, Adds, Begins, Ends, AddsNamed}}
+use Rattle.ciborium_value.specs.{inner.Stack.{frames_of, placed_of}, Tree.Tree, inner.TreeSinks.put_tree}
+use Rattle.ciborium_value.specs.inner.TreeSinks.{empty_container, begun, built, state_of, IsBuiltAt}
+use Rattle.ciborium_value.specs.{TreeAnswers.IsTreeOf, View.tree_of, declared.serialized.TreeSink.TreeSink}
 use Rattle.ciborium_value.specs.declared.tree.Value.{Value}
 use Rattle.ciborium_value.proofs.Writing.Growing.{still_open, built-added, sound-added, built-ended, built-broken}
 use Rattle.ciborium_value.proofs.Writing.Standing.{writer_at-added}
+use Rattle.ciborium_ll.specs.Item as item
+use Rattle.ciborium_value.specs.Places as places
+use Rattle.ciborium_value.specs.Tree as trees
 
 -- ---- the trees of scalars
 
@@ -82,10 +77,9 @@ pub some_is : {A : Type 0} (x y : A) → Some x ≡ Some y → x ≡ y
 some_is x y h = cc
 
 -- what a break closes, where a container can end that announced nothing
-broken_at : (s : TreeSink) (k : Shape) (is : List Item) (around : Place) → IsBuiltAt s (within k None is around) →
-    places.IsFull k None is →
-    (v : Tree) × (os : List TreeFrame) × (closed (frames_of s.stack) ≡ Some (v, os)) ×
-    (built (added around (container k true is)) ≡ placed os v)
+broken_at : (s : TreeSink) (k : Shape) (is : List Item) (around : Place) →
+    IsBuiltAt s (within k None is around) → places.IsFull k None is → (v : Tree) × (os : List TreeFrame) ×
+    (closed (frames_of s.stack) ≡ Some (v, os)) × (built (added around (container k true is)) ≡ placed os v)
 broken_at s k is around st full =
     let b = built-broken k is around st.1 full in
     let o = opens_are s.whole (frames_of s.stack) (b.inner ∷ b.outer) (st.2 ∙ b.here) in

@@ -1,27 +1,24 @@
 -- What is written for an item spells it.
-use Rattle.std.proofs.Common.{◌≡◌, ℕ, suc, ◌<◌, ◌≤◌, Bool, true, false, List, [], ◌∷◌, ◌++◌, length, refl, sym}
-use Rattle.std.proofs.Common.{ap, ◌∙◌, lit<, arith, ◌⊎◌, inl, inr, pos, negsuc, IsUtf8, append-nil}
+use Rattle.std.proofs.Common.{◌≡◌, ℕ, suc, ◌<◌, ◌≤◌, Bool, true, false, List, [], ◌∷◌, ◌++◌, length, refl, sym, ap, ◌∙◌}
+use Rattle.std.proofs.Common.{lit<, arith, ◌⊎◌, inl, inr, pos, negsuc, IsUtf8, append-nil}
 use Rattle.std.proofs.lemmas.Bool.Decides.{nat_tests}
-use Rattle.ciborium_ll.specs.Bytes.{AreBytes, greatest_offset}
-use Rattle.ciborium_ll.specs.Head.{shortest_head, simple_bytes, IsSimple, IsFloat}
+use Rattle.ciborium_ll.specs.{Bytes.{AreBytes, greatest_offset}, Head.{shortest_head, simple_bytes, IsSimple, IsFloat}}
 use Rattle.ciborium_ll.specs.Item.{Item, unsigned, negative, bytes, text, array, map, tag, simple, float, Items}
 use Rattle.ciborium_ll.specs.Item.{no_items, item, items_count, Pairs, no_pairs, pair, pairs_count}
 use Rattle.ciborium_ll.specs.ProperItems.{IsArgument, IsProperItem, AreProperItems, AreProperPairs}
 use Rattle.ciborium_ll.specs.Spells.{IsDefiniteString, IsString, IsContainer, Spells, SpellsItems, SpellsPairs}
 use Rattle.ciborium_ll.proofs.ShortestHead.{shortest_is_head}
 use Rattle.ciborium_value.specs.Encoding.{item_of, items_of, pairs_of, enclosed, string_bytes, float_bytes}
-use Rattle.ciborium_value.specs.Encoding.{written_bytes, items_bytes, pairs_bytes}
-use Rattle.ciborium_value.specs.laws.FoldingLaws.{EncodingIsGood}
-use Rattle.ciborium_value.specs.ProperTrees.{IsProperTree, AreProperTrees, AreProperTreePairs}
-use Rattle.ciborium_value.specs.Tree as trees
-use Rattle.ciborium_value.specs.Tree.{Tree, Trees, TreePairs, trees_count, tree_pairs_count}
+use Rattle.ciborium_value.specs.{Encoding.{written_bytes, items_bytes, pairs_bytes}, laws.FoldingLaws.EncodingIsGood}
+use Rattle.ciborium_value.specs.{ProperTrees.{IsProperTree, AreProperTrees, AreProperTreePairs}, Tree.{Tree, Trees}}
+use Rattle.ciborium_value.specs.Tree.{TreePairs, trees_count, tree_pairs_count}
 use Rattle.ciborium_value.proofs.FoldedTrees.Folding.{written_means_folded}
+use Rattle.ciborium_value.specs.Tree as trees
 
 -- ---- strings, containers, simple values and floats
 
-pub string_written : (open_ : Bool) (major : ℕ) (IsAllowed : List ℕ → Type 0) (b : List ℕ) → IsAllowed b →
-    length b ≤ greatest_offset →
-    IsString open_ major IsAllowed (string_bytes open_ major b) b
+pub string_written : (open_ : Bool) (major : ℕ) (IsAllowed : List ℕ → Type 0) (b : List ℕ) →
+    IsAllowed b → length b ≤ greatest_offset → IsString open_ major IsAllowed (string_bytes open_ major b) b
 string_written false major IsAllowed b h fits = (
   shortest_head major (length b),
   shortest_is_head major (length b) (omega arith),

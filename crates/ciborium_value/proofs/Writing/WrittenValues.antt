@@ -1,16 +1,14 @@
 -- What a `Value` names, level by level.
 use Rattle.std.proofs.Common.{◌≡◌, ℕ, false, List, [], ◌∷◌, map, Ok, Vec, Box, Global, refl, sym, ◌∙◌, ap}
-use Rattle.ciborium_ll.specs.Item as item
 use Rattle.ciborium_ll.specs.Item.{Item}
-use Rattle.ciborium_value.specs.Encoding.{item_of, items_of, pairs_of}
-use Rattle.ciborium_value.specs.Places.{sequence, dictionary, items_from, pairs_from}
-use Rattle.ciborium_value.specs.Sinks.{and_then, all_named, contained, container_of, in_turn, named_value, tag_of}
-use Rattle.ciborium_value.specs.Tree as trees
-use Rattle.ciborium_value.specs.Tree.{Tree}
-use Rattle.ciborium_value.specs.View.{tree_of, trees_from, tree_pairs_of}
-use Rattle.ciborium_value.specs.declared.tree.Value as value
+use Rattle.ciborium_value.specs.{Encoding.{item_of, items_of, pairs_of}, Places.{sequence, dictionary, items_from}}
+use Rattle.ciborium_value.specs.{Places.pairs_from, Sinks.{and_then, all_named, contained, container_of, in_turn}}
+use Rattle.ciborium_value.specs.{Sinks.{named_value, tag_of}, Tree.Tree, View.{tree_of, trees_from, tree_pairs_of}}
 use Rattle.ciborium_value.specs.declared.tree.Value.{Value}
 use Rattle.ciborium_value.proofs.Trees.Views.{tree_of-Tag, tree_of-Array, tree_of-Map}
+use Rattle.ciborium_ll.specs.Item as item
+use Rattle.ciborium_value.specs.Tree as trees
+use Rattle.ciborium_value.specs.declared.tree.Value as value
 
 -- each part of a list by its tree: of the values of a type that holds itself, too
 module _ {T : Type 0} (shape : T → Tree) where
@@ -50,10 +48,8 @@ from-pair_items (p ∷ ps) = ap (item.pair (item_of (tree_of p.0)) (item_of (tre
 
 pub named-Map : (v : Value) (ps : Vec (Value × Value) Global) → v ≡ value.Map ps →
     container_of dictionary (in_turn named_value named_value ps.items) ≡ named_value v
-named-Map v ps is =
-    ap (contained dictionary false) (all-pair_items ps.items) ∙
-    ap (λ l. Ok (item.map false l)) (from-pair_items ps.items) ∙
-    ap (λ t. Ok (item_of t)) (sym (ap tree_of is ∙ tree_of-Map ps))
+named-Map v ps is = ap (contained dictionary false) (all-pair_items ps.items) ∙ ap (λ l. Ok (item.map false l))
+    (from-pair_items ps.items) ∙ ap (λ t. Ok (item_of t)) (sym (ap tree_of is ∙ tree_of-Map ps))
 
 pub named-Tag : (v : Value) (t : ℕ) (content : Box Value Global) → v ≡ value.Tag t content →
     tag_of t (named_value content.value) ≡ named_value v

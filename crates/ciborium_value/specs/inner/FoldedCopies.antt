@@ -1,20 +1,13 @@
 -- The copying of a tree, folded, by a walk that keeps what is open and what is still to come.
-use Rattle.std.specs.Prelude.{◌≡◌, ℕ, ◌+◌, ◌<◌, List, [], ◌∷◌, ◌++◌, map, reverse, Option, Some}
-use Rattle.std.specs.Prelude.{None}
-use Rattle.ciborium_value.specs.Counts.{node_count}
-use Rattle.ciborium_value.specs.Folded.{folded}
-use Rattle.ciborium_value.specs.inner.Frames.{TreeFrame, Placed, done, more, placed}
-use Rattle.ciborium_value.specs.Sources.{Fault, of_kind, of_nesting, of_syntax, of_memory}
-use Rattle.ciborium_value.specs.Sources.{of_device, of_end, of_length}
-use Rattle.ciborium_value.specs.inner.Stack.{begun_frame}
-use Rattle.ciborium_value.specs.Tree.{Tree}
-use Rattle.ciborium_value.specs.View.{tree_of}
-use Rattle.ciborium_value.specs.declared.deserialized.folding.Coming.{Coming}
+use Rattle.std.specs.Prelude.{◌≡◌, ℕ, ◌+◌, ◌<◌, List, [], ◌∷◌, ◌++◌, map, reverse, Option, Some, None}
+use Rattle.ciborium_value.specs.{Counts.node_count, Folded.folded, inner.Frames.{TreeFrame, Placed, done, more, placed}}
+use Rattle.ciborium_value.specs.Sources.{Fault, of_kind, of_nesting, of_syntax, of_memory, of_device, of_end, of_length}
+use Rattle.ciborium_value.specs.{inner.Stack.begun_frame, Tree.Tree, View.tree_of}
+use Rattle.ciborium_value.specs.{declared.deserialized.folding.Coming.Coming, declared.deserialized.folding.Part.Part}
+use Rattle.ciborium_value.specs.declared.tree.Value.{Value}
 use Rattle.ciborium_value.specs.declared.deserialized.folding.Coming.TheVariants as coming
-use Rattle.ciborium_value.specs.declared.deserialized.folding.Part.{Part}
 use Rattle.ciborium_value.specs.declared.deserialized.folding.Part.TheVariants as part
 use Rattle.ciborium_value.specs.declared.kind.Kind.TheVariants as kinds
-use Rattle.ciborium_value.specs.declared.tree.Value.{Value}
 
 abbrev pub where_folded : Option Tree → (Tree → Option Placed) → Option Placed
 where_folded None f = None
@@ -54,8 +47,7 @@ nodes_of (t ∷ ts) = node_count t + nodes_of ts
 -- what a tree begins with: it is whole, or it opens and its parts come
 abbrev pub IsCopyBegun : Tree → Part → Type 0
 IsCopyBegun t (part.Whole v) = folded t ≡ Some (tree_of v)
-IsCopyBegun t (part.Begun o c) =
-    ((os : List TreeFrame) (ts : List Tree) →
+IsCopyBegun t (part.Begun o c) = ((os : List TreeFrame) (ts : List Tree) →
     copied (more os) (t ∷ ts) ≡ copied (more (begun_frame o ∷ os)) (coming_trees c ++ ts)) ×
     (nodes_of (coming_trees c) < node_count t)
 

@@ -1,9 +1,8 @@
 -- Frames: containers and tags that are unfinished while a tree is put together, the innermost
 -- first.
 use Rattle.std.specs.Prelude.{ℕ, zero, suc, List, [], ◌∷◌, ◌++◌, Option, Some, None, option_map}
+use Rattle.ciborium_value.specs.{Tree.Tree, View.{trees_from, tree_pairs_from}}
 use Rattle.ciborium_value.specs.Tree as trees
-use Rattle.ciborium_value.specs.Tree.{Tree}
-use Rattle.ciborium_value.specs.View.{trees_from, tree_pairs_from}
 
 -- a container with its parts so far, how many places follow the one that is filled next (None: as
 -- many as come before a break), and

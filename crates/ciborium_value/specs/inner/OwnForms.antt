@@ -1,14 +1,10 @@
 -- Trees that are their own deterministic form: each bignum is what it folds to, and the keys of
 -- each map rise (RFC 8949, sections 3.4.3 and 4.2).
-use Rattle.std.specs.Prelude.{◌≡◌, List, [], ◌∷◌, Some, false, MatchOption}
-use Rattle.std.specs.Ordering.{is_eq}
-use Rattle.ciborium_value.specs.Canonical.{bytewise_order}
-use Rattle.ciborium_value.specs.Deterministic.{AreRising, keys_of}
-use Rattle.ciborium_value.specs.Folded.{tree_folding_bytes}
-use Rattle.ciborium_value.specs.Meaning.{bignum_meaning}
-use Rattle.ciborium_value.specs.Tree.{Tree, integer, bytes, text, boolean, null, tag, array, map}
-use Rattle.ciborium_value.specs.Tree.{Trees, no_trees, tree, TreePairs, no_tree_pairs, tree_pair}
-use Rattle.ciborium_value.specs.declared.key_order.KeyOrder.{KeyOrder}
+use Rattle.std.specs.{Prelude.{◌≡◌, List, [], ◌∷◌, Some, false, MatchOption}, Ordering.is_eq}
+use Rattle.ciborium_value.specs.{Canonical.bytewise_order, Deterministic.{AreRising, keys_of}}
+use Rattle.ciborium_value.specs.{Folded.tree_folding_bytes, Meaning.bignum_meaning, Tree.{Tree, integer, bytes, text}}
+use Rattle.ciborium_value.specs.Tree.{boolean, null, tag, array, map, Trees, no_trees, tree, TreePairs, no_tree_pairs}
+use Rattle.ciborium_value.specs.{Tree.tree_pair, declared.key_order.KeyOrder.KeyOrder}
 
 abbrev mutual
   -- a tag that folds is over the bytes that it folds to
@@ -18,8 +14,7 @@ abbrev mutual
   IsFormed o (text b) = Unit {0}
   IsFormed o (boolean b) = Unit {0}
   IsFormed o null = Unit {0}
-  IsFormed o (tag t v) = MatchOption (tree_folding_bytes t v) (IsFormed o v)
-      (λ b. bignum_meaning t b ≡ Some (tag t v))
+  IsFormed o (tag t v) = MatchOption (tree_folding_bytes t v) (IsFormed o v) (λ b. bignum_meaning t b ≡ Some (tag t v))
   IsFormed o (array vs) = AreFormed o vs
   IsFormed o (map ps) = AreRising o (keys_of ps) × PairsAreFormed o ps
 

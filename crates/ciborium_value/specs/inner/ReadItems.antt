@@ -1,14 +1,9 @@
 -- What is read at the front of bytes, and the end of a container.
 use Rattle.std.specs.Prelude.{◌≡◌, ℕ, ◌+◌, ◌≤◌, List, [], ◌∷◌, ◌++◌, length, Some, None}
-use Rattle.ciborium_ll.specs.Bytes.{greatest_offset}
-use Rattle.ciborium_ll.specs.Head.{break_byte}
-use Rattle.ciborium_ll.specs.StringRefusal.{StringKind, of_bytes, of_text}
-use Rattle.ciborium_value.specs.Nesting.{Limit}
-use Rattle.ciborium_value.specs.Refuses.{Due, items, keys, values}
-use Rattle.ciborium_value.specs.Spelling.{Spelling, IsReadAs}
+use Rattle.ciborium_ll.specs.{Bytes.greatest_offset, Head.break_byte, StringRefusal.{StringKind, of_bytes, of_text}}
+use Rattle.ciborium_value.specs.{Nesting.Limit, Refuses.{Due, items, keys, values}, Spelling.{Spelling, IsReadAs}}
+use Rattle.ciborium_value.specs.{Tree.{Tree, TreePairs}, View.trees_from}
 use Rattle.ciborium_value.specs.Tree as trees
-use Rattle.ciborium_value.specs.Tree.{Tree, TreePairs}
-use Rattle.ciborium_value.specs.View.{trees_from}
 
 -- b, whose first byte is at offset p, begins with what is read as v within the limit; r follows it,
 -- at offset q

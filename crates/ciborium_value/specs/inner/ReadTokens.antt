@@ -1,23 +1,17 @@
 -- What reading diagnostic notation keeps between two tokens, and what it promises of them.
-use Rattle.std.specs.Prelude.{◌≡◌, ℕ, suc, ◌^◌, ◌+◌, ◌≤◌, ◌<◌, List, [], ◌∷◌, length}
-use Rattle.std.specs.Prelude.{Option, Some, None, ◌==◌, if◌then◌else◌, true, Bool, false, map}
-use Rattle.std.specs.Prelude.{reverse}
-use Rattle.ciborium_value.specs.Denotes.{Begins, BeginsItems, BeginsPairs, DenotesWithin}
-use Rattle.ciborium_value.specs.Denotes.{IsToken, MayRefuse}
-use Rattle.ciborium_value.specs.Notation.{needs_escape}
-use Rattle.ciborium_value.specs.Tokens as tokens
-use Rattle.ciborium_value.specs.Tokens.{Token, behind_blanks}
-use Rattle.ciborium_value.specs.Tree as trees
-use Rattle.ciborium_value.specs.Tree.{Tree, Trees, TreePairs}
-use Rattle.ciborium_value.specs.View.{pair_trees, tree_of}
-use Rattle.ciborium_value.specs.declared.from_notation.byte_strings.Group.{Group}
+use Rattle.std.specs.Prelude.{◌≡◌, ℕ, suc, ◌^◌, ◌+◌, ◌≤◌, ◌<◌, List, [], ◌∷◌, length, Option, Some, None, ◌==◌}
+use Rattle.std.specs.Prelude.{if◌then◌else◌, true, Bool, false, map, reverse}
+use Rattle.ciborium_value.specs.Denotes.{Begins, BeginsItems, BeginsPairs, DenotesWithin, IsToken, MayRefuse}
+use Rattle.ciborium_value.specs.{Notation.needs_escape, Tokens.{Token, behind_blanks}, Tree.{Tree, Trees, TreePairs}}
+use Rattle.ciborium_value.specs.{View.{pair_trees, tree_of}, declared.from_notation.byte_strings.Group.Group}
 use Rattle.ciborium_value.specs.declared.from_notation.error.NotationError.{NotationError}
-use Rattle.ciborium_value.specs.declared.from_notation.levels.Due.{Due}
-use Rattle.ciborium_value.specs.declared.from_notation.levels.Due.TheVariants as due
-use Rattle.ciborium_value.specs.declared.from_notation.levels.Level.{Level}
-use Rattle.ciborium_value.specs.declared.from_notation.levels.Level.TheVariants as level
+use Rattle.ciborium_value.specs.{declared.from_notation.levels.Due.Due, declared.from_notation.levels.Level.Level}
 use Rattle.ciborium_value.specs.declared.from_notation.levels.Levels.{Levels}
 use Rattle.ciborium_value.specs.declared.from_notation.tokens.Token.{Token as Read}
+use Rattle.ciborium_value.specs.Tokens as tokens
+use Rattle.ciborium_value.specs.Tree as trees
+use Rattle.ciborium_value.specs.declared.from_notation.levels.Due.TheVariants as due
+use Rattle.ciborium_value.specs.declared.from_notation.levels.Level.TheVariants as level
 use Rattle.ciborium_value.specs.declared.from_notation.tokens.Token.TheVariants as read
 
 -- there is no number, or one of 2^128 at least
@@ -124,15 +118,12 @@ pairs_before (q ∷ qs) ps = trees.tree_pair q.0 q.1 (pairs_before qs ps)
 abbrev pub Complete : ℕ → List Around → Tree → List ℕ → Tree → Type 0
 Complete m [] w t v = (behind_blanks t ≡ Some []) × (v ≡ w)
 Complete m (in_array ws ∷ levels) w t v = (vs : Trees) × (r : List ℕ) ×
-    BeginsItems m true t vs r ×
-    Complete (suc m) levels (trees.array (trees_before ws (trees.tree w vs))) r v
-Complete m (in_keys qs ∷ levels) w t v = (x : Tree) × (s : List ℕ) × (u : List ℕ) ×
-    (ps : TreePairs) × (r : List ℕ) × IsToken t tokens.colon s × Begins m s x u ×
-    BeginsPairs m true u ps r ×
-    Complete (suc m) levels (trees.map (pairs_before qs (trees.tree_pair w x ps))) r v
+    BeginsItems m true t vs r × Complete (suc m) levels (trees.array (trees_before ws (trees.tree w vs))) r v
+Complete m (in_keys qs ∷ levels) w t v = (x : Tree) ×
+    (s : List ℕ) × (u : List ℕ) × (ps : TreePairs) × (r : List ℕ) × IsToken t tokens.colon s × Begins m s x u ×
+    BeginsPairs m true u ps r × Complete (suc m) levels (trees.map (pairs_before qs (trees.tree_pair w x ps))) r v
 Complete m (in_values qs k ∷ levels) w t v = (ps : TreePairs) × (r : List ℕ) ×
-    BeginsPairs m true t ps r ×
-    Complete (suc m) levels (trees.map (pairs_before qs (trees.tree_pair k w ps))) r v
+    BeginsPairs m true t ps r × Complete (suc m) levels (trees.map (pairs_before qs (trees.tree_pair k w ps))) r v
 Complete m (in_tag n ∷ levels) w t v = (r : List ℕ) × IsToken t tokens.end_tag r ×
     Complete (suc m) levels (trees.tag n w) r v
 
@@ -150,8 +141,7 @@ Completes l levels (behind w) t v = (m : ℕ) × (l ≡ m + length levels) × Co
 -- completes there just what the text behind it completes here, where there is room
 pub record Leads (levels : List Around) (due : Await) (k : Token) (more : List Around)
     (next : Await) : Type 0 where
-  pub on : (l : ℕ) (t r : List ℕ) (v : Tree) → IsToken t k r → Completes l levels due t v →
-      Completes l more next r v
+  pub on : (l : ℕ) (t r : List ℕ) (v : Tree) → IsToken t k r → Completes l levels due t v → Completes l more next r v
   pub back : (l : ℕ) (t r : List ℕ) (v : Tree) → IsRoom l (length levels) due → IsToken t k r →
       Completes l more next r v → Completes l levels due t v
 

@@ -1,15 +1,11 @@
 -- What a stack of frames shows.
 use Rattle.std.specs.Prelude.{ℕ, Bool, false, true, List, [], ◌∷◌, map, reverse, Option, Some, None}
+use Rattle.ciborium_value.specs.{inner.Frames.{TreeFrame, Filled, Placed}, Tree.Tree, View.{tree_of, pair_trees}}
+use Rattle.ciborium_value.specs.{declared.tree.Value.Value, declared.stack.Frame.Frame}
+use Rattle.ciborium_value.specs.{declared.stack.NewFrame.NewFrame, declared.stack.Stack.Stack}
 use Rattle.ciborium_value.specs.inner.Frames as frames
-use Rattle.ciborium_value.specs.inner.Frames.{TreeFrame, Filled, Placed}
-use Rattle.ciborium_value.specs.Tree.{Tree}
-use Rattle.ciborium_value.specs.View.{tree_of, pair_trees}
-use Rattle.ciborium_value.specs.declared.tree.Value.{Value}
-use Rattle.ciborium_value.specs.declared.stack.Frame.{Frame}
 use Rattle.ciborium_value.specs.declared.stack.Frame.TheVariants as frame
-use Rattle.ciborium_value.specs.declared.stack.NewFrame.{NewFrame}
 use Rattle.ciborium_value.specs.declared.stack.NewFrame.TheVariants as new_frames
-use Rattle.ciborium_value.specs.declared.stack.Stack.{Stack}
 
 -- a map whose last pair holds the key that waits, from these pairs, the last first
 abbrev pub waiting_frame : List (Tree × Tree) → Option ℕ → TreeFrame

@@ -1,23 +1,15 @@
 -- Where a source over a tree stands.
-use Rattle.std.specs.Prelude.{◌≡◌, ℕ, ◌+◌, List, map, length, Option, Some, None}
-use Rattle.std.specs.Borrow.{Bor}
+use Rattle.std.specs.{Prelude.{◌≡◌, ℕ, ◌+◌, List, map, length, Option, Some, None}, Borrow.Bor}
 use Rattle.ciborium_ll.specs.Item.{Item, simple, unsigned}
-use Rattle.ciborium_value.specs.Ahead.{Ahead, Rest, item, after, bottom, parts, pairs, entry}
-use Rattle.ciborium_value.specs.Ahead.{level_due}
-use Rattle.ciborium_value.specs.Counts.{node_count, payload_size, trees_node_count}
-use Rattle.ciborium_value.specs.Counts.{trees_payload_size, tree_pairs_node_count}
-use Rattle.ciborium_value.specs.Counts.{tree_pairs_payload_size}
-use Rattle.ciborium_value.specs.Nesting.{Limit}
-use Rattle.ciborium_value.specs.View.{tree_of, trees_of, tree_pairs_of}
-use Rattle.ciborium_value.specs.declared.deserialized.Pending.{Pending}
+use Rattle.ciborium_value.specs.Ahead.{Ahead, Rest, item, after, bottom, parts, pairs, entry, level_due}
+use Rattle.ciborium_value.specs.Counts.{node_count, payload_size, trees_node_count, trees_payload_size}
+use Rattle.ciborium_value.specs.{Counts.{tree_pairs_node_count, tree_pairs_payload_size}, Nesting.Limit, View.tree_of}
+use Rattle.ciborium_value.specs.{View.{trees_of, tree_pairs_of}, declared.deserialized.Pending.Pending}
+use Rattle.ciborium_value.specs.{declared.deserialized.Left.Left, declared.deserialized.TreeLevel.TreeLevel}
+use Rattle.ciborium_value.specs.{declared.deserialized.TreeSeq.TreeSeq, declared.deserialized.TreeSource.TreeSource}
+use Rattle.ciborium_value.specs.{declared.tree.Value.Value, TreeAnswers.value_item}
 use Rattle.ciborium_value.specs.declared.deserialized.Pending.TheVariants as pending
-use Rattle.ciborium_value.specs.declared.deserialized.Left.{Left}
 use Rattle.ciborium_value.specs.declared.deserialized.Left.TheVariants as left
-use Rattle.ciborium_value.specs.declared.deserialized.TreeLevel.{TreeLevel}
-use Rattle.ciborium_value.specs.declared.deserialized.TreeSeq.{TreeSeq}
-use Rattle.ciborium_value.specs.declared.deserialized.TreeSource.{TreeSource}
-use Rattle.ciborium_value.specs.declared.tree.Value.{Value}
-use Rattle.ciborium_value.specs.TreeAnswers.{value_item}
 
 abbrev pub pair_items : Value × Value → Item × Item
 pair_items p = (value_item p.0, value_item p.1)
@@ -116,8 +108,7 @@ abbrev pub source_weight : TreeSource → ℕ
 source_weight s = pending_tree_weight s.ahead + due_weight s.due
 
 abbrev pub left_weight : Left → ℕ
-left_weight (left.Items vs) = trees_node_count (trees_of vs.now) + trees_payload_size
-    (trees_of vs.now)
+left_weight (left.Items vs) = trees_node_count (trees_of vs.now) + trees_payload_size (trees_of vs.now)
 left_weight (left.Bytes bs) = length bs.now
 left_weight (left.Pairs qs) = tree_pairs_node_count (tree_pairs_of qs.now) + tree_pairs_payload_size
     (tree_pairs_of qs.now)

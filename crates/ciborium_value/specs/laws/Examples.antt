@@ -1,18 +1,12 @@
 -- Worked examples: what the definitions say of a few bytes and trees of RFC 8949. Programs run the others, as lines.
+use Rattle.std.specs.Prelude.{◌≡◌, ℕ, ◌+◌, ◌-◌, ◌*◌, List, [], ◌∷◌, replicate, codes, if◌then◌else◌, nat_lt, false}
+use Rattle.std.specs.{Prelude.{true, pos, negsuc, Some, None}, declared.cmp.Ordering.TheVariants.Less}
+use Rattle.ciborium_ll.specs.{Item.Item, Spells.Spells}
+use Rattle.ciborium_value.specs.{Canonical.canonical_order, Encoding.{encoding, written_bytes}, Folded.folded}
+use Rattle.ciborium_value.specs.{Meaning.meaning, Notation.{notation, indented_notation}, Tree.{Tree, integer, bytes}}
+use Rattle.ciborium_value.specs.{Tree.{text, boolean, null, tag, array, map}, View.{tree_pairs_from, trees_from}}
 use Prim.Native.String.{String}
-use Rattle.std.specs.Prelude.{◌≡◌, ℕ, ◌+◌, ◌-◌, ◌*◌, List, [], ◌∷◌, replicate, codes, if◌then◌else◌, nat_lt}
-use Rattle.std.specs.Prelude.{false, true, pos, negsuc, Some, None}
-use Rattle.std.specs.declared.cmp.Ordering.TheVariants.{Less}
 use Rattle.ciborium_ll.specs.Item as item
-use Rattle.ciborium_ll.specs.Item.{Item}
-use Rattle.ciborium_ll.specs.Spells.{Spells}
-use Rattle.ciborium_value.specs.Canonical.{canonical_order}
-use Rattle.ciborium_value.specs.Encoding.{encoding, written_bytes}
-use Rattle.ciborium_value.specs.Folded.{folded}
-use Rattle.ciborium_value.specs.Meaning.{meaning}
-use Rattle.ciborium_value.specs.Notation.{notation, indented_notation}
-use Rattle.ciborium_value.specs.Tree.{Tree, integer, bytes, text, boolean, null, tag, array, map}
-use Rattle.ciborium_value.specs.View.{tree_pairs_from, trees_from}
 
 -- the value of a digit, by its code: 0 to 9, or a to f
 abbrev digit : ℕ → ℕ

@@ -1,12 +1,8 @@
 -- What holds of folding, and of reading what was written (RFC 8949, section 3.4.3).
 use Rattle.std.specs.Prelude.{◌≡◌, ◌≤◌, length, Some}
 use Rattle.ciborium_ll.specs.Bytes.{greatest_offset}
-use Rattle.ciborium_value.specs.Encoding.{item_of, encoding}
-use Rattle.ciborium_value.specs.Folded.{folded}
-use Rattle.ciborium_value.specs.Meaning.{meaning}
-use Rattle.ciborium_value.specs.Nesting.{Limit, IsWithin, nesting}
-use Rattle.ciborium_value.specs.ProperTrees.{IsProperTree}
-use Rattle.ciborium_value.specs.Spelling.{any, IsReadAs}
+use Rattle.ciborium_value.specs.{Encoding.{item_of, encoding}, Folded.folded, Meaning.meaning, Nesting.Limit}
+use Rattle.ciborium_value.specs.{Nesting.{IsWithin, nesting}, ProperTrees.IsProperTree, Spelling.{any, IsReadAs}}
 use Rattle.ciborium_value.specs.Tree.{Tree}
 
 -- the item of a tree means the folded tree, and nothing where the tree does not fold
@@ -20,7 +16,5 @@ FoldsOnce = (v w : Tree) → folded v ≡ Some w → folded w ≡ Some w
 -- the encoding of a proper tree that folds is read as the folded tree, where it nests within the
 -- limit and ends within the greatest offset
 abbrev pub EncodingIsGood : Type 0
-EncodingIsGood =
-    (v w : Tree) (l : Limit) → IsProperTree v → folded v ≡ Some w →
-    IsWithin l (nesting (item_of v)) →
-    length (encoding v) ≤ greatest_offset → IsReadAs any (encoding v) 0 l w
+EncodingIsGood = (v w : Tree) (l : Limit) → IsProperTree v → folded v ≡ Some w →
+    IsWithin l (nesting (item_of v)) → length (encoding v) ≤ greatest_offset → IsReadAs any (encoding v) 0 l w

@@ -1,9 +1,7 @@
 -- What holds of texts of diagnostic notation (RFC 8949, section 8).
 use Rattle.std.specs.Prelude.{◌≡◌, ℕ, Bool, List}
-use Rattle.ciborium_value.specs.Denotes.{Denotes, DenotesWithin, depth}
-use Rattle.ciborium_value.specs.Notation.{styled_notation}
-use Rattle.ciborium_value.specs.ProperTrees.{IsProperTree}
-use Rattle.ciborium_value.specs.Tree.{Tree}
+use Rattle.ciborium_value.specs.{Denotes.{Denotes, DenotesWithin, depth}, Notation.styled_notation}
+use Rattle.ciborium_value.specs.{ProperTrees.IsProperTree, Tree.Tree}
 
 -- what is printed of a tree that a program can hold, on one line or over lines, denotes it
 -- within as many levels as it nests

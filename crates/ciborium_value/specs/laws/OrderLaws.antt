@@ -1,14 +1,9 @@
 -- What holds of the order of values.
-use Rattle.std.specs.Prelude.{◌≡◌, ◌↔◌, ℤ, IsTrue, Some}
-use Rattle.std.specs.declared.cmp.Ordering.TheVariants.{Equal}
-use Rattle.std.specs.Cmp.{IsTotalOrder, IsEquivalence}
+use Rattle.std.specs.{Prelude.{◌≡◌, ◌↔◌, ℤ, IsTrue, Some}, declared.cmp.Ordering.TheVariants.Equal, Cmp.IsTotalOrder}
+use Rattle.std.specs.Cmp.{IsEquivalence}
 use Rattle.ciborium_ll.specs.Integer.{integer_order}
-use Rattle.ciborium_value.specs.Canonical.{canonical_order}
-use Rattle.ciborium_value.specs.Tree.{Tree, integer}
-use Rattle.ciborium_value.specs.View.{tree_of}
-use Rattle.ciborium_value.specs.Order.{tree_cmp}
-use Rattle.ciborium_value.specs.Derived.{value_eq, value_cmp, value_partial_cmp}
-use Rattle.ciborium_value.specs.declared.tree.Value.{Value}
+use Rattle.ciborium_value.specs.{Canonical.canonical_order, Tree.{Tree, integer}, View.tree_of, Order.tree_cmp}
+use Rattle.ciborium_value.specs.{Derived.{value_eq, value_cmp, value_partial_cmp}, declared.tree.Value.Value}
 
 -- values are equal where their trees are
 abbrev pub EqualAsTrees : Type 0
@@ -19,8 +14,7 @@ abbrev pub OrderedAsTrees : Type 0
 OrderedAsTrees = (v w : Value) → value_cmp v w ≡ tree_cmp (tree_of v) (tree_of w)
 
 abbrev pub PartlyOrderedAsTrees : Type 0
-PartlyOrderedAsTrees = (v w : Value) → value_partial_cmp v w ≡ Some
-    (tree_cmp (tree_of v) (tree_of w))
+PartlyOrderedAsTrees = (v w : Value) → value_partial_cmp v w ≡ Some (tree_cmp (tree_of v) (tree_of w))
 
 -- the order does not tell two trees apart exactly where they are one
 abbrev pub TiedWhereEqual : Type 0

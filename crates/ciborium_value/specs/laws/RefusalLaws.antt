@@ -1,19 +1,13 @@
 -- What holds of what is read and of refusals, in every spelling.
 use Rattle.std.specs.Prelude.{◌≡◌, ◌↔◌, ℕ, ◌+◌, ◌≤◌, ◌⊎◌, List, ◌++◌, length}
-use Rattle.ciborium_ll.specs.Bytes.{AreBytes, greatest_offset}
-use Rattle.ciborium_ll.specs.Refusal.{Refusal}
-use Rattle.ciborium_value.specs.DeterministicTrees.{IsDeterministic}
-use Rattle.ciborium_value.specs.Encoding.{item_of}
-use Rattle.ciborium_value.specs.Nesting.{Limit, IsWithin, nesting}
-use Rattle.ciborium_value.specs.Refuses.{Refuses}
-use Rattle.ciborium_value.specs.Spelling.{Spelling, deterministic, IsReadAs}
-use Rattle.ciborium_value.specs.Tree.{Tree}
-use Rattle.ciborium_value.specs.declared.key_order.KeyOrder.{KeyOrder}
+use Rattle.ciborium_ll.specs.{Bytes.{AreBytes, greatest_offset}, Refusal.Refusal}
+use Rattle.ciborium_value.specs.{DeterministicTrees.IsDeterministic, Encoding.item_of, Nesting.{Limit, IsWithin}}
+use Rattle.ciborium_value.specs.{Nesting.nesting, Refuses.Refuses, Spelling.{Spelling, deterministic, IsReadAs}}
+use Rattle.ciborium_value.specs.{Tree.Tree, declared.key_order.KeyOrder.KeyOrder}
 
 -- some beginning of b, whose first byte is at offset p, is read as a tree
 abbrev pub HasGoodItem : Spelling → List ℕ → ℕ → Limit → Type 0
-HasGoodItem spelling b p l = (s : List ℕ) × (v : Tree) × (r : List ℕ) × IsReadAs spelling s p l v ×
-    (b ≡ s ++ r)
+HasGoodItem spelling b p l = (s : List ℕ) × (v : Tree) × (r : List ℕ) × IsReadAs spelling s p l v × (b ≡ s ++ r)
 
 -- all bytes begin with what is read, or something refuses them
 abbrev pub GoodOrRefused : Type 0
@@ -33,8 +27,7 @@ OneRefusal = (spelling : Spelling) (b : List ℕ) (p : ℕ) (l : Limit) (e f : R
 -- and as one tree alone, of the same bytes
 abbrev pub OneReading : Type 0
 OneReading = (spelling : Spelling) (s t q r : List ℕ) (p : ℕ) (l : Limit) (v w : Tree) →
-    IsReadAs spelling s p l v → IsReadAs spelling t p l w → s ++ q ≡ t ++ r →
-    (v ≡ w) × (s ≡ t) × (q ≡ r)
+    IsReadAs spelling s p l v → IsReadAs spelling t p l w → s ++ q ≡ t ++ r → (v ≡ w) × (s ≡ t) × (q ≡ r)
 
 -- what is read in the deterministic spelling is the deterministic encoding of a tree that a program
 -- can hold, and that folding does not change

@@ -1,23 +1,17 @@
 -- The derived order of `Value` is that of the trees: a lemma, since a ghost line of `Key` names it.
 use Rattle.std.proofs.Common.{◌≡◌, List, [], ◌∷◌, rules, refl, ◌∙◌, subst, Equal, Ordering, map}
-use Rattle.std.specs.Cmp.Lexicographic.{slice_cmp}
-use Rattle.std.specs.Ordering.{ordering_then}
-use denote.Hole.Compared.{compared_is}
-use Rattle.ciborium_value.specs.Derived.{value_cmp}
-use Rattle.ciborium_value.specs.Order.{tree_cmp, trees_cmp, tree_pairs_cmp}
-use Rattle.ciborium_value.specs.View.{tree_of, trees_of, tree_pairs_of}
-use Rattle.ciborium_value.specs.contracts.tree.ValueOrd.TheImpl.{the_step}
+use Rattle.std.specs.{Cmp.Lexicographic.slice_cmp, Ordering.ordering_then}
+use Rattle.ciborium_value.specs.{Derived.value_cmp, Order.{tree_cmp, trees_cmp, tree_pairs_cmp}, View.tree_of}
+use Rattle.ciborium_value.specs.{View.{trees_of, tree_pairs_of}, contracts.tree.ValueOrd.TheImpl.the_step}
 use Rattle.ciborium_value.specs.contracts.tree.ValueOrd.TheImpl.Laws.{local, unfolded}
-use Rattle.ciborium_value.specs.declared.tree.Value.TheBlock.{the_members, the_depth, the_family}
-use Rattle.ciborium_value.specs.declared.tree.Value.TheBlock.{member-Value}
-use Rattle.ciborium_value.specs.declared.tree.Value.{Value, the_lemmas}
-use Rattle.ciborium_value.specs.declared.tree.Value.TheOpen.{Value-F}
+use Rattle.ciborium_value.specs.declared.tree.Value.TheBlock.{the_members, the_depth, the_family, member-Value}
+use Rattle.ciborium_value.specs.{declared.tree.Value.{Value, the_lemmas}, declared.tree.Value.TheOpen.Value-F}
 use Rattle.ciborium_value.specs.declared.tree.Value.TheViews.{out-Value, roll-Value}
 use Rattle.ciborium_value.specs.declared.tree.Value.TheFolds.{map-Value, ind-Value}
+use denote.Hole.Compared.{compared_is}
 
 cmp_unfolded : (v w : Value) → value_cmp v w ≡ unfolded v w
-cmp_unfolded = compared_is the_members the_family the_depth Ordering Equal the_step local
-    member-Value
+cmp_unfolded = compared_is the_members the_family the_depth Ordering Equal the_step local member-Value
 
 -- against every other value the answer is that of the trees
 abbrev IsOfTrees : Value → Type 0
@@ -28,8 +22,7 @@ abbrev Known : Type 0
 Known = (v : Value) × IsOfTrees v
 
 values_agree : (es : List Known) (ws : List Value) →
-    slice_cmp value_cmp (map (λ e. e.0) es) ws ≡ trees_cmp (trees_of (map (λ e. e.0) es))
-    (trees_of ws)
+    slice_cmp value_cmp (map (λ e. e.0) es) ws ≡ trees_cmp (trees_of (map (λ e. e.0) es)) (trees_of ws)
 values_agree [] [] = refl
 values_agree [] (w ∷ ws) = refl
 values_agree (e ∷ es) [] = refl
@@ -42,8 +35,7 @@ abbrev pair_of : Known × Known → Value × Value
 pair_of e = (e.0.0, e.1.0)
 
 pairs_agree : (es : List (Known × Known)) (ws : List (Value × Value)) →
-    slice_cmp pair_cmp (map pair_of es) ws ≡ tree_pairs_cmp (tree_pairs_of (map pair_of es))
-    (tree_pairs_of ws)
+    slice_cmp pair_cmp (map pair_of es) ws ≡ tree_pairs_cmp (tree_pairs_of (map pair_of es)) (tree_pairs_of ws)
 pairs_agree [] [] = refl
 pairs_agree [] (w ∷ ws) = refl
 pairs_agree (e ∷ es) [] = refl
@@ -53,8 +45,7 @@ abbrev bare : Value-F Known → Value-F Value
 bare y = map-Value Known Value (λ e. e.0) y
 
 level_agrees : (y : Value-F Known) (z : Value-F Value) →
-    value_cmp (roll-Value (bare y)) (roll-Value z) ≡ tree_cmp (tree_of (roll-Value (bare y)))
-    (tree_of (roll-Value z))
+    value_cmp (roll-Value (bare y)) (roll-Value z) ≡ tree_cmp (tree_of (roll-Value (bare y))) (tree_of (roll-Value z))
 level_agrees (Value-F.Array vs) (Value-F.Array ws) = let e = values_agree vs.items ws.items in
     cmp_unfolded _ _ ∙ search (rules, the_lemmas, e)
 level_agrees (Value-F.Map vs) (Value-F.Map ws) = let e = pairs_agree vs.items ws.items in

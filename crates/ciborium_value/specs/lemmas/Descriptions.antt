@@ -1,53 +1,29 @@
 -- The descriptions of the library's types, and of structs as maps, from those of their parts.
 use Rattle.std.proofs.Common.{ap, arith, subst, sym, ◌∙◌}
-use Rattle.std.specs.List.{All}
-use Rattle.std.specs.Option.{option_map}
-use Rattle.std.specs.Prelude.{◌≡◌, ◌<◌, ◌^◌, ◌+◌, ℕ, ℤ, suc, pos, max, Bool, true, false, List, []}
-use Rattle.std.specs.Prelude.{◌∷◌, Option, Some, None, Ok, Err, IfSome, length, map, nat_le, ◌&&◌}
-use Rattle.std.specs.Prelude.{if◌then◌else◌, refl}
+use Rattle.std.specs.{List.All, Option.{option_map, unwrap_or}, Prelude.{◌≡◌, ◌<◌, ◌^◌, ◌+◌, ℕ, ℤ, suc, pos, max, Bool}}
+use Rattle.std.specs.Prelude.{true, false, List, [], ◌∷◌, Option, Some, None, Ok, Err, IfSome, length, map, nat_le}
+use Rattle.std.specs.{Prelude.{◌&&◌, if◌then◌else◌, refl}, declared.cmp.Ordering.Ordering}
 use Rattle.ciborium_ll.specs.Bytes.{greatest_offset}
-use Rattle.ciborium_value.specs.Described.{Description, FieldsDescription, IsDescribed, is_lawful}
-use Rattle.ciborium_value.specs.Described.{labeled_map, labeled_parts, maybe_before, maybe_levels}
-use Rattle.ciborium_value.specs.FormsReadBack.{IsFormRead, IsReadFromForm}
-use Rattle.ciborium_value.specs.Labels.{Label, is_label, is_proper, label_item, number_or, parts_or}
-use Rattle.ciborium_value.specs.NeverWritten.{Avoided, IsNever, byte_strings, never-container}
-use Rattle.ciborium_value.specs.NeverWritten.{never-number, never-option, nulls}
-use Rattle.ciborium_value.specs.Places.{Shape, dictionary, sequence}
-use Rattle.ciborium_value.specs.Progress.{counted_of}
-use Rattle.ciborium_value.specs.Readings.{IsBounded, Reading, below, bounded, list_of, option_of}
-use Rattle.ciborium_value.specs.Readings.{ordered_by, read_as, such_that, tuple1_of, tuple2_of}
-use Rattle.ciborium_value.specs.Readings.{tuple3_of}
-use Rattle.ciborium_value.specs.Readings.{tuple4_of}
-use Rattle.ciborium_value.specs.ReadsBack.{IsNameRead, IsReadBack}
-use Rattle.ciborium_value.specs.Sinks.{Named, container_of, number_item, or_null}
-use Rattle.ciborium_value.specs.StructReadings.{Fields, FieldsGiven, end_of_fields, field, field_or}
-use Rattle.ciborium_value.specs.StructReadings.{no_field_given, no_other_given, optional_field}
-use Rattle.ciborium_value.specs.StructReadings.{struct_of, given_struct}
-use Rattle.ciborium_value.specs.Given.{Given}
-use Rattle.ciborium_value.specs.WrittenContents.{AreFieldsAlike, IsWrittenByContent, field_alike}
-use Rattle.ciborium_value.specs.WrittenContents.{list-alike, no_field_alike, option-alike}
-use Rattle.ciborium_value.specs.WrittenContents.{signed-alike, tuple1-alike, tuple2-alike}
-use Rattle.ciborium_value.specs.WrittenContents.{tuple3-alike, tuple4-alike, unsigned-alike}
-use Rattle.std.specs.declared.cmp.Ordering.{Ordering}
-use Rattle.ciborium_value.specs.declared.key_order.KeyOrder.{KeyOrder}
-use Rattle.ciborium_value.specs.declared.kind.Kind.{Kind}
-use Rattle.ciborium_value.specs.declared.kind.Kind.TheVariants.{Other}
-use Rattle.ciborium_value.specs.lemmas.FormsReadBackNumbers.{IsSignedForm, IsUnsignedForm}
-use Rattle.ciborium_value.specs.lemmas.FormsReadBackOptions.{option-form}
-use Rattle.ciborium_value.specs.lemmas.FormsReadBackParts.{list-form, tuple1-form, tuple2-form}
-use Rattle.ciborium_value.specs.lemmas.FormsReadBackParts.{tuple3-form, tuple4-form}
-use Rattle.ciborium_value.specs.lemmas.FormsReadBackStructs.{FieldsForm, end_form, field_form}
-use Rattle.ciborium_value.specs.lemmas.FormsReadBackStructs.{field_or_form, fields_form}
-use Rattle.ciborium_value.specs.lemmas.FormsReadBackStructs.{left_out_form, such_that_form}
+use Rattle.ciborium_value.specs.Described.{Description, FieldsDescription, IsDescribed, is_lawful, labeled_map}
+use Rattle.ciborium_value.specs.{Described.{labeled_parts, maybe_before, maybe_levels}, Labels.{Label, is_label}}
+use Rattle.ciborium_value.specs.{Labels.{is_proper, label_item, number_or, parts_or}, NeverWritten.{Avoided, IsNever}}
+use Rattle.ciborium_value.specs.NeverWritten.{byte_strings, never-container, never-number, never-option, nulls}
+use Rattle.ciborium_value.specs.{Places.{Shape, dictionary, sequence}, Progress.counted_of, Readings.IsBounded}
+use Rattle.ciborium_value.specs.Readings.{Reading, below, bounded, list_of, option_of, ordered_by, read_as, such_that}
+use Rattle.ciborium_value.specs.{Readings.{tuple1_of, tuple2_of, tuple3_of, tuple4_of}, ReadsBack.IsNameRead}
+use Rattle.ciborium_value.specs.{ReadsBack.{IsReadBack, Way, name-back}, Sinks.{Named, container_of, number_item}}
+use Rattle.ciborium_value.specs.{Sinks.or_null, StructReadings.{Fields, FieldsGiven, end_of_fields, field_filled}}
+use Rattle.ciborium_value.specs.StructReadings.{no_field_given, no_other_given, optional_field, struct_of, given_struct}
+use Rattle.ciborium_value.specs.{Given.Given, WrittenContents.{AreFieldsAlike, IsWrittenByContent, field_alike}}
+use Rattle.ciborium_value.specs.WrittenContents.{list-alike, no_field_alike, option-alike, signed-alike, tuple1-alike}
+use Rattle.ciborium_value.specs.WrittenContents.{tuple2-alike, tuple3-alike, tuple4-alike, unsigned-alike}
+use Rattle.ciborium_value.specs.{declared.kind.Kind.Kind, declared.kind.Kind.TheVariants.Other}
 use Rattle.ciborium_value.specs.lemmas.ReadsBackNumbers.{IsSignedBack, IsUnsignedBack}
-use Rattle.ciborium_value.specs.lemmas.ReadsBackOptions.{option-back, option_levels}
-use Rattle.ciborium_value.specs.lemmas.ReadsBackParts.{greatest, list-back, such_that_back}
-use Rattle.ciborium_value.specs.lemmas.ReadsBackParts.{tuple1-back, tuple2-back, tuple3-back}
-use Rattle.ciborium_value.specs.lemmas.ReadsBackParts.{tuple4-back}
-use Rattle.ciborium_value.specs.lemmas.ReadsBackStructs.{FieldsReadBack, are_apart, end_back}
-use Rattle.ciborium_value.specs.lemmas.ReadsBackStructs.{field_back, field_or_back}
-use Rattle.ciborium_value.specs.lemmas.ReadsBackStructs.{fields_read_back, is_named, left_out_back}
-use Rattle.ciborium_value.specs.lemmas.ReadsBackStructs.{neither}
+use Rattle.ciborium_value.specs.{lemmas.ReadsBackOptions.{option-back, option_levels}, lemmas.ReadsBackParts.greatest}
+use Rattle.ciborium_value.specs.lemmas.ReadsBackParts.{list-back, such_that_back, tuple1-back, tuple2-back, tuple3-back}
+use Rattle.ciborium_value.specs.{lemmas.ReadsBackParts.tuple4-back, lemmas.ReadsBackStructs.{FieldsReadBack, are_apart}}
+use Rattle.ciborium_value.specs.lemmas.ReadsBackStructs.{end_back, field_filled_back, field_or_back, fields_read_back}
+use Rattle.ciborium_value.specs.lemmas.ReadsBackStructs.{is_named, left_out_back, neither}
 
 -- ---- tests that hold together
 
@@ -61,12 +37,9 @@ each-avoided avoids h k nulls = h
 each-avoided avoids h k byte_strings = k
 
 -- the laws of a description, where `refl` shows that they hold of it
-pub described : {T : Type 0} (d : Description T) → is_lawful d ≡ true →
-    IsDescribed d d.written d.reading
+pub described : {T : Type 0} (d : Description T) → is_lawful d ≡ true → IsDescribed d d.written d.reading
 described d lawful = record {
   reads_back = d.reads_back (both d.is_sound (d.avoids nulls && d.avoids byte_strings) lawful).0;
-  form_reads_back = d.form_reads_back
-      (both d.is_sound (d.avoids nulls && d.avoids byte_strings) lawful).0;
   writes_content = d.writes_content;
   never = λ a v.
       let apart = both (d.avoids nulls) (d.avoids byte_strings)
@@ -90,19 +63,17 @@ pub as-never_null : {T : Type 0} {written : T → Named} → ((v : T) → IsNeve
 as-never_null never nulls h v = never v
 as-never_null never byte_strings h v = cc
 
-pub as-never_byte_string : {T : Type 0} {written : T → Named} →
-    ((v : T) → IsNever byte_strings (written v)) → (a : Avoided) → never_byte_string a ≡ true →
-    (v : T) → IsNever a (written v)
+pub as-never_byte_string : {T : Type 0} {written : T → Named} → ((v : T) → IsNever byte_strings (written v)) →
+    (a : Avoided) → never_byte_string a ≡ true → (v : T) → IsNever a (written v)
 as-never_byte_string never nulls h v = cc
 as-never_byte_string never byte_strings h v = never v
 
 -- a type by its laws
 abbrev pub scalar : {T C : Type 0} (r : Reading T C) (written : T → Named) (IsValid : T → Type 0)
-    (avoids : Avoided → Bool) → IsReadBack IsValid written r.taken r.content (λ v. 0) →
-    ((o : KeyOrder) → IsReadFromForm o IsValid written r.taken r.content) →
-    IsWrittenByContent written r.content →
+    (avoids : Avoided → Bool) →
+    ((way : Way) → IsReadBack way IsValid written r.taken r.content (λ v. 0)) → IsWrittenByContent written r.content →
     ((a : Avoided) → avoids a ≡ true → (v : T) → IsNever a (written v)) → Description T
-scalar {C = C} r written IsValid avoids back form alike never = record {
+scalar {C = C} r written IsValid avoids back alike never = record {
   Content = C;
   reading = r;
   written = written;
@@ -111,20 +82,19 @@ scalar {C = C} r written IsValid avoids back form alike never = record {
   avoids = avoids;
   is_sound = true;
   reads_back = λ sound. back;
-  form_reads_back = λ sound. form;
   writes_content = alike;
   never = never;
 }
 
 -- numbers from 0 on, of so many bits
-abbrev pub unsigned_description : (k : ℕ) → IsUnsignedBack k → IsUnsignedForm k → Description ℕ
-unsigned_description k back form = scalar (below (2 ^ k)) (λ n. Ok (number_item (pos n)))
-    (λ n. n < 2 ^ k) (λ a. true) back form unsigned-alike (λ a h n. never-number a (pos n))
+abbrev pub unsigned_description : (k : ℕ) → IsUnsignedBack k → Description ℕ
+unsigned_description k back = scalar (below (2 ^ k)) (λ n. Ok (number_item (pos n)))
+    (λ n. n < 2 ^ k) (λ a. true) back unsigned-alike (λ a h n. never-number a (pos n))
 
 -- n and -1 - n, for n of so many bits
-abbrev pub signed_description : (k : ℕ) → IsSignedBack k → IsSignedForm k → Description ℤ
-signed_description k back form = scalar (bounded (2 ^ k)) (λ n. Ok (number_item n))
-    (IsBounded (2 ^ k)) (λ a. true) back form signed-alike (λ a h n. never-number a n)
+abbrev pub signed_description : (k : ℕ) → IsSignedBack k → Description ℤ
+signed_description k back = scalar (bounded (2 ^ k)) (λ n. Ok (number_item n))
+    (IsBounded (2 ^ k)) (λ a. true) back signed-alike (λ a h n. never-number a n)
 
 -- ---- types that are written as another
 
@@ -138,15 +108,13 @@ written_as part d = record {
   levels = λ v. d.levels (part v);
   avoids = d.avoids;
   is_sound = d.is_sound;
-  reads_back = λ sound v valid. d.reads_back sound (part v) valid;
-  form_reads_back = λ sound o v valid. d.form_reads_back sound o (part v) valid;
+  reads_back = λ sound way v valid. d.reads_back sound way (part v) valid;
   writes_content = λ v w same. d.writes_content (part v) (part w) same;
   never = λ a h v. d.never a h (part v);
 }
 
 -- as this part, of whose content the test holds; another content is refused with the kind
-abbrev pub tested : {T U : Type 0} (part : T → U) (d : Description U) → (d.Content → Bool) → Kind →
-    Description T
+abbrev pub tested : {T U : Type 0} (part : T → U) (d : Description U) → (d.Content → Bool) → Kind → Description T
 tested part d test kind = record {
   Content = d.Content;
   reading = such_that (λ v. d.reading.content (part v)) d.reading test kind;
@@ -155,17 +123,14 @@ tested part d test kind = record {
   levels = λ v. d.levels (part v);
   avoids = d.avoids;
   is_sound = d.is_sound;
-  reads_back = λ sound v valid. such_that_back test kind
-      (d.reads_back sound (part v) valid.0) valid.1;
-  form_reads_back = λ sound o v valid.
-      such_that_form o test kind (d.form_reads_back sound o (part v) valid.0) valid.1;
+  reads_back = λ sound way v valid.
+      such_that_back test kind (d.reads_back sound way (part v) valid.0) valid.1;
   writes_content = λ v w same. d.writes_content (part v) (part w) same;
   never = λ a h v. d.never a h (part v);
 }
 
 -- the same type, of which contents compare so: a key of maps
-abbrev pub ordered_as : {T : Type 0} (d : Description T) →
-    (d.Content → d.Content → Ordering) → Description T
+abbrev pub ordered_as : {T : Type 0} (d : Description T) → (d.Content → d.Content → Ordering) → Description T
 ordered_as d order = record {
   Content = d.Content;
   reading = ordered_by order d.reading;
@@ -175,7 +140,6 @@ ordered_as d order = record {
   avoids = d.avoids;
   is_sound = d.is_sound;
   reads_back = d.reads_back;
-  form_reads_back = d.form_reads_back;
   writes_content = d.writes_content;
   never = d.never;
 }
@@ -187,8 +151,7 @@ option_avoids avoids nulls = false
 option_avoids avoids byte_strings = avoids byte_strings
 
 pub option-avoids : {T : Type 0} (d : Description T) (a : Avoided) →
-    option_avoids d.avoids a ≡ true →
-    (v : Option T) → IsNever a (or_null d.written v)
+    option_avoids d.avoids a ≡ true → (v : Option T) → IsNever a (or_null d.written v)
 option-avoids d nulls h v = cc
 option-avoids d byte_strings h v = never-option (d.never byte_strings h) v
 
@@ -201,12 +164,9 @@ option_description d = record {
   levels = option_levels d.levels;
   avoids = option_avoids d.avoids;
   is_sound = d.avoids nulls && d.is_sound;
-  reads_back = λ sound.
+  reads_back = λ sound way.
       let holds = both (d.avoids nulls) d.is_sound sound in
-      option-back (d.reads_back holds.1) (d.never nulls holds.0);
-  form_reads_back = λ sound o.
-      let holds = both (d.avoids nulls) d.is_sound sound in
-      option-form o (d.form_reads_back holds.1 o) (d.never nulls holds.0);
+      option-back (d.reads_back holds.1 way) (d.never nulls holds.0);
   writes_content = option-alike d.writes_content;
   never = option-avoids d;
 }
@@ -220,8 +180,7 @@ list_description items d = record {
   levels = λ v. suc (greatest d.levels (items v));
   avoids = λ a. true;
   is_sound = d.is_sound;
-  reads_back = λ sound v valid. list-back (d.reads_back sound) (items v) valid;
-  form_reads_back = λ sound o v valid. list-form o (d.form_reads_back sound o) (items v) valid;
+  reads_back = λ sound way v valid. list-back (d.reads_back sound way) (items v) valid;
   writes_content = λ v w same. list-alike d.writes_content (items v) (items w) same;
   never = λ a h v. never-container a sequence (map d.written (items v));
 }
@@ -235,14 +194,12 @@ tuple1_description alone a = record {
   levels = λ t. suc (a.levels (alone t));
   avoids = λ x. true;
   is_sound = a.is_sound;
-  reads_back = λ sound t valid. tuple1-back (a.reads_back sound (alone t) valid);
-  form_reads_back = λ sound o t valid. tuple1-form o (a.form_reads_back sound o (alone t) valid);
+  reads_back = λ sound way t valid. tuple1-back (a.reads_back sound way (alone t) valid);
   writes_content = λ v w same. tuple1-alike a.writes_content (alone v) (alone w) same;
   never = λ x h t. never-container x sequence (a.written (alone t) ∷ []);
 }
 
-abbrev pub tuple2_description : {A B : Type 0} → Description A → Description B →
-    Description (A × B)
+abbrev pub tuple2_description : {A B : Type 0} → Description A → Description B → Description (A × B)
 tuple2_description a b = record {
   Content = a.Content × b.Content;
   reading = tuple2_of a.reading b.reading;
@@ -251,12 +208,9 @@ tuple2_description a b = record {
   levels = λ t. suc (max (a.levels t.0) (b.levels t.1));
   avoids = λ x. true;
   is_sound = a.is_sound && b.is_sound;
-  reads_back = λ sound t valid.
+  reads_back = λ sound way t valid.
       let s = both a.is_sound b.is_sound sound in
-      tuple2-back (a.reads_back s.0 t.0 valid.0) (b.reads_back s.1 t.1 valid.1);
-  form_reads_back = λ sound o t valid.
-      let s = both a.is_sound b.is_sound sound in
-      tuple2-form o (a.form_reads_back s.0 o t.0 valid.0) (b.form_reads_back s.1 o t.1 valid.1);
+      tuple2-back (a.reads_back s.0 way t.0 valid.0) (b.reads_back s.1 way t.1 valid.1);
   writes_content = tuple2-alike a.writes_content b.writes_content;
   never = λ x h t. never-container x sequence (a.written t.0 ∷ b.written t.1 ∷ []);
 }
@@ -271,16 +225,11 @@ tuple3_description a b c = record {
   levels = λ t. suc (max (a.levels t.0) (max (b.levels t.1) (c.levels t.2)));
   avoids = λ x. true;
   is_sound = a.is_sound && (b.is_sound && c.is_sound);
-  reads_back = λ sound t valid.
+  reads_back = λ sound way t valid.
       let s = both a.is_sound (b.is_sound && c.is_sound) sound in
       let r = both b.is_sound c.is_sound s.1 in
-      tuple3-back (a.reads_back s.0 t.0 valid.0) (b.reads_back r.0 t.1 valid.1)
-      (c.reads_back r.1 t.2 valid.2);
-  form_reads_back = λ sound o t valid.
-      let s = both a.is_sound (b.is_sound && c.is_sound) sound in
-      let r = both b.is_sound c.is_sound s.1 in
-      tuple3-form o (a.form_reads_back s.0 o t.0 valid.0) (b.form_reads_back r.0 o t.1 valid.1)
-      (c.form_reads_back r.1 o t.2 valid.2);
+      tuple3-back (a.reads_back s.0 way t.0 valid.0) (b.reads_back r.0 way t.1 valid.1)
+      (c.reads_back r.1 way t.2 valid.2);
   writes_content = tuple3-alike a.writes_content b.writes_content c.writes_content;
   never = λ x h t. never-container x sequence
       (a.written t.0 ∷ b.written t.1 ∷ c.written t.2 ∷ []);
@@ -297,18 +246,12 @@ tuple4_description a b c d = record {
   levels = λ t. suc (max (a.levels t.0) (max (b.levels t.1) (max (c.levels t.2) (d.levels t.3))));
   avoids = λ x. true;
   is_sound = (a.is_sound && b.is_sound) && (c.is_sound && d.is_sound);
-  reads_back = λ sound t valid.
+  reads_back = λ sound way t valid.
       let s = both (a.is_sound && b.is_sound) (c.is_sound && d.is_sound) sound in
       let p = both a.is_sound b.is_sound s.0 in
       let q = both c.is_sound d.is_sound s.1 in
-      tuple4-back (a.reads_back p.0 t.0 valid.0) (b.reads_back p.1 t.1 valid.1)
-      (c.reads_back q.0 t.2 valid.2) (d.reads_back q.1 t.3 valid.3);
-  form_reads_back = λ sound o t valid.
-      let s = both (a.is_sound && b.is_sound) (c.is_sound && d.is_sound) sound in
-      let p = both a.is_sound b.is_sound s.0 in
-      let q = both c.is_sound d.is_sound s.1 in
-      tuple4-form o (a.form_reads_back p.0 o t.0 valid.0) (b.form_reads_back p.1 o t.1 valid.1)
-      (c.form_reads_back q.0 o t.2 valid.2) (d.form_reads_back q.1 o t.3 valid.3);
+      tuple4-back (a.reads_back p.0 way t.0 valid.0) (b.reads_back p.1 way t.1 valid.1)
+      (c.reads_back q.0 way t.2 valid.2) (d.reads_back q.1 way t.3 valid.3);
   writes_content = tuple4-alike a.writes_content b.writes_content c.writes_content
       d.writes_content;
   never = λ x h t. never-container x sequence
@@ -354,17 +297,17 @@ module _ {T : Type 0} (label : Label) (behind : FieldsDescription T) where
       label_item label ∷ w ∷ behind.parts v
   first-parts v w = ap (λ ps. label_item label ∷ w ∷ ps) (behind.same_parts v)
 
-  pub first-number : (v : T) (w : Named) →
-      length ((label, w) ∷ behind.named v) ≡ behind.number v + 1
+  pub first-number : (v : T) (w : Named) → length ((label, w) ∷ behind.named v) ≡ behind.number v + 1
   first-number v w = one-more (length (behind.named v)) ∙ ap (λ n. n + 1) (behind.same_number v)
 
--- a field of this label, whose value is this
-abbrev pub then_field : {T V : Type 0} → Label → (T → V) → Description V → FieldsDescription T →
-    FieldsDescription T
-then_field label value d behind = record {
+-- a field of this label, whose value is this, and what was read of which is filled up so
+abbrev filled_field : {T V : Type 0} → Label → (T → V) → (d : Description V) →
+    (fill : Option d.Content → Option d.Content) → ((c : d.Content) → fill (Some c) ≡ Some c) →
+    FieldsDescription T → FieldsDescription T
+filled_field label value d fill full behind = record {
   Slots = Option d.Content × behind.Slots;
   Content = d.Content × behind.Content;
-  fields = field label d.reading behind.fields;
+  fields = field_filled label d.reading fill behind.fields;
   content = λ v. (d.reading.content (value v), behind.content v);
   named = λ v. (label, d.written (value v)) ∷ behind.named v;
   parts = λ v. label_item label ∷ d.written (value v) ∷ behind.parts v;
@@ -377,107 +320,61 @@ then_field label value d behind = record {
   same_number = λ v. first-number label behind v (d.written (value v));
   unnamed = λ x h v. first-unnamed label behind x h v (d.written (value v));
   apart = λ sound v. first-apart_of label behind d.is_sound sound v (d.written (value v));
-  back = λ sound v valid.
+  back = λ sound way v valid.
       let s = field-sound (behind.has label) (is_proper label) d.is_sound behind.is_sound sound in
-      field_back label d.reading (d.reads_back s.2 (value v) valid.0) (behind.back s.3 v valid.1);
-  form = λ sound o v valid.
-      let s = field-sound (behind.has label) (is_proper label) d.is_sound behind.is_sound sound in
-      field_form o label d.reading (d.form_reads_back s.2 o (value v) valid.0)
-      (behind.form s.3 o v valid.1);
+      field_filled_back label d.reading fill (full (d.reading.content (value v)))
+      (d.reads_back s.2 way (value v) valid.0) (behind.back s.3 way v valid.1);
   alike = λ v w. field_alike label (d.writes_content (value v) (value w)) (behind.alike v w);
 }
+
+abbrev pub then_field : {T V : Type 0} → Label → (T → V) → Description V → FieldsDescription T → FieldsDescription T
+then_field label value d behind = filled_field label value d (λ o. o) (λ c. refl) behind
 
 -- the same, but where it is missing its content is this
 abbrev pub then_field_or : {T V : Type 0} → Label → (T → V) → (d : Description V) → d.Content →
     FieldsDescription T → FieldsDescription T
-then_field_or label value d default behind = record {
-  Slots = Option d.Content × behind.Slots;
-  Content = d.Content × behind.Content;
-  fields = field_or label d.reading default behind.fields;
-  content = λ v. (d.reading.content (value v), behind.content v);
-  named = λ v. (label, d.written (value v)) ∷ behind.named v;
-  parts = λ v. label_item label ∷ d.written (value v) ∷ behind.parts v;
-  number = λ v. behind.number v + 1;
-  is_valid = λ v. d.is_valid (value v) × behind.is_valid v;
-  levels = λ v. max (d.levels (value v)) (behind.levels v);
-  has = with_label label behind;
-  is_sound = is_new label behind d.is_sound;
-  same_parts = λ v. first-parts label behind v (d.written (value v));
-  same_number = λ v. first-number label behind v (d.written (value v));
-  unnamed = λ x h v. first-unnamed label behind x h v (d.written (value v));
-  apart = λ sound v. first-apart_of label behind d.is_sound sound v (d.written (value v));
-  back = λ sound v valid.
-      let s = field-sound (behind.has label) (is_proper label) d.is_sound behind.is_sound sound in
-      field_or_back label d.reading default (d.reads_back s.2 (value v) valid.0)
-      (behind.back s.3 v valid.1);
-  form = λ sound o v valid.
-      let s = field-sound (behind.has label) (is_proper label) d.is_sound behind.is_sound sound in
-      field_or_form o label d.reading default (d.form_reads_back s.2 o (value v) valid.0)
-      (behind.form s.3 o v valid.1);
-  alike = λ v w. field_alike label (d.writes_content (value v) (value w)) (behind.alike v w);
-}
+then_field_or label value d default behind =
+    filled_field label value d (λ o. Some (unwrap_or o default)) (λ c. refl) behind
 
 -- ---- a field that may be left out
 
-pub maybe-parts : {V : Type 0} (label : Label) (written : V → Named) (fs : List (Label × Named))
-    (ps : List Named) → labeled_parts fs ≡ ps → (m : Option V) →
-    labeled_parts (maybe_before label written m fs) ≡
-    parts_or m (λ v. label_item label ∷ written v ∷ ps) ps
+pub maybe-parts : {V : Type 0} (label : Label) (written : V → Named) (fs : List (Label × Named)) (ps : List Named) →
+    labeled_parts fs ≡ ps → (m : Option V) →
+    labeled_parts (maybe_before label written m fs) ≡ parts_or m (λ v. label_item label ∷ written v ∷ ps) ps
 maybe-parts label written fs ps h None = h
 maybe-parts label written fs ps h (Some v) = ap (λ qs. label_item label ∷ written v ∷ qs) h
 
-pub maybe-number : {V : Type 0} (label : Label) (written : V → Named) (fs : List (Label × Named))
-    (n : ℕ) → length fs ≡ n → (m : Option V) →
-    length (maybe_before label written m fs) ≡ number_or m (n + 1) n
+pub maybe-number : {V : Type 0} (label : Label) (written : V → Named) (fs : List (Label × Named)) (n : ℕ) →
+    length fs ≡ n → (m : Option V) → length (maybe_before label written m fs) ≡ number_or m (n + 1) n
 maybe-number label written fs n h None = h
 maybe-number label written fs n h (Some v) = one-more (length fs) ∙ ap (λ k. k + 1) h
 
-pub maybe-unnamed : {T V : Type 0} (label : Label) (behind : FieldsDescription T)
-    (written : V → Named)
-    (x : Label) → with_label label behind x ≡ false → (v : T) (m : Option V) →
-    is_named x (maybe_before label written m (behind.named v)) ≡ false
-maybe-unnamed label behind written x h v None =
-    behind.unnamed x (neither (is_label label x) (behind.has x) h).1 v
-maybe-unnamed label behind written x h v (Some w) =
-    first-unnamed label behind x h v (written w)
+pub maybe-unnamed : {T V : Type 0} (label : Label) (behind : FieldsDescription T) (written : V → Named) (x : Label) →
+    with_label label behind x ≡ false →
+    (v : T) (m : Option V) → is_named x (maybe_before label written m (behind.named v)) ≡ false
+maybe-unnamed label behind written x h v None = behind.unnamed x (neither (is_label label x) (behind.has x) h).1 v
+maybe-unnamed label behind written x h v (Some w) = first-unnamed label behind x h v (written w)
 
-pub maybe-apart : {T V : Type 0} (label : Label) (behind : FieldsDescription T)
-    (written : V → Named)
-    (sound : Bool) → is_new label behind sound ≡ true → (v : T) (m : Option V) →
-    are_apart (maybe_before label written m (behind.named v)) ≡ true
+pub maybe-apart : {T V : Type 0} (label : Label) (behind : FieldsDescription T) (written : V → Named) (sound : Bool) →
+    is_new label behind sound ≡ true →
+    (v : T) (m : Option V) → are_apart (maybe_before label written m (behind.named v)) ≡ true
 maybe-apart label behind written sound h v None = behind.apart (field-sound (behind.has label)
     (is_proper label) sound behind.is_sound h).3 v
-maybe-apart label behind written sound h v (Some w) =
-    first-apart_of label behind sound h v (written w)
+maybe-apart label behind written sound h v (Some w) = first-apart_of label behind sound h v (written w)
 
-pub maybe-back : {V A C D : Type 0} (label : Label) (r : Reading V A) {IsValid : V → Type 0}
-    {written : V → Named} {levels : V → ℕ} {behind : Fields C D} {fs : List (Label × Named)} {d : D}
-    {m : ℕ} → IsReadBack IsValid written r.taken r.content levels →
-    ((v : V) → IsNever nulls (written v)) → is_named label fs ≡ false →
-    FieldsReadBack behind fs d m → (o : Option V) → IfSome o IsValid →
-    FieldsReadBack (optional_field label r behind) (maybe_before label written o fs)
-    (option_map r.content o, d) (maybe_levels levels o m)
-maybe-back label r law never new rest None valid =
-    left_out_back label (option_of r) None new rest
+pub maybe-back : {V A C D : Type 0} (label : Label) (r : Reading V A) {way : Way}
+    {IsValid : V → Type 0} {written : V → Named} {levels : V → ℕ} {behind : Fields C D}
+    {fs : List (Label × Named)} {d : D} {m : ℕ} → IsReadBack way IsValid written r.taken r.content levels →
+    ((v : V) → IsNever nulls (written v)) → is_named label fs ≡ false → FieldsReadBack way behind fs d m →
+    (o : Option V) → IfSome o IsValid → FieldsReadBack way (optional_field label r behind)
+    (maybe_before label written o fs) (option_map r.content o, d) (maybe_levels levels o m)
+maybe-back label r law never new rest None valid = left_out_back label (option_of r) None new rest
 maybe-back label r law never new rest (Some v) valid =
     field_or_back label (option_of r) None (option-back law never (Some v) valid) rest
 
-pub maybe-form : (o : KeyOrder) {V A C D : Type 0} (label : Label) (r : Reading V A)
-    {IsValid : V → Type 0} {written : V → Named} {behind : Fields C D} {fs : List (Label × Named)}
-    {d : D} → IsReadFromForm o IsValid written r.taken r.content →
-    ((v : V) → IsNever nulls (written v)) → is_named label fs ≡ false →
-    FieldsForm o behind fs d → (m : Option V) → IfSome m IsValid →
-    FieldsForm o (optional_field label r behind) (maybe_before label written m fs)
-    (option_map r.content m, d)
-maybe-form o label r law never new rest None valid =
-    left_out_form o label (option_of r) None new rest
-maybe-form o label r law never new rest (Some v) valid =
-    field_or_form o label (option_of r) None (option-form o law never (Some v) valid) rest
-
 pub maybe-alike : {V A C : Type 0} (label : Label) {written : V → Named} {content : V → A} {c d : C}
     {fs gs : List (Label × Named)} → IsWrittenByContent written content → (v w : Option V) →
-    AreFieldsAlike c d fs gs →
-    AreFieldsAlike {C = Option A × C} (option_map content v, c) (option_map content w, d)
+    AreFieldsAlike c d fs gs → AreFieldsAlike {C = Option A × C} (option_map content v, c) (option_map content w, d)
     (maybe_before label written v fs) (maybe_before label written w gs)
 maybe-alike label law None None rest = record { alike = λ same. rest.alike (ap (λ p. p.1) same) }
 maybe-alike label law None (Some w) rest = record {
@@ -518,18 +415,12 @@ then_optional_field label value d behind = record {
   unnamed = λ x h v. maybe-unnamed label behind d.written x h v (value v);
   apart = λ sound v. maybe-apart label behind d.written (d.avoids nulls && d.is_sound) sound v
       (value v);
-  back = λ sound v valid.
+  back = λ sound way v valid.
       let s = field-sound (behind.has label) (is_proper label) (d.avoids nulls && d.is_sound)
       behind.is_sound sound in
       let part = both (d.avoids nulls) d.is_sound s.2 in
-      maybe-back label d.reading (d.reads_back part.1) (d.never nulls part.0)
-      (behind.unnamed label s.0 v) (behind.back s.3 v valid.1) (value v) valid.0;
-  form = λ sound o v valid.
-      let s = field-sound (behind.has label) (is_proper label) (d.avoids nulls && d.is_sound)
-      behind.is_sound sound in
-      let part = both (d.avoids nulls) d.is_sound s.2 in
-      maybe-form o label d.reading (d.form_reads_back part.1 o) (d.never nulls part.0)
-      (behind.unnamed label s.0 v) (behind.form s.3 o v valid.1) (value v) valid.0;
+      maybe-back label d.reading (d.reads_back part.1 way) (d.never nulls part.0)
+      (behind.unnamed label s.0 v) (behind.back s.3 way v valid.1) (value v) valid.0;
   alike = λ v w. maybe-alike label d.writes_content (value v) (value w) (behind.alike v w);
 }
 
@@ -552,8 +443,7 @@ end_of once others = record {
   same_number = λ v. refl;
   unnamed = λ x h v. refl;
   apart = λ sound v. refl;
-  back = λ sound v valid. end_back once others;
-  form = λ sound o v valid. end_form o once others;
+  back = λ sound way v valid. end_back once others;
   alike = λ v w. no_field_alike;
 }
 
@@ -572,54 +462,34 @@ then_no_other_field = end_of true no_other_given
 -- ---- structs
 
 -- what is named where so many parts fit, and else refused
-pub chosen-back : {C : Type 0} (t : Bool) {w : Named} {taken : Given C} {c : C} {n : ℕ} →
-    IsNameRead w taken c n → IsNameRead (if t then w else Err Other) taken c n
+pub chosen-back : {C : Type 0} (t : Bool) {way : Way} {w : Named} {taken : Given C} {c : C} {n : ℕ}
+    → IsNameRead way w taken c n → IsNameRead way (if t then w else Err Other) taken c n
 chosen-back true h = h
-chosen-back false h = record { back = λ way i e l fits. absurd (let no = e in cc) }
+chosen-back false h = name-back (Err Other) tt
 
-pub chosen-form : {C : Type 0} (o : KeyOrder) (t : Bool) {w : Named} {taken : Given C} {c : C} →
-    IsFormRead o w taken c → IsFormRead o (if t then w else Err Other) taken c
-chosen-form o true h = h
-chosen-form o false h = record { back = λ i e t form. absurd (let no = e in cc) }
-
-chosen-never : (a : Avoided) (t : Bool) (w : Named) → IsNever a w →
-    IsNever a (if t then w else Err Other)
+chosen-never : (a : Avoided) (t : Bool) (w : Named) → IsNever a w → IsNever a (if t then w else Err Other)
 chosen-never a true w h = h
-chosen-never a false w h = λ way i e. absurd (let no = e in cc)
+chosen-never a false w h = λ i e. absurd (let no = e in cc)
 
 -- so many parts are never null, nor bytes
-pub counted-never : (a : Avoided) (s : Shape) (n : ℕ) (parts : List Named) →
-    IsNever a (counted_of s n parts)
-counted-never a s n parts = chosen-never a (nat_le n greatest_offset) (container_of s parts)
-    (never-container a s parts)
+pub counted-never : (a : Avoided) (s : Shape) (n : ℕ) (parts : List Named) → IsNever a (counted_of s n parts)
+counted-never a s n parts = chosen-never a (nat_le n greatest_offset) (container_of s parts) (never-container a s parts)
 
 module _ {T : Type 0} (fs : FieldsDescription T) where
-  written-map : (v : T) → labeled_map (fs.named v) ≡ counted_of dictionary (fs.number v)
-      (fs.parts v)
-  written-map v = ap (λ n. counted_of dictionary n (labeled_parts (fs.named v))) (fs.same_number v)
-      ∙
+  written-map : (v : T) → labeled_map (fs.named v) ≡ counted_of dictionary (fs.number v) (fs.parts v)
+  written-map v = ap (λ n. counted_of dictionary n (labeled_parts (fs.named v))) (fs.same_number v) ∙
       ap (counted_of dictionary (fs.number v)) (fs.same_parts v)
 
-  pub struct-back : fs.is_sound ≡ true → (v : T) → fs.is_valid v →
-      IsNameRead (counted_of dictionary (fs.number v) (fs.parts v)) (given_struct fs.fields)
+  pub struct-back : fs.is_sound ≡ true → (way : Way) (v : T) → fs.is_valid v →
+      IsNameRead way (counted_of dictionary (fs.number v) (fs.parts v)) (given_struct fs.fields)
       (fs.content v) (suc (fs.levels v))
-  struct-back sound v valid = subst
-      (λ w. IsNameRead w (given_struct fs.fields) (fs.content v) (suc (fs.levels v)))
+  struct-back sound way v valid = subst
+      (λ w. IsNameRead way w (given_struct fs.fields) (fs.content v) (suc (fs.levels v)))
       (written-map v) (chosen-back (nat_le (length (fs.named v)) greatest_offset)
-      (fields_read_back (fs.back sound v valid) (fs.apart sound v)))
+      (fields_read_back (fs.back sound way v valid) (fs.apart sound v)))
 
-  pub struct-form : fs.is_sound ≡ true → (o : KeyOrder) (v : T) → fs.is_valid v →
-      IsFormRead o (counted_of dictionary (fs.number v) (fs.parts v)) (given_struct fs.fields)
-      (fs.content v)
-  struct-form sound o v valid = subst
-      (λ w. IsFormRead o w (given_struct fs.fields) (fs.content v))
-      (written-map v) (chosen-form o (nat_le (length (fs.named v)) greatest_offset)
-      (fields_form o (fs.form sound o v valid) (fs.apart sound v)))
-
-  pub struct-alike : IsWrittenByContent (λ v. counted_of dictionary (fs.number v) (fs.parts v))
-      fs.content
-  struct-alike v w same = sym (written-map v) ∙ ap labeled_map ((fs.alike v w).alike same) ∙
-      written-map w
+  pub struct-alike : IsWrittenByContent (λ v. counted_of dictionary (fs.number v) (fs.parts v)) fs.content
+  struct-alike v w same = sym (written-map v) ∙ ap labeled_map ((fs.alike v w).alike same) ∙ written-map w
 
 -- a struct as a map of its fields
 abbrev pub struct_description : {T : Type 0} → FieldsDescription T → Description T
@@ -632,7 +502,6 @@ struct_description fs = record {
   avoids = λ a. true;
   is_sound = fs.is_sound;
   reads_back = struct-back fs;
-  form_reads_back = struct-form fs;
   writes_content = struct-alike fs;
   never = λ a h v. counted-never a dictionary (fs.number v) (fs.parts v);
 }

@@ -1,10 +1,8 @@
 -- Outcomes that give a value: what they are made of.
 use Rattle.std.proofs.Common.{◌≡◌, List, ◌∷◌, Option, Some, None, refl, ap}
-use Rattle.ciborium_value.specs.DeterministicForms.{one_more, one_pair_more}
-use Rattle.ciborium_value.specs.Given.{Outcome, gives, refuses, then_take, outcome_map}
-use Rattle.ciborium_value.specs.Given.{of_meaning}
-use Rattle.ciborium_value.specs.Tree.{Tree, Trees, tree, TreePairs, tree_pair}
-use Rattle.ciborium_value.specs.declared.kind.Kind.{Kind}
+use Rattle.ciborium_value.specs.{DeterministicForms.{one_more, one_pair_more}, Given.{Outcome, gives, refuses}}
+use Rattle.ciborium_value.specs.{Given.{then_take, outcome_map, of_meaning}, Tree.{Tree, Trees, tree, TreePairs}}
+use Rattle.ciborium_value.specs.{Tree.tree_pair, declared.kind.Kind.Kind}
 
 -- one before others
 abbrev pub and_take : {A : Type 0} → Outcome A → Outcome (List A) → Outcome (List A)
@@ -39,16 +37,13 @@ more_gives (gives v) s y e = let (vs, is, given) = mapped_gives (tree v) s y e i
     (v, vs, refl, is, given)
 more_gives u s y e = absurd cc
 
-pub pair_gives : (q r : Outcome Tree) (s : Outcome TreePairs) (y : TreePairs) →
-    one_pair_more q r s ≡ gives y
-    → (k : Tree) × (v : Tree) × (ps : TreePairs) × (q ≡ gives k) × (r ≡ gives v) × (s ≡ gives ps) ×
-    (tree_pair k v ps ≡ y)
+pub pair_gives : (q r : Outcome Tree) (s : Outcome TreePairs) (y : TreePairs) → one_pair_more q r s ≡ gives y →
+    (k : Tree) × (v : Tree) × (ps : TreePairs) × (q ≡ gives k) × (r ≡ gives v) × (s ≡ gives ps) × (tree_pair k v ps ≡ y)
 pair_gives (gives k) (gives v) s y e = let (ps, is, given) = mapped_gives (tree_pair k v) s y e in
     (k, v, ps, refl, refl, is, given)
 pair_gives u v s y e = absurd cc
 
 -- a meaning that gives a value is there
-pub meaning_given : {A : Type 0} (j : Kind) (m : Option A) (y : A) → of_meaning j m ≡ gives y →
-    m ≡ Some y
+pub meaning_given : {A : Type 0} (j : Kind) (m : Option A) (y : A) → of_meaning j m ≡ gives y → m ≡ Some y
 meaning_given j (Some x) y e = ap Some (one_given x y e)
 meaning_given j None y e = absurd cc

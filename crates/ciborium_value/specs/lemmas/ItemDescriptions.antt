@@ -2,21 +2,13 @@
 use Rattle.std.proofs.Common.{ap, ◌∙◌}
 use Rattle.std.specs.Prelude.{◌≡◌, suc, max, ◌+◌, true, [], ◌∷◌, ◌&&◌, nat_le, refl}
 use Rattle.ciborium_ll.specs.Bytes.{greatest_offset}
-use Rattle.ciborium_value.specs.Described.{Description, ItemsDescription}
-use Rattle.ciborium_value.specs.FormsReadBack.{IsFormRead}
-use Rattle.ciborium_value.specs.Places.{sequence}
-use Rattle.ciborium_value.specs.Progress.{counted_of}
-use Rattle.ciborium_value.specs.Readings.{array_of, no_part, part}
-use Rattle.ciborium_value.specs.ReadsBack.{IsNameRead}
-use Rattle.ciborium_value.specs.GivenParts.{after_seq}
-use Rattle.ciborium_value.specs.declared.key_order.KeyOrder.{KeyOrder}
-use Rattle.ciborium_value.specs.lemmas.Descriptions.{both, chosen-back, chosen-form, counted-never}
-use Rattle.ciborium_value.specs.lemmas.FormsReadBackParts.{array_form, no_part_form, part_form}
+use Rattle.ciborium_value.specs.{Described.{Description, ItemsDescription}, Places.sequence, Progress.counted_of}
+use Rattle.ciborium_value.specs.{Readings.{array_of, no_part, part}, ReadsBack.{IsNameRead, Way}, GivenParts.after_seq}
+use Rattle.ciborium_value.specs.lemmas.Descriptions.{both, chosen-back, counted-never}
 use Rattle.ciborium_value.specs.lemmas.ReadsBackParts.{array_back, no_part_back, part_back}
 
 -- an item, which is this, before others
-abbrev pub then_item : {T V : Type 0} → (T → V) → Description V → ItemsDescription T →
-    ItemsDescription T
+abbrev pub then_item : {T V : Type 0} → (T → V) → Description V → ItemsDescription T → ItemsDescription T
 then_item value d behind = record {
   Content = d.Content × behind.Content;
   items = part d.reading behind.items;
@@ -26,12 +18,9 @@ then_item value d behind = record {
   is_valid = λ v. d.is_valid (value v) × behind.is_valid v;
   levels = λ v. max (d.levels (value v)) (behind.levels v);
   is_sound = d.is_sound && behind.is_sound;
-  back = λ sound v valid.
+  back = λ sound way v valid.
       let s = both d.is_sound behind.is_sound sound in
-      part_back (d.reads_back s.0 (value v) valid.0) (behind.back s.1 v valid.1);
-  form = λ sound o v valid.
-      let s = both d.is_sound behind.is_sound sound in
-      part_form o (d.form_reads_back s.0 o (value v) valid.0) (behind.form s.1 o v valid.1);
+      part_back (d.reads_back s.0 way (value v) valid.0) (behind.back s.1 way v valid.1);
   alike = λ v w same.
       ap (λ r. r ∷ behind.parts v) (d.writes_content (value v) (value w) (ap (λ p. p.0) same)) ∙
       ap (λ rs. d.written (value w) ∷ rs) (behind.alike v w (ap (λ p. p.1) same));
@@ -48,23 +37,15 @@ then_no_item = record {
   is_valid = λ v. Unit {0};
   levels = λ v. 0;
   is_sound = true;
-  back = λ sound v valid. no_part_back;
-  form = λ sound o v valid. no_part_form o;
+  back = λ sound way v valid. no_part_back;
   alike = λ v w same. refl;
 }
 
 module _ {T : Type 0} (is : ItemsDescription T) where
-  pub items-back : is.is_sound ≡ true → (v : T) → is.is_valid v →
-      IsNameRead (counted_of sequence is.number (is.parts v)) (after_seq is.items)
+  pub items-back : is.is_sound ≡ true → (way : Way) (v : T) → is.is_valid v →
+      IsNameRead way (counted_of sequence is.number (is.parts v)) (after_seq is.items)
       (is.content v) (suc (is.levels v))
-  items-back sound v valid = chosen-back (nat_le is.number greatest_offset)
-      (array_back (is.back sound v valid))
-
-  pub items-form : is.is_sound ≡ true → (o : KeyOrder) (v : T) → is.is_valid v →
-      IsFormRead o (counted_of sequence is.number (is.parts v)) (after_seq is.items)
-      (is.content v)
-  items-form sound o v valid = chosen-form o (nat_le is.number greatest_offset)
-      (array_form o (is.form sound o v valid))
+  items-back sound way v valid = chosen-back (nat_le is.number greatest_offset) (array_back (is.back sound way v valid))
 
 -- a struct as an array of its items
 abbrev pub array_description : {T : Type 0} → ItemsDescription T → Description T
@@ -77,7 +58,6 @@ array_description is = record {
   avoids = λ a. true;
   is_sound = is.is_sound;
   reads_back = items-back is;
-  form_reads_back = items-form is;
   writes_content = λ v w same. ap (counted_of sequence is.number) (is.alike v w same);
   never = λ a h v. counted-never a sequence is.number (is.parts v);
 }

@@ -1,13 +1,10 @@
 -- The item of a tree: it folds where the tree does, and it is written as that tree.
 use Rattle.std.proofs.Common.{ap, ◌∙◌}
 use Rattle.std.specs.Prelude.{◌≡◌, pos, negsuc, false, true, refl}
-use Rattle.ciborium_value.specs.Encoding.{item_of, items_of, pairs_of, written_tree, written_trees}
-use Rattle.ciborium_value.specs.Encoding.{written_pairs}
-use Rattle.ciborium_value.specs.Folded.{short_bytes}
-use Rattle.ciborium_value.specs.Meaning.{short_string}
-use Rattle.ciborium_value.specs.Tree as trees
-use Rattle.ciborium_value.specs.Tree.{Tree, Trees, TreePairs}
+use Rattle.ciborium_value.specs.Encoding.{item_of, items_of, pairs_of, written_tree, written_trees, written_pairs}
+use Rattle.ciborium_value.specs.{Folded.short_bytes, Meaning.short_string, Tree.{Tree, Trees, TreePairs}}
 use Rattle.ciborium_value.specs.WrittenItems.{TreeIsWrittenAsItself}
+use Rattle.ciborium_value.specs.Tree as trees
 
 -- a tag folds over the item of a tree as it folds over the tree
 pub short_string-item_of : (v : Tree) → short_string (item_of v) ≡ short_bytes v
@@ -36,8 +33,7 @@ mutual
   pairs_itself : (ps : TreePairs) → written_pairs (pairs_of ps) ≡ ps
   pairs_itself trees.no_tree_pairs = refl
   pairs_itself (trees.tree_pair k v ps) =
-      ap (λ w. trees.tree_pair w (written_tree (item_of v)) (written_pairs (pairs_of ps)))
-      (itself k) ∙
+      ap (λ w. trees.tree_pair w (written_tree (item_of v)) (written_pairs (pairs_of ps))) (itself k) ∙
       ap (λ w. trees.tree_pair k w (written_pairs (pairs_of ps))) (itself v) ∙
       ap (trees.tree_pair k v) (pairs_itself ps)
 

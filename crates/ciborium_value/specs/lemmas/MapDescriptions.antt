@@ -1,33 +1,25 @@
 -- The descriptions of maps, from those of their keys and values.
 use Rattle.std.proofs.lemmas.Cmp.{int_cmp_total, nat_cmp_total}
-use Rattle.std.specs.BTreeMap.{BTreeMap}
-use Rattle.std.specs.Ordering.{int_cmp, nat_cmp}
-use Rattle.std.specs.Prelude.{ℕ, ℤ, suc, Bool, true, List, ◌&&◌, refl}
-use Rattle.ciborium_value.specs.Described.{Description, KeyDescription}
-use Rattle.ciborium_value.specs.NeverWritten.{never-container}
-use Rattle.ciborium_value.specs.Places.{dictionary}
-use Rattle.ciborium_value.specs.Readings.{map_by}
-use Rattle.ciborium_value.specs.Sinks.{container_of, in_turn}
-use Rattle.ciborium_value.specs.WrittenContents.{map-alike}
-use Rattle.ciborium_value.specs.lemmas.Descriptions.{both, signed_description, unsigned_description}
-use Rattle.ciborium_value.specs.lemmas.FormsReadBackMaps.{map-form}
-use Rattle.ciborium_value.specs.lemmas.FormsReadBackNumbers.{IsSignedForm, IsUnsignedForm}
-use Rattle.ciborium_value.specs.lemmas.ReadsBackMaps.{IsMapValid, entry_levels, map-back}
-use Rattle.ciborium_value.specs.lemmas.ReadsBackNumbers.{IsSignedBack, IsUnsignedBack}
-use Rattle.ciborium_value.specs.lemmas.ReadsBackParts.{greatest}
+use Rattle.std.specs.{BTreeMap.BTreeMap, Ordering.{int_cmp, nat_cmp}, Prelude.{ℕ, ℤ, suc, Bool, true, List, ◌&&◌, refl}}
+use Rattle.ciborium_value.specs.{Described.{Description, KeyDescription}, NeverWritten.never-container}
+use Rattle.ciborium_value.specs.{Places.dictionary, Readings.map_by, Sinks.{container_of, in_turn}}
+use Rattle.ciborium_value.specs.{WrittenContents.map-alike, lemmas.Descriptions.{both, signed_description}}
+use Rattle.ciborium_value.specs.{lemmas.Descriptions.unsigned_description, lemmas.ReadsBackMaps.IsMapValid}
+use Rattle.ciborium_value.specs.{lemmas.ReadsBackMaps.{entry_levels, map-back}, lemmas.ReadsBackNumbers.IsSignedBack}
+use Rattle.ciborium_value.specs.{lemmas.ReadsBackNumbers.IsUnsignedBack, lemmas.ReadsBackParts.greatest}
 
 -- numbers as keys
-abbrev pub unsigned_key : (k : ℕ) → IsUnsignedBack k → IsUnsignedForm k → KeyDescription ℕ
-unsigned_key k back form = record {
-  key = unsigned_description k back form;
+abbrev pub unsigned_key : (k : ℕ) → IsUnsignedBack k → KeyDescription ℕ
+unsigned_key k back = record {
+  key = unsigned_description k back;
   compare = nat_cmp;
   total = nat_cmp_total;
   orders = λ a b. refl;
 }
 
-abbrev pub signed_key : (k : ℕ) → IsSignedBack k → IsSignedForm k → KeyDescription ℤ
-signed_key k back form = record {
-  key = signed_description k back form;
+abbrev pub signed_key : (k : ℕ) → IsSignedBack k → KeyDescription ℤ
+signed_key k back = record {
+  key = signed_description k back;
   compare = int_cmp;
   total = int_cmp_total;
   orders = λ a b. refl;
@@ -44,13 +36,9 @@ map_description once map k v = record {
   levels = λ m. suc (greatest (entry_levels k.key.levels v.levels) (map m).entries);
   avoids = λ a. true;
   is_sound = k.key.is_sound && v.is_sound;
-  reads_back = λ sound m valid.
+  reads_back = λ sound way m valid.
       let s = both k.key.is_sound v.is_sound sound in
-      map-back (k.key.reads_back s.0) (v.reads_back s.1) once k.compare k.key.reading.order k.total
-      k.orders (map m) valid;
-  form_reads_back = λ sound o m valid.
-      let s = both k.key.is_sound v.is_sound sound in
-      map-form o (k.key.form_reads_back s.0 o) (v.form_reads_back s.1 o) once k.compare
+      map-back (k.key.reads_back s.0 way) (v.reads_back s.1 way) once k.compare
       k.key.reading.order k.total k.orders (map m) valid;
   writes_content = λ m n same.
       map-alike k.key.writes_content v.writes_content (map m).entries (map n).entries same;

@@ -1,14 +1,10 @@
 -- The bytes that are written for a bignum are read as its number (RFC 8949, section 3.4.3).
-use Rattle.std.proofs.Common.{ap, ◌∙◌, arith, zero, suc, length}
-use Rattle.std.proofs.Math.Arith.{mod-mul}
-use Rattle.std.proofs.Math.Nat.{add-mul, mul_assoc, mul_left_comm, mod-one, mod-eq_of_lt, pow-succ'}
-use Rattle.std.proofs.lemmas.Bool.Decides.{nat_tests}
-use Rattle.std.specs.Int.{byte_at, bytes_high_first}
-use Rattle.std.specs.Prelude.{◌≡◌, ℕ, ◌+◌, ◌*◌, ◌/◌, ◌%◌, ◌^◌, ◌==◌, ◌<◌, ◌≤◌, List, [], ◌∷◌, false}
-use Rattle.std.specs.Prelude.{Ok, refl}
+use Rattle.std.proofs.{Common.{ap, ◌∙◌, arith, zero, suc, length}, Math.Arith.mod-mul, Math.Nat.{add-mul, mul_assoc}}
+use Rattle.std.proofs.{Math.Nat.{mul_left_comm, mod-one, mod-eq_of_lt, pow-succ'}, lemmas.Bool.Decides.nat_tests}
+use Rattle.std.specs.{Int.{byte_at, bytes_high_first}, Prelude.{◌≡◌, ℕ, ◌+◌, ◌*◌, ◌/◌, ◌%◌, ◌^◌, ◌==◌, ◌<◌, ◌≤◌, List}}
+use Rattle.std.specs.Prelude.{[], ◌∷◌, false, Ok, refl}
 use Rattle.ciborium_ll.proofs.HeadOrder.{byte_at-is, power_above}
-use Rattle.ciborium_value.specs.Meaning.{big_endian_behind, big_endian, without_zeros}
-use Rattle.ciborium_value.specs.Number.{shortest_bytes}
+use Rattle.ciborium_value.specs.{Meaning.{big_endian_behind, big_endian, without_zeros}, Number.shortest_bytes}
 use Rattle.ciborium_value.specs.Given.{magnitude}
 
 -- ---- leading zeros

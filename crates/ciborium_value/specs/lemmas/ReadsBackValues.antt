@@ -1,24 +1,19 @@
 -- What is written of a `Value` is read back, where folding changes nothing in it (RFC 8949, section
 -- 3.4.3).
 use Rattle.std.proofs.Common.{ap, ◌∙◌, arith, zero}
-use Rattle.std.specs.Prelude.{◌≡◌, ℕ, suc, max, pos, negsuc, false, true, List, Option, Some, None}
-use Rattle.std.specs.Prelude.{option_map, if◌then◌else◌, refl}
-use Rattle.ciborium_value.specs.Encoding.{item_of, items_of, pairs_of}
-use Rattle.ciborium_value.specs.Folded.{folded, trees_folded, tree_pairs_folded}
-use Rattle.ciborium_value.specs.lemmas.ItemsOfTrees.{short_string-item_of}
-use Rattle.ciborium_value.specs.lemmas.ItemsOfTrees.{tree_is_written_as_itself}
-use Rattle.ciborium_value.specs.Meaning.{folding_bytes, is_bignum_tag, simple_meaning, tag_meaning}
-use Rattle.ciborium_value.specs.Meaning.{tree_pairs_more, trees_more}
-use Rattle.ciborium_value.specs.Nesting.{Limit, IsWithin, items_nesting, nesting, pairs_nesting}
-use Rattle.ciborium_value.specs.Nesting.{tag_nesting}
-use Rattle.ciborium_value.specs.ReadsBack.{IsNameRead, met, met-definite, named, of_ok}
-use Rattle.ciborium_value.specs.lemmas.ReadsBackParts.{within-left, within-right}
-use Rattle.ciborium_value.specs.Given.{Outcome, Steps, gives, leveled, mapped, of_meaning}
-use Rattle.ciborium_value.specs.Given.{outcome, outcome_map, given_items, given_tag}
-use Rattle.ciborium_value.specs.Given.{given_tree_pairs, given_value, then_read}
-use Rattle.ciborium_value.specs.Tree as trees
-use Rattle.ciborium_value.specs.Tree.{Tree, Trees, TreePairs}
+use Rattle.std.specs.Prelude.{◌≡◌, ℕ, suc, max, pos, negsuc, false, true, List, Option, Some, None, option_map}
+use Rattle.std.specs.Prelude.{if◌then◌else◌, refl}
+use Rattle.ciborium_value.specs.{Encoding.{item_of, items_of, pairs_of}, Folded.{folded, trees_folded}}
+use Rattle.ciborium_value.specs.{Folded.tree_pairs_folded, lemmas.ItemsOfTrees.short_string-item_of}
+use Rattle.ciborium_value.specs.{lemmas.ItemsOfTrees.tree_is_written_as_itself, Meaning.{folding_bytes, is_bignum_tag}}
+use Rattle.ciborium_value.specs.{Meaning.{simple_meaning, tag_meaning, tree_pairs_more, trees_more}, Nesting.Limit}
+use Rattle.ciborium_value.specs.Nesting.{IsWithin, items_nesting, nesting, pairs_nesting, tag_nesting}
+use Rattle.ciborium_value.specs.ReadsBack.{IsNameRead, IsPlain, Way, by_bytes, by_form, by_tree, item-back, met, named}
+use Rattle.ciborium_value.specs.{lemmas.ReadsBackParts.{within-left, within-right}, Given.{Outcome, Steps, gives}}
+use Rattle.ciborium_value.specs.Given.{leveled, mapped, of_meaning, outcome, outcome_map, given_items, given_tag}
+use Rattle.ciborium_value.specs.{Given.{given_tree_pairs, given_value, then_read}, Tree.{Tree, Trees, TreePairs}}
 use Rattle.ciborium_value.specs.lemmas.GivenOutcomes.{pair_first, tree_first}
+use Rattle.ciborium_value.specs.Tree as trees
 use Rattle.ciborium_value.specs.declared.kind.Kind.TheVariants as kinds
 
 -- within as many levels this gives what there is
@@ -36,8 +31,7 @@ map-given f None x w h e = cc
 -- a level is taken
 level-given : {A B : Type 0} (f : A → B) (o : Option A) (n : ℕ) (x : Steps A) →
     IsGiven o n x → IsGiven (option_map f o) (suc n) (leveled (mapped f x))
-level-given f o n x h None w e fits = map-given f o (outcome None x) w
-    (λ v same. h None v same tt) e
+level-given f o n x h None w e fits = map-given f o (outcome None x) w (λ v same. h None v same tt) e
 level-given f o n x h (Some zero) w e fits = absurd (omega (arith, fits))
 level-given f o n x h (Some (suc m)) w e fits =
     map-given f o (outcome (Some m) x) w (λ v same. h (Some m) v same (omega (arith, fits))) e
@@ -48,16 +42,14 @@ tag-given t (Some b) o n x h l w e fits = ap (of_meaning kinds.TooLarge) e
 tag-given t None o n x h l w e fits = level-given (trees.tag t) o n x h l w e fits
 
 more-given : (o : Option Tree) (r : Option Trees) (n m : ℕ) (x : Steps Tree) (y : Steps Trees) →
-    IsGiven o n x → IsGiven r m y → IsGiven (trees_more o r) (max n m)
-    (then_read x (λ v. mapped (trees.tree v) y))
+    IsGiven o n x → IsGiven r m y → IsGiven (trees_more o r) (max n m) (then_read x (λ v. mapped (trees.tree v) y))
 more-given None r n m x y h k l w e fits = cc
 more-given (Some v) r n m x y h k l w e fits =
     ap (λ p. tree_first p (outcome l y)) (h l v refl (within-left l n m fits)) ∙
     map-given (trees.tree v) r (outcome l y) w (λ vs same. k l vs same (within-right l n m fits)) e
 
-pair-given : (o p : Option Tree) (r : Option TreePairs) (n m k : ℕ) (x y : Steps Tree)
-    (z : Steps TreePairs) → IsGiven o n x → IsGiven p m y → IsGiven r k z →
-    IsGiven (tree_pairs_more o p r) (max (max n m) k)
+pair-given : (o p : Option Tree) (r : Option TreePairs) (n m k : ℕ) (x y : Steps Tree) (z : Steps TreePairs) →
+    IsGiven o n x → IsGiven p m y → IsGiven r k z → IsGiven (tree_pairs_more o p r) (max (max n m) k)
     (then_read x (λ u. then_read y (λ v. mapped (trees.tree_pair u v) z)))
 pair-given (Some u) (Some v) r n m k x y z f g h l w e fits =
     let here = within-left l (max n m) k fits in
@@ -83,41 +75,36 @@ mutual
   value-given (trees.boolean false) l w e fits = one (trees.boolean false) w e
   value-given (trees.boolean true) l w e fits = one (trees.boolean true) w e
   value-given trees.null l w e fits = one trees.null w e
-  value-given (trees.tag t v) l w e fits =
-      tag-given t (folding_bytes t (item_of v)) (folded v) (nesting (item_of v))
+  value-given (trees.tag t v) l w e fits = tag-given t (folding_bytes t (item_of v)) (folded v) (nesting (item_of v))
       (given_value (item_of v)) (value-given v) l w
-      (ap (λ s. tag_meaning t (if is_bignum_tag t then s else None) (folded v))
-      (short_string-item_of v) ∙ e) fits
+      (ap (λ s. tag_meaning t (if is_bignum_tag t then s else None) (folded v)) (short_string-item_of v) ∙ e) fits
   value-given (trees.array vs) l w e fits = level-given trees.array (trees_folded vs)
       (items_nesting (items_of vs)) (given_items (items_of vs)) (values-given vs) l w e fits
   value-given (trees.map ps) l w e fits = level-given trees.map (tree_pairs_folded ps)
-      (pairs_nesting (pairs_of ps)) (given_tree_pairs (pairs_of ps)) (pairs-given ps) l w e
-      fits
+      (pairs_nesting (pairs_of ps)) (given_tree_pairs (pairs_of ps)) (pairs-given ps) l w e fits
 
-  values-given : (vs : Trees) → IsGiven (trees_folded vs) (items_nesting (items_of vs))
-      (given_items (items_of vs))
+  values-given : (vs : Trees) → IsGiven (trees_folded vs) (items_nesting (items_of vs)) (given_items (items_of vs))
   values-given trees.no_trees l w e fits = one trees.no_trees w e
   values-given (trees.tree v vs) l w e fits =
       more-given (folded v) (trees_folded vs) (nesting (item_of v)) (items_nesting (items_of vs))
-      (given_value (item_of v)) (given_items (items_of vs)) (value-given v)
-      (values-given vs) l w e fits
+      (given_value (item_of v)) (given_items (items_of vs)) (value-given v) (values-given vs) l w e fits
 
   pairs-given : (ps : TreePairs) → IsGiven (tree_pairs_folded ps) (pairs_nesting (pairs_of ps))
       (given_tree_pairs (pairs_of ps))
   pairs-given trees.no_tree_pairs l w e fits = one trees.no_tree_pairs w e
   pairs-given (trees.tree_pair k v ps) l w e fits =
       pair-given (folded k) (folded v) (tree_pairs_folded ps) (nesting (item_of k))
-      (nesting (item_of v)) (pairs_nesting (pairs_of ps))
-      (given_value (item_of k)) (given_value (item_of v))
-      (given_tree_pairs (pairs_of ps)) (value-given k) (value-given v) (pairs-given ps) l
-      w e fits
+      (nesting (item_of v)) (pairs_nesting (pairs_of ps)) (given_value (item_of k)) (given_value (item_of v))
+      (given_tree_pairs (pairs_of ps)) (value-given k) (value-given v) (pairs-given ps) l w e fits
 
--- what is written of a tree is read as the tree, where folding changes nothing in it
-pub value-back : (t : Tree) → folded t ≡ Some t →
-    IsNameRead (named (item_of t)) given_value t (nesting (item_of t))
-value-back t same = record {
-  back = λ way i e l fits. of_ok (named (item_of t))
-      (λ j. outcome l (given_value (met way j)) ≡ gives t)
-      (ap (λ j. outcome l (given_value j)) (met-definite way (item_of t)
-      (ap item_of (tree_is_written_as_itself t))) ∙ value-given t l t same fits) i e;
-}
+-- the item of a tree is met as it was written, but in a form
+pub met-tree : (way : Way) → IsPlain way → (t : Tree) → met way (item_of t) ≡ gives (item_of t)
+met-tree by_bytes plain t = refl
+met-tree by_tree plain t = ap (λ u. gives (item_of u)) (tree_is_written_as_itself t)
+met-tree (by_form o) plain t = absurd plain
+
+-- what is written of a tree is read as the tree, where its item is met so and folding changes
+-- nothing in it
+pub value-back : {way : Way} (t : Tree) → met way (item_of t) ≡ gives (item_of t) →
+    folded t ≡ Some t → IsNameRead way (named (item_of t)) given_value t (nesting (item_of t))
+value-back t same folds = item-back (item_of t) given_value same (λ l fits. value-given t l t folds fits)

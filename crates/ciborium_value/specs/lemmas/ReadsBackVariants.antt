@@ -1,73 +1,69 @@
 -- What is written of an enum by the names of its variants is read back.
-use Rattle.std.proofs.Common.{ap, ◌∙◌, arith, zero}
-use Rattle.std.specs.Prelude.{◌≡◌, ℕ, suc, false, List, [], ◌∷◌, Some, None, Ok, Err, IfOk}
+use Rattle.std.proofs.Common.{ap, sym, subst, ◌∙◌}
+use Rattle.std.specs.Prelude.{◌≡◌, ℕ, suc, false, true, List, [], ◌∷◌, Ok, Err, IfOk, refl}
+use Rattle.ciborium_ll.specs.Item.{Item, Pairs, no_pairs, pair}
+use Rattle.ciborium_value.specs.{Nesting.{Limit, IsWithin}, Labels.{fields_of, named}, Readings.Reading}
+use Rattle.ciborium_value.specs.ReadsBack.{IsItemRead, IsNameRead, Way, at, item-back, met, met-text, name-back}
+use Rattle.ciborium_value.specs.{Sinks.{Named, named_text}, Given.{give, gives, outcome, then_take, unpack_pairs}}
+use Rattle.ciborium_value.specs.{GivenParts.given_then, VariantReadings.{Variant, given_data, given_enum}}
+use Rattle.ciborium_value.specs.{lemmas.GivenOutcomes.one_given, lemmas.MetItems.{ArePairsMet, inside, map-met}}
+use Rattle.ciborium_value.specs.lemmas.Reordered.{IsAlone, alone-reordered}
 use Rattle.ciborium_ll.specs.Item as items
-use Rattle.ciborium_ll.specs.Item.{Item}
-use Rattle.ciborium_value.specs.Nesting.{Limit, IsWithin}
-use Rattle.ciborium_value.specs.Labels.{fields_of, named}
-use Rattle.ciborium_value.specs.Readings.{Reading}
-use Rattle.ciborium_value.specs.ReadsBack.{IsNameRead, Way, met, met-text, of_ok}
-use Rattle.ciborium_value.specs.Places.{dictionary}
-use Rattle.ciborium_value.specs.lemmas.ReadsBackParts.{at, met-container}
-use Rattle.ciborium_value.specs.Sinks.{Named, named_text}
-use Rattle.ciborium_value.specs.Given.{Given, give, gives, outcome, then_take}
-use Rattle.ciborium_value.specs.GivenParts.{given_then}
-use Rattle.ciborium_value.specs.VariantReadings.{Variant, given_data, given_enum}
 
 module _ {C : Type 0} (vs : List (Variant C)) (name : List ℕ) where
-  of_text : (c : C) → ((l : Limit) → outcome l (given_data vs name (items.simple 22)) ≡ gives c) →
-      (l : Limit) → IsWithin l 1 → outcome l (given_enum vs (items.text false name)) ≡ gives c
-  of_text c h None fits = h None
-  of_text c h (Some zero) fits = absurd (omega (arith, fits))
-  of_text c h (Some (suc m)) fits = h (Some m)
+  -- the data is read on under its name
+  under : (v : Item) (c : C) (n : ℕ) →
+      ((l : Limit) → IsWithin l n → outcome l (given_data vs name v) ≡ gives c) → (l : Limit) → IsWithin l (suc n) →
+      outcome l (given_enum vs (items.map false (pair (items.text false name) v no_pairs))) ≡ gives c
+  under v c n h = inside (λ p. true) (λ p. given_data vs p.0 p.1) (name, v) c n refl h
 
   -- a variant without data: `λ l. refl` shows that the name is its own
-  pub unit_variant_back : {c : C} →
+  pub unit_variant_back : {way : Way} {c : C} →
       ((l : Limit) → outcome l (given_data vs name (items.simple 22)) ≡ gives c) →
-      IsNameRead (named_text name) (given_enum vs) c 1
-  unit_variant_back {c = c} h = record {
-    back = λ way i e l fits. of_ok (named_text name)
-        (λ j. outcome l (given_enum vs (met way j)) ≡ gives c)
-        (ap (λ j. outcome l (given_enum vs j)) (met-text way name) ∙ of_text c h l fits) i e;
-  }
+      IsNameRead way (named_text name) (given_enum vs) c 1
+  unit_variant_back {way = way} {c = c} h = item-back (items.text false name) (given_enum vs) (met-text name way)
+      (inside (λ p. true) (λ p. given_data vs p.0 p.1) (name, items.simple 22) c 0 refl (λ l fits. h l))
 
-  -- the map of the name and the data
-  abbrev alone : Item → Item
-  alone i = items.map false (items.pair (items.text false name) i items.no_pairs)
+  module _ (way : Way) (i : Item) (c : C) (n : ℕ) (h : IsItemRead way (given_data vs name) c n i)
+    where
+      -- the name, and what is met of the data
+      abbrev IsVariant : Item × Item → Type 0
+      IsVariant p = (p.0 ≡ items.text false name) × (met way i ≡ gives p.1)
 
-  met-alone : (way : Way) (i : Item) → met way (alone i) ≡ alone (met way i)
-  met-alone way i = met-container way dictionary (items.text false name ∷ i ∷ []) ∙
-      ap (λ k. items.map false (items.pair k (met way i) items.no_pairs)) (met-text way name)
+      met-alone : (qs : List (Item × Item)) →
+          ArePairsMet way (pair (items.text false name) i no_pairs) qs → IsAlone IsVariant qs
+      met-alone [] each = absurd each
+      met-alone (q ∷ []) each = (
+        (one_given q.0 (items.text false name) (sym each.0 ∙ met-text name way), each.1),
+        tt,
+      )
+      met-alone (q ∷ r ∷ qs) each = absurd each.2
 
-  of_pair : (way : Way) (n : ℕ) (c : C) (w : Named) →
-      ((l : Limit) → IsWithin l n → IfOk w (λ i. outcome l (given_data vs name (met way i)) ≡
-      gives c)) →
-      (l : Limit) → IsWithin l (suc n) → IfOk (fields_of ((named name, w) ∷ []))
-      (λ i. outcome l (given_enum vs (met way i)) ≡ gives c)
-  of_pair way n c (Ok i) h None fits = ap (λ j. outcome None (given_enum vs j))
-      (met-alone way i) ∙ h None tt
-  of_pair way n c (Ok i) h (Some zero) fits = absurd (omega (arith, fits))
-  of_pair way n c (Ok i) h (Some (suc m)) fits =
-      ap (λ j. outcome (Some (suc m)) (given_enum vs j)) (met-alone way i) ∙
-      h (Some m) (omega (arith, fits))
-  of_pair way n c (Err k) h l fits = tt
+      of_pairs : (ps : Pairs) → IsAlone IsVariant (unpack_pairs ps) → (l : Limit) →
+          IsWithin l (suc n) → outcome l (given_enum vs (items.map false ps)) ≡ gives c
+      of_pairs no_pairs alone l fits = absurd alone
+      of_pairs (pair k v no_pairs) alone l fits =
+          ap (λ x. outcome l (given_enum vs (items.map false (pair x v no_pairs)))) alone.0.0 ∙
+          under v c n (h v alone.0.1) l fits
+      of_pairs (pair k v (pair x y ps)) alone l fits = absurd alone.1
 
-  made : {A : Type 0} (taken : Given A) (make : A → C) (a : A) (way : Way) (l : Limit) (w : Named) →
-      ((i : Item) → outcome l (given_data vs name i) ≡ outcome l (given_then taken
-      (λ v. give (make v)) i)) → IfOk w (λ i. outcome l (taken (met way i)) ≡ gives a) →
-      IfOk w (λ i. outcome l (given_data vs name (met way i)) ≡ gives (make a))
-  made taken make a way l (Ok i) same h = same (met way i) ∙
-      ap (λ o. then_take o (λ v. gives (make v))) h
-  made taken make a way l (Err k) same h = tt
+      of_map : IsItemRead way (given_enum vs) c (suc n) (items.map false (pair (items.text false name) i no_pairs))
+      of_map j e l fits =
+          let (qs, ps, each, order, same) =
+          map-met way (pair (items.text false name) i no_pairs) j e in
+          subst (λ x. outcome l (given_enum vs x) ≡ gives c) same
+          (of_pairs ps (alone-reordered IsVariant order (met-alone qs each)) l fits)
 
   -- a variant with data: `λ l i. refl` shows that the name is its own
-  pub data_variant_back : {U A : Type 0} (make : A → C) (r : Reading U A) {w : Named} {a : A}
-      {n : ℕ} → ((l : Limit) (i : Item) → outcome l (given_data vs name i) ≡ outcome l
-      (given_then r.taken (λ v. give (make v)) i)) → IsNameRead w r.taken a n →
-      IsNameRead (fields_of ((named name, w) ∷ [])) (given_enum vs) (make a) (suc n)
-  data_variant_back make r {w = w} {a = a} {n = n} same law = record {
-    back = λ way i e l fits. of_ok (fields_of ((named name, w) ∷ []))
-        (λ j. outcome l (given_enum vs (met way j)) ≡ gives (make a))
-        (of_pair way n (make a) w (λ l fits. made r.taken make a way l w (same l)
-        (at w r.taken a n law way l fits)) l fits) i e;
-  }
+  pub data_variant_back : {U A : Type 0} (make : A → C) (r : Reading U A) {way : Way} {w : Named}
+      {a : A} {n : ℕ} → ((l : Limit) (i : Item) → outcome l (given_data vs name i) ≡ outcome l
+      (given_then r.taken (λ v. give (make v)) i)) → IsNameRead way w r.taken a n →
+      IsNameRead way (fields_of ((named name, w) ∷ [])) (given_enum vs) (make a) (suc n)
+  data_variant_back make r {way = way} {w = w} {a = a} {n = n} same law =
+      name-back (fields_of ((named name, w) ∷ [])) (by w (at law))
+    where
+      by : (w : Named) → IfOk w (IsItemRead way r.taken a n) →
+          IfOk (fields_of ((named name, w) ∷ [])) (IsItemRead way (given_enum vs) (make a) (suc n))
+      by (Ok i) h = of_map way i (make a) n (λ j e l fits. same l j ∙
+          ap (λ o. then_take o (λ v. gives (make v))) (h j e l fits))
+      by (Err k) h = tt

@@ -1,26 +1,15 @@
 -- The descriptions of enums by the names of their variants, from those of their data.
-use Rattle.std.proofs.Common.{ap, inl, inr, sym, ◌∙◌}
-use Rattle.std.proofs.lemmas.Slice.Eq.{bytes_eq-Decides}
-use Rattle.std.specs.Prelude.{◌≡◌, ◌⊎◌, ℕ, suc, Bool, true, false, List, [], ◌∷◌, None, ◌&&◌}
-use Rattle.std.specs.Prelude.{if◌then◌else◌, bytes_eq, refl}
-use Rattle.ciborium_ll.specs.Item as items
+use Rattle.std.proofs.{Common.{ap, inl, inr, sym, ◌∙◌}, lemmas.Slice.Eq.bytes_eq-Decides}
+use Rattle.std.specs.Prelude.{◌≡◌, ◌⊎◌, ℕ, suc, Bool, true, false, List, [], ◌∷◌, ◌&&◌, if◌then◌else◌, bytes_eq, refl}
 use Rattle.ciborium_ll.specs.Item.{Item}
-use Rattle.ciborium_value.specs.Described.{AreReadBy, Description, VariantsDescription}
-use Rattle.ciborium_value.specs.Described.{is_name_among}
-use Rattle.ciborium_value.specs.FormsReadBack.{IsFormRead}
-use Rattle.ciborium_value.specs.Labels.{fields_of, label_item, named}
-use Rattle.ciborium_value.specs.Nesting.{Limit}
-use Rattle.ciborium_value.specs.NeverWritten.{Avoided, IsNever, never-container, never-text}
-use Rattle.ciborium_value.specs.Places.{dictionary}
-use Rattle.ciborium_value.specs.ReadsBack.{IsNameRead}
-use Rattle.ciborium_value.specs.Sinks.{Named, in_turn, named_text}
-use Rattle.ciborium_value.specs.Given.{Given, outcome}
-use Rattle.ciborium_value.specs.VariantReadings.{Variant, data_variant, enum_of, given_data}
-use Rattle.ciborium_value.specs.VariantReadings.{given_enum, unit_variant}
-use Rattle.ciborium_value.specs.declared.key_order.KeyOrder.{KeyOrder}
-use Rattle.ciborium_value.specs.lemmas.FormsReadBackVariants.{data_variant_form, unit_variant_form}
+use Rattle.ciborium_value.specs.Described.{AreReadBy, Description, VariantsDescription, is_name_among}
+use Rattle.ciborium_value.specs.{Labels.{fields_of, label_item, named}, Nesting.Limit, NeverWritten.{Avoided, IsNever}}
+use Rattle.ciborium_value.specs.{NeverWritten.{never-container, never-text}, Places.dictionary, ReadsBack.IsNameRead}
+use Rattle.ciborium_value.specs.{ReadsBack.Way, Sinks.{Named, in_turn, named_text}, Given.{Given, outcome}}
+use Rattle.ciborium_value.specs.VariantReadings.{Variant, data_variant, enum_of, given_data, given_enum, unit_variant}
 use Rattle.ciborium_value.specs.lemmas.ReadsBackVariants.{data_variant_back, unit_variant_back}
 use Rattle.ciborium_value.specs.lemmas.ReadsBackStructs.{first-apart}
+use Rattle.ciborium_ll.specs.Item as items
 
 -- ---- the value of one of two
 
@@ -57,14 +46,11 @@ module _ {E : Type 0} (all : List (Variant E)) (name : List ℕ) (names : List (
   -- what stands under the first name
   first-data : AreReadBy all (name ∷ names) these → (l : Limit) (i : Item) →
       outcome l (given_data all name i) ≡ outcome l (first i)
-  first-data h l i =
-      h name (ap (λ t. if t then true else is_name_among name names) (same-name name)) l i ∙
-      ap (λ t. if t then outcome l (first i) else outcome l (given_data behind name i))
-      (same-name name)
+  first-data h l i = h name (ap (λ t. if t then true else is_name_among name names) (same-name name)) l i ∙
+      ap (λ t. if t then outcome l (first i) else outcome l (given_data behind name i)) (same-name name)
 
   -- what stands under the others
-  others-data : is_name_among name names ≡ false → AreReadBy all (name ∷ names) these →
-      AreReadBy all names behind
+  others-data : is_name_among name names ≡ false → AreReadBy all (name ∷ names) these → AreReadBy all names behind
   others-data new h other among l i =
       let apart = other-name other name names among new (bytes_eq other name) refl in
       h other (ap (λ t. if t then true else is_name_among other names) apart ∙ among) l i ∙
@@ -87,37 +73,22 @@ module _ {S : Type 0} (name : List ℕ) (behind : VariantsDescription S) where
   is_new_unit = if is_name_among name behind.names then false else true && behind.is_sound
 
   module _ (sound : is_new_unit ≡ true) where
-    unit-apart : (is_name_among name behind.names ≡ false) × (true ≡ true) ×
-        (behind.is_sound ≡ true)
+    unit-apart : (is_name_among name behind.names ≡ false) × (true ≡ true) × (behind.is_sound ≡ true)
     unit-apart = first-apart (is_name_among name behind.names) true behind.is_sound sound
 
-    pub unit-back : {E : Type 0} (all : List (Variant E))
-        (make : Unit {0} ⊎ behind.Content → E) → AreReadBy all (name ∷ behind.names)
-        (with_unit make) → (s : Unit {0} ⊎ S) → IfEither (λ u. Unit {0}) behind.is_valid s →
-        IsNameRead (unit_named s) (given_enum all)
+    pub unit-back : (way : Way) {E : Type 0} (all : List (Variant E)) (make : Unit {0} ⊎ behind.Content → E) →
+        AreReadBy all (name ∷ behind.names) (with_unit make) →
+        (s : Unit {0} ⊎ S) → IfEither (λ u. Unit {0}) behind.is_valid s → IsNameRead way (unit_named s) (given_enum all)
         (make (either_map (λ u. u) behind.content s)) (of_either (λ u. 1) behind.levels s)
-    unit-back all make h (inl u) valid = unit_variant_back all name (λ l.
+    unit-back way all make h (inl u) valid = unit_variant_back all name (λ l.
         first-data all name behind.names (unit_variant name (make (inl tt))).taken
         (behind.variants (λ c. make (inr c))) h l (items.simple 22))
-    unit-back all make h (inr s) valid = behind.back unit-apart.2 all (λ c. make (inr c))
-        (others-data all name behind.names (unit_variant name (make (inl tt))).taken
-        (behind.variants (λ c. make (inr c))) unit-apart.0 h) s valid
-
-    pub unit-form : (o : KeyOrder) {E : Type 0} (all : List (Variant E))
-        (make : Unit {0} ⊎ behind.Content → E) → AreReadBy all (name ∷ behind.names)
-        (with_unit make) → (s : Unit {0} ⊎ S) → IfEither (λ u. Unit {0}) behind.is_valid s →
-        IsFormRead o (unit_named s) (given_enum all)
-        (make (either_map (λ u. u) behind.content s))
-    unit-form o all make h (inl u) valid = unit_variant_form o all name
-        (first-data all name behind.names (unit_variant name (make (inl tt))).taken
-        (behind.variants (λ c. make (inr c))) h None (items.simple 22))
-    unit-form o all make h (inr s) valid = behind.form unit-apart.2 o all (λ c. make (inr c))
+    unit-back way all make h (inr s) valid = behind.back unit-apart.2 way all (λ c. make (inr c))
         (others-data all name behind.names (unit_variant name (make (inl tt))).taken
         (behind.variants (λ c. make (inr c))) unit-apart.0 h) s valid
 
   pub unit-alike : (s t : Unit {0} ⊎ S) →
-      either_map (λ u. u) behind.content s ≡ either_map (λ u. u) behind.content t →
-      unit_named s ≡ unit_named t
+      either_map (λ u. u) behind.content s ≡ either_map (λ u. u) behind.content t → unit_named s ≡ unit_named t
   unit-alike (inl u) (inl v) same = refl
   unit-alike (inr s) (inr t) same = let inner : behind.content s ≡ behind.content t = cc in
       behind.alike s t inner
@@ -128,8 +99,7 @@ module _ {S : Type 0} (name : List ℕ) (behind : VariantsDescription S) where
   unit-never a (inr s) = behind.never a s
 
 -- a variant of this name without data, before others
-abbrev pub then_unit_variant : {S : Type 0} → List ℕ → VariantsDescription S →
-    VariantsDescription (Unit {0} ⊎ S)
+abbrev pub then_unit_variant : {S : Type 0} → List ℕ → VariantsDescription S → VariantsDescription (Unit {0} ⊎ S)
 then_unit_variant name behind = record {
   Content = Unit {0} ⊎ behind.Content;
   content = either_map (λ u. u) behind.content;
@@ -140,7 +110,6 @@ then_unit_variant name behind = record {
   levels = of_either (λ u. 1) behind.levels;
   is_sound = is_new_unit name behind;
   back = λ sound. unit-back name behind sound;
-  form = λ sound. unit-form name behind sound;
   alike = unit-alike name behind;
   never = unit-never name behind;
 }
@@ -152,43 +121,24 @@ module _ {V S : Type 0} (name : List ℕ) (d : Description V) (behind : Variants
   data_named s = of_either (λ v. under_name name (d.written v)) behind.written s
 
   abbrev pub with_data : {E : Type 0} → (d.Content ⊎ behind.Content → E) → List (Variant E)
-  with_data make = data_variant name (λ c. make (inl c)) d.reading ∷
-      behind.variants (λ c. make (inr c))
+  with_data make = data_variant name (λ c. make (inl c)) d.reading ∷ behind.variants (λ c. make (inr c))
 
   abbrev pub is_new_data : Bool
   is_new_data = if is_name_among name behind.names then false else d.is_sound && behind.is_sound
 
   module _ (sound : is_new_data ≡ true) where
-    data-apart : (is_name_among name behind.names ≡ false) × (d.is_sound ≡ true) ×
-        (behind.is_sound ≡ true)
+    data-apart : (is_name_among name behind.names ≡ false) × (d.is_sound ≡ true) × (behind.is_sound ≡ true)
     data-apart = first-apart (is_name_among name behind.names) d.is_sound behind.is_sound sound
 
-    pub data-back : {E : Type 0} (all : List (Variant E))
-        (make : d.Content ⊎ behind.Content → E) → AreReadBy all (name ∷ behind.names)
-        (with_data make) → (s : V ⊎ S) → IfEither d.is_valid behind.is_valid s →
-        IsNameRead (data_named s) (given_enum all)
-        (make (either_map d.reading.content behind.content s))
-        (of_either (λ v. suc (d.levels v)) behind.levels s)
-    data-back all make h (inl v) valid = data_variant_back all name (λ c. make (inl c)) d.reading
+    pub data-back : (way : Way) {E : Type 0} (all : List (Variant E)) (make : d.Content ⊎ behind.Content → E) →
+        AreReadBy all (name ∷ behind.names) (with_data make) →
+        (s : V ⊎ S) → IfEither d.is_valid behind.is_valid s → IsNameRead way (data_named s) (given_enum all)
+        (make (either_map d.reading.content behind.content s)) (of_either (λ v. suc (d.levels v)) behind.levels s)
+    data-back way all make h (inl v) valid = data_variant_back all name (λ c. make (inl c)) d.reading
         (first-data all name behind.names (data_variant name (λ c. make (inl c)) d.reading).taken
-        (behind.variants (λ c. make (inr c))) h) (d.reads_back data-apart.1 v valid)
-    data-back all make h (inr s) valid = behind.back data-apart.2 all (λ c. make (inr c))
-        (others-data all name behind.names
-        (data_variant name (λ c. make (inl c)) d.reading).taken
-        (behind.variants (λ c. make (inr c))) data-apart.0 h) s valid
-
-    pub data-form : (o : KeyOrder) {E : Type 0} (all : List (Variant E))
-        (make : d.Content ⊎ behind.Content → E) → AreReadBy all (name ∷ behind.names)
-        (with_data make) → (s : V ⊎ S) → IfEither d.is_valid behind.is_valid s →
-        IsFormRead o (data_named s) (given_enum all)
-        (make (either_map d.reading.content behind.content s))
-    data-form o all make h (inl v) valid =
-        data_variant_form o all name (λ c. make (inl c)) d.reading
-        (first-data all name behind.names (data_variant name (λ c. make (inl c)) d.reading).taken
-        (behind.variants (λ c. make (inr c))) h None) (d.form_reads_back data-apart.1 o v valid)
-    data-form o all make h (inr s) valid = behind.form data-apart.2 o all (λ c. make (inr c))
-        (others-data all name behind.names
-        (data_variant name (λ c. make (inl c)) d.reading).taken
+        (behind.variants (λ c. make (inr c))) h) (d.reads_back data-apart.1 way v valid)
+    data-back way all make h (inr s) valid = behind.back data-apart.2 way all (λ c. make (inr c))
+        (others-data all name behind.names (data_variant name (λ c. make (inl c)) d.reading).taken
         (behind.variants (λ c. make (inr c))) data-apart.0 h) s valid
 
   pub data-alike : (s t : V ⊎ S) → either_map d.reading.content behind.content s ≡
@@ -201,13 +151,11 @@ module _ {V S : Type 0} (name : List ℕ) (d : Description V) (behind : Variants
   data-alike u v same = cc
 
   pub data-never : (a : Avoided) (s : V ⊎ S) → IsNever a (data_named s)
-  data-never a (inl v) = never-container a dictionary
-      (in_turn label_item (λ r. r) ((named name, d.written v) ∷ []))
+  data-never a (inl v) = never-container a dictionary (in_turn label_item (λ r. r) ((named name, d.written v) ∷ []))
   data-never a (inr s) = behind.never a s
 
 -- a variant of this name with data, before others
-abbrev pub then_variant : {V S : Type 0} → List ℕ → Description V → VariantsDescription S →
-    VariantsDescription (V ⊎ S)
+abbrev pub then_variant : {V S : Type 0} → List ℕ → Description V → VariantsDescription S → VariantsDescription (V ⊎ S)
 then_variant name d behind = record {
   Content = d.Content ⊎ behind.Content;
   content = either_map d.reading.content behind.content;
@@ -218,7 +166,6 @@ then_variant name d behind = record {
   levels = of_either (λ v. suc (d.levels v)) behind.levels;
   is_sound = is_new_data name d behind;
   back = λ sound. data-back name d behind sound;
-  form = λ sound. data-form name d behind sound;
   alike = data-alike name d behind;
   never = data-never name d behind;
 }
@@ -234,8 +181,7 @@ no_variant = record {
   is_valid = λ s. absurd s;
   levels = λ s. absurd s;
   is_sound = true;
-  back = λ sound all make h s valid. absurd s;
-  form = λ sound o all make h s valid. absurd s;
+  back = λ sound way all make h s valid. absurd s;
   alike = λ s t same. absurd s;
   never = λ a s. absurd s;
 }
@@ -250,9 +196,7 @@ enum_description variant vs = record {
   levels = λ v. vs.levels (variant v);
   avoids = λ a. true;
   is_sound = vs.is_sound;
-  reads_back = λ sound v valid. vs.back sound (vs.variants (λ c. c)) (λ c. c)
-      (λ name among l i. refl) (variant v) valid;
-  form_reads_back = λ sound o v valid. vs.form sound o (vs.variants (λ c. c)) (λ c. c)
+  reads_back = λ sound way v valid. vs.back sound way (vs.variants (λ c. c)) (λ c. c)
       (λ name among l i. refl) (variant v) valid;
   writes_content = λ v w same. vs.alike (variant v) (variant w) same;
   never = λ a h v. vs.never a (variant v);

@@ -1,5 +1,7 @@
 //! The laws of described types.
 
+ghost use Rattle.ciborium_value.specs.ReadsBack.{by_form};
+
 use super::{Avoidable, FormReadsBack, NeverWrites, ReadsBack, WritesContent};
 use crate::described::AsDescribed;
 
@@ -8,11 +10,11 @@ impl<T: AsDescribed> ReadsBack for T {
 
     ghost levels = { T.description.levels };
 
-    ghost reads_back = { T.as_described.reads_back };
+    ghost reads_back = { λ way plain. T.as_described.reads_back way };
 }
 
 impl<T: AsDescribed> FormReadsBack for T {
-    ghost form_reads_back = { T.as_described.form_reads_back };
+    ghost form_reads_back = { λ o. T.as_described.reads_back (by_form o) };
 }
 
 impl<T: AsDescribed> WritesContent for T {

@@ -1,13 +1,16 @@
 //! What is written in its deterministic form.
 
 ghost use Rattle.std.specs.Prelude.{false};
-ghost use Rattle.ciborium_value.specs.FormsReadBack.{boolean-form, bytes-form, character-form};
-ghost use Rattle.ciborium_value.specs.FormsReadBack.{string-form, unit-form};
-ghost use Rattle.ciborium_value.specs.lemmas.FormsReadBackMaps.{map-form};
-ghost use Rattle.ciborium_value.specs.lemmas.FormsReadBackOptions.{option-form};
-ghost use Rattle.ciborium_value.specs.lemmas.FormsReadBackParts.{list-form, tuple1-form};
-ghost use Rattle.ciborium_value.specs.lemmas.FormsReadBackParts.{tuple2-form};
-ghost use Rattle.ciborium_value.specs.lemmas.FormsReadBackParts.{tuple3-form, tuple4-form};
+ghost use Rattle.ciborium_value.specs.ReadsBack.{boolean-back, by_form, bytes-back};
+ghost use Rattle.ciborium_value.specs.ReadsBack.{character-back, string_back, unit-back};
+ghost use Rattle.ciborium_value.specs.lemmas.ReadsBackMaps.{map-back};
+ghost use Rattle.ciborium_value.specs.lemmas.ReadsBackNumbers.{i128_back, i16_back, i32_back};
+ghost use Rattle.ciborium_value.specs.lemmas.ReadsBackNumbers.{i64_back, i8_back, isize_back};
+ghost use Rattle.ciborium_value.specs.lemmas.ReadsBackNumbers.{u128_back, u16_back, u32_back};
+ghost use Rattle.ciborium_value.specs.lemmas.ReadsBackNumbers.{u64_back, u8_back, usize_back};
+ghost use Rattle.ciborium_value.specs.lemmas.ReadsBackOptions.{option-back};
+ghost use Rattle.ciborium_value.specs.lemmas.ReadsBackParts.{list-back, tuple1-back, tuple2-back};
+ghost use Rattle.ciborium_value.specs.lemmas.ReadsBackParts.{tuple3-back, tuple4-back};
 
 use super::{FormReadsBack, NeverWrites, Null};
 use crate::byte_buf::ByteBuf;
@@ -15,51 +18,51 @@ use crate::deserialize::Key;
 use std::collections::BTreeMap;
 
 impl FormReadsBack for bool {
-    ghost form_reads_back = { boolean-form };
+    ghost form_reads_back = { λ o. boolean-back (by_form o) };
 }
 
 impl FormReadsBack for () {
-    ghost form_reads_back = { unit-form };
+    ghost form_reads_back = { λ o. unit-back (by_form o) };
 }
 
 impl FormReadsBack for char {
-    ghost form_reads_back = { character-form };
+    ghost form_reads_back = { λ o. character-back (by_form o) };
 }
 
 impl FormReadsBack for String {
-    ghost form_reads_back = { string-form };
+    ghost form_reads_back = { λ o. string_back (by_form o) };
 }
 
 impl FormReadsBack for ByteBuf {
-    ghost form_reads_back = { bytes-form (λ b. b.0.items) };
+    ghost form_reads_back = { λ o. bytes-back (λ b. b.0.items) (by_form o) };
 }
 
 impl<T: FormReadsBack + NeverWrites<Null>> FormReadsBack for Option<T> {
-    ghost form_reads_back = { λ o. option-form o (T.form_reads_back o) T.never };
+    ghost form_reads_back = { λ o. option-back (T.form_reads_back o) T.never };
 }
 
 impl<T: FormReadsBack> FormReadsBack for Vec<T> {
-    ghost form_reads_back = { λ o v valid. list-form o (T.form_reads_back o) v.items valid };
+    ghost form_reads_back = { λ o v valid. list-back (T.form_reads_back o) v.items valid };
 }
 
 impl<A: FormReadsBack> FormReadsBack for (A,) {
-    ghost form_reads_back = { λ o t valid. tuple1-form o (A.form_reads_back o t.0 valid) };
+    ghost form_reads_back = { λ o t valid. tuple1-back (A.form_reads_back o t.0 valid) };
 }
 
 impl<A: FormReadsBack, B: FormReadsBack> FormReadsBack for (A, B) {
-    ghost form_reads_back = { λ o t valid. tuple2-form o
+    ghost form_reads_back = { λ o t valid. tuple2-back
         (A.form_reads_back o t.0 valid.0) (B.form_reads_back o t.1 valid.1) };
 }
 
 impl<A: FormReadsBack, B: FormReadsBack, C: FormReadsBack> FormReadsBack for (A, B, C) {
-    ghost form_reads_back = { λ o t valid. tuple3-form o
+    ghost form_reads_back = { λ o t valid. tuple3-back
         (A.form_reads_back o t.0 valid.0) (B.form_reads_back o t.1 valid.1)
         (C.form_reads_back o t.2 valid.2) };
 }
 
 impl<A: FormReadsBack, B: FormReadsBack, C: FormReadsBack, D: FormReadsBack> FormReadsBack
     for (A, B, C, D) {
-    ghost form_reads_back = { λ o t valid. tuple4-form o
+    ghost form_reads_back = { λ o t valid. tuple4-back
         (A.form_reads_back o t.0 valid.0) (B.form_reads_back o t.1 valid.1)
         (C.form_reads_back o t.2 valid.2) (D.form_reads_back o t.3 valid.3) };
 }
@@ -67,6 +70,54 @@ impl<A: FormReadsBack, B: FormReadsBack, C: FormReadsBack, D: FormReadsBack> For
 /// The form has the entries in the order of their encoded keys, and reading puts them in the order
 /// of `K` again: no two of a map's keys are equal, so it makes no difference which comes first.
 impl<K: Key + FormReadsBack, V: FormReadsBack> FormReadsBack for BTreeMap<K, V> {
-    ghost form_reads_back = { λ o m valid. map-form o (K.form_reads_back o) (V.form_reads_back o)
+    ghost form_reads_back = { λ o m valid. map-back (K.form_reads_back o) (V.form_reads_back o)
         false K.cmp K.reading.order K.total K.orders m valid };
+}
+
+impl FormReadsBack for u8 {
+    ghost form_reads_back = { λ o. u8_back (by_form o) };
+}
+
+impl FormReadsBack for u16 {
+    ghost form_reads_back = { λ o. u16_back (by_form o) };
+}
+
+impl FormReadsBack for u32 {
+    ghost form_reads_back = { λ o. u32_back (by_form o) };
+}
+
+impl FormReadsBack for u64 {
+    ghost form_reads_back = { λ o. u64_back (by_form o) };
+}
+
+impl FormReadsBack for u128 {
+    ghost form_reads_back = { λ o. u128_back (by_form o) };
+}
+
+impl FormReadsBack for usize {
+    ghost form_reads_back = { λ o. usize_back (by_form o) };
+}
+
+impl FormReadsBack for i8 {
+    ghost form_reads_back = { λ o. i8_back (by_form o) };
+}
+
+impl FormReadsBack for i16 {
+    ghost form_reads_back = { λ o. i16_back (by_form o) };
+}
+
+impl FormReadsBack for i32 {
+    ghost form_reads_back = { λ o. i32_back (by_form o) };
+}
+
+impl FormReadsBack for i64 {
+    ghost form_reads_back = { λ o. i64_back (by_form o) };
+}
+
+impl FormReadsBack for i128 {
+    ghost form_reads_back = { λ o. i128_back (by_form o) };
+}
+
+impl FormReadsBack for isize {
+    ghost form_reads_back = { λ o. isize_back (by_form o) };
 }

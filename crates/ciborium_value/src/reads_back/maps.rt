@@ -13,6 +13,7 @@ impl<K: Key + ReadsBack, V: ReadsBack> ReadsBack for BTreeMap<K, V> {
 
     ghost levels = { λ m. suc (greatest (entry_levels K.levels V.levels) m.entries) };
 
-    ghost reads_back = { λ m valid. map-back
-        K.reads_back V.reads_back false K.cmp K.reading.order K.total K.orders m valid };
+    ghost reads_back = { λ way plain m valid. map-back
+        (K.reads_back way plain) (V.reads_back way plain)
+        false K.cmp K.reading.order K.total K.orders m valid };
 }

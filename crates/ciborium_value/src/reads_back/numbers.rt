@@ -14,7 +14,7 @@ impl ReadsBack for u8 {
 
     ghost levels = { λ n. 0 };
 
-    ghost reads_back = { u8_back };
+    ghost reads_back = { λ way plain. u8_back way };
 }
 
 impl ReadsBack for u16 {
@@ -22,7 +22,7 @@ impl ReadsBack for u16 {
 
     ghost levels = { λ n. 0 };
 
-    ghost reads_back = { u16_back };
+    ghost reads_back = { λ way plain. u16_back way };
 }
 
 impl ReadsBack for u32 {
@@ -30,7 +30,7 @@ impl ReadsBack for u32 {
 
     ghost levels = { λ n. 0 };
 
-    ghost reads_back = { u32_back };
+    ghost reads_back = { λ way plain. u32_back way };
 }
 
 impl ReadsBack for u64 {
@@ -38,7 +38,7 @@ impl ReadsBack for u64 {
 
     ghost levels = { λ n. 0 };
 
-    ghost reads_back = { u64_back };
+    ghost reads_back = { λ way plain. u64_back way };
 }
 
 impl ReadsBack for u128 {
@@ -46,7 +46,7 @@ impl ReadsBack for u128 {
 
     ghost levels = { λ n. 0 };
 
-    ghost reads_back = { u128_back };
+    ghost reads_back = { λ way plain. u128_back way };
 }
 
 impl ReadsBack for usize {
@@ -54,7 +54,7 @@ impl ReadsBack for usize {
 
     ghost levels = { λ n. 0 };
 
-    ghost reads_back = { usize_back };
+    ghost reads_back = { λ way plain. usize_back way };
 }
 
 impl ReadsBack for i8 {
@@ -62,7 +62,7 @@ impl ReadsBack for i8 {
 
     ghost levels = { λ n. 0 };
 
-    ghost reads_back = { i8_back };
+    ghost reads_back = { λ way plain. i8_back way };
 }
 
 impl ReadsBack for i16 {
@@ -70,7 +70,7 @@ impl ReadsBack for i16 {
 
     ghost levels = { λ n. 0 };
 
-    ghost reads_back = { i16_back };
+    ghost reads_back = { λ way plain. i16_back way };
 }
 
 impl ReadsBack for i32 {
@@ -78,7 +78,7 @@ impl ReadsBack for i32 {
 
     ghost levels = { λ n. 0 };
 
-    ghost reads_back = { i32_back };
+    ghost reads_back = { λ way plain. i32_back way };
 }
 
 impl ReadsBack for i64 {
@@ -86,7 +86,7 @@ impl ReadsBack for i64 {
 
     ghost levels = { λ n. 0 };
 
-    ghost reads_back = { i64_back };
+    ghost reads_back = { λ way plain. i64_back way };
 }
 
 impl ReadsBack for i128 {
@@ -94,7 +94,7 @@ impl ReadsBack for i128 {
 
     ghost levels = { λ n. 0 };
 
-    ghost reads_back = { i128_back };
+    ghost reads_back = { λ way plain. i128_back way };
 }
 
 impl ReadsBack for isize {
@@ -102,5 +102,5 @@ impl ReadsBack for isize {
 
     ghost levels = { λ n. 0 };
 
-    ghost reads_back = { isize_back };
+    ghost reads_back = { λ way plain. isize_back way };
 }

@@ -11,5 +11,5 @@ impl<T: ReadsBack + NeverWrites<Null>> ReadsBack for Option<T> {
 
     ghost levels = { option_levels T.levels };
 
-    ghost reads_back = { option-back T.reads_back T.never };
+    ghost reads_back = { λ way plain. option-back (T.reads_back way plain) T.never };
 }

@@ -13,7 +13,7 @@ impl<T: ReadsBack> ReadsBack for Vec<T> {
 
     ghost levels = { λ v. suc (greatest T.levels v.items) };
 
-    ghost reads_back = { λ v valid. list-back T.reads_back v.items valid };
+    ghost reads_back = { λ way plain v valid. list-back (T.reads_back way plain) v.items valid };
 }
 
 impl<A: ReadsBack> ReadsBack for (A,) {
@@ -21,7 +21,7 @@ impl<A: ReadsBack> ReadsBack for (A,) {
 
     ghost levels = { λ t. suc (A.levels t.0) };
 
-    ghost reads_back = { λ t valid. tuple1-back (A.reads_back t.0 valid) };
+    ghost reads_back = { λ way plain t valid. tuple1-back (A.reads_back way plain t.0 valid) };
 }
 
 impl<A: ReadsBack, B: ReadsBack> ReadsBack for (A, B) {
@@ -29,8 +29,8 @@ impl<A: ReadsBack, B: ReadsBack> ReadsBack for (A, B) {
 
     ghost levels = { λ t. suc (max (A.levels t.0) (B.levels t.1)) };
 
-    ghost reads_back = { λ t valid. tuple2-back
-        (A.reads_back t.0 valid.0) (B.reads_back t.1 valid.1) };
+    ghost reads_back = { λ way plain t valid. tuple2-back
+        (A.reads_back way plain t.0 valid.0) (B.reads_back way plain t.1 valid.1) };
 }
 
 impl<A: ReadsBack, B: ReadsBack, C: ReadsBack> ReadsBack for (A, B, C) {
@@ -38,8 +38,9 @@ impl<A: ReadsBack, B: ReadsBack, C: ReadsBack> ReadsBack for (A, B, C) {
 
     ghost levels = { λ t. suc (max (A.levels t.0) (max (B.levels t.1) (C.levels t.2))) };
 
-    ghost reads_back = { λ t valid. tuple3-back
-        (A.reads_back t.0 valid.0) (B.reads_back t.1 valid.1) (C.reads_back t.2 valid.2) };
+    ghost reads_back = { λ way plain t valid. tuple3-back
+        (A.reads_back way plain t.0 valid.0) (B.reads_back way plain t.1 valid.1)
+        (C.reads_back way plain t.2 valid.2) };
 }
 
 impl<A: ReadsBack, B: ReadsBack, C: ReadsBack, D: ReadsBack> ReadsBack for (A, B, C, D) {
@@ -48,7 +49,7 @@ impl<A: ReadsBack, B: ReadsBack, C: ReadsBack, D: ReadsBack> ReadsBack for (A, B
     ghost levels = { λ t. suc
         (max (A.levels t.0) (max (B.levels t.1) (max (C.levels t.2) (D.levels t.3)))) };
 
-    ghost reads_back = { λ t valid. tuple4-back
-        (A.reads_back t.0 valid.0) (B.reads_back t.1 valid.1)
-        (C.reads_back t.2 valid.2) (D.reads_back t.3 valid.3) };
+    ghost reads_back = { λ way plain t valid. tuple4-back
+        (A.reads_back way plain t.0 valid.0) (B.reads_back way plain t.1 valid.1)
+        (C.reads_back way plain t.2 valid.2) (D.reads_back way plain t.3 valid.3) };
 }

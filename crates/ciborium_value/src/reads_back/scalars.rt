@@ -12,7 +12,7 @@ impl ReadsBack for () {
 
     ghost levels = { λ u. 0 };
 
-    ghost reads_back = { unit-back };
+    ghost reads_back = { λ way plain. unit-back way };
 }
 
 impl ReadsBack for bool {
@@ -20,7 +20,7 @@ impl ReadsBack for bool {
 
     ghost levels = { λ b. 0 };
 
-    ghost reads_back = { boolean-back };
+    ghost reads_back = { λ way plain. boolean-back way };
 }
 
 impl ReadsBack for char {
@@ -28,7 +28,7 @@ impl ReadsBack for char {
 
     ghost levels = { λ c. 0 };
 
-    ghost reads_back = { character-back };
+    ghost reads_back = { λ way plain. character-back way };
 }
 
 impl ReadsBack for String {
@@ -36,7 +36,7 @@ impl ReadsBack for String {
 
     ghost levels = { λ s. 0 };
 
-    ghost reads_back = { string_back };
+    ghost reads_back = { λ way plain. string_back way };
 }
 
 impl ReadsBack for ByteBuf {
@@ -44,5 +44,5 @@ impl ReadsBack for ByteBuf {
 
     ghost levels = { λ b. 0 };
 
-    ghost reads_back = { bytes-back (λ b. b.0.items) };
+    ghost reads_back = { λ way plain. bytes-back (λ b. b.0.items) way };
 }

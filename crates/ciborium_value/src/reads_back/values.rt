@@ -4,7 +4,7 @@ ghost use Rattle.std.specs.Prelude.{◌≡◌, Some};
 ghost use Rattle.ciborium_value.specs.Encoding.{item_of};
 ghost use Rattle.ciborium_value.specs.Folded.{folded};
 ghost use Rattle.ciborium_value.specs.Nesting.{nesting};
-ghost use Rattle.ciborium_value.specs.lemmas.ReadsBackValues.{value-back};
+ghost use Rattle.ciborium_value.specs.lemmas.ReadsBackValues.{met-tree, value-back};
 ghost use Rattle.ciborium_value.specs.View.{tree_of};
 
 use super::ReadsBack;
@@ -19,5 +19,6 @@ impl ReadsBack for Value {
 
     ghost levels = { λ v. nesting (item_of (tree_of v)) };
 
-    ghost reads_back = { λ v valid. value-back (tree_of v) valid };
+    ghost reads_back = { λ way plain v valid.
+        value-back (tree_of v) (met-tree way plain (tree_of v)) valid };
 }

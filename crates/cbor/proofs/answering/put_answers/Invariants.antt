@@ -1,6 +1,5 @@
 use Rattle.std.proofs.Common.{◌≡◌, ℕ, List, Some}
-use Rattle.std.specs.Io.Buffered.{reader_remaining}
-use Rattle.std.specs.Io.KnownBytes.{append_known}
+use Rattle.std.specs.{Io.Buffered.reader_remaining, Io.KnownBytes.append_known}
 use Rattle.cbor.proofs.AnsweredLines.{IsLeft}
 use Rattle.cbor.proofs.answering.put_answers.Given as goal
 

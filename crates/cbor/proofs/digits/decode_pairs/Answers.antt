@@ -21,12 +21,10 @@ returns-then-high-eq-NO_DIGIT c =
     ]
 
 pub bytes-preserved : goal.bytes-preserved
-bytes-preserved c =
-    decode_step _ _ c.bytes.index _ (omega arith) (omega arith)
+bytes-preserved c = decode_step _ _ c.bytes.index _ (omega arith) (omega arith)
     (pair-read (slice_index c.args.digits.now (2 * c.bytes.index))
     (slice_index c.args.digits.now (2 * c.bytes.index + 1)) (2 * c.bytes.index) _ _ c.digit_value-high.ensures.value
-    c.digit_value-low.ensures.value c.if-high-eq-NO_DIGIT.false c.if-low-eq-NO_DIGIT.false)
-    c.bytes.invariant
+    c.digit_value-low.ensures.value c.if-high-eq-NO_DIGIT.false c.if-low-eq-NO_DIGIT.false) c.bytes.invariant
 
 pub returns : goal.returns
 returns c = decode_done _ c.bytes.bytes c.bytes.index (omega arith) (omega arith) c.bytes.invariant

@@ -11,5 +11,4 @@ returns-in_ok-push_trailing-in-Ok c =
 pub returns-in_ok-push_reason-in-Err : goal.returns-in_ok-push_reason-in-Err
 returns-in_ok-push_reason-in-Err c =
     told-reason c.args.bytes.now c.push_heads.new.text.items c.push_reason.new.text.items
-    c.in_ok-push_heads.field-0 c.in-Err.reason c.in-Err.is c.in_ok-push_heads.ensures
-    c.in_ok-push_reason-in-Err.ensures
+    c.in_ok-push_heads.field-0 c.in-Err.reason c.in-Err.is c.in_ok-push_heads.ensures c.in_ok-push_reason-in-Err.ensures

@@ -1,6 +1,5 @@
 use Rattle.cbor.specs.EncodedLines.{AreEncoded}
-use Rattle.cbor.proofs.AnsweredLines.{begins-with, held-empty, sent-each}
-use Rattle.cbor.proofs.EncodedLines.{encoded-still}
+use Rattle.cbor.proofs.{AnsweredLines.{begins-with, held-empty, sent-each}, EncodedLines.encoded-still}
 use Rattle.cbor.proofs.encoding.encode_lines.Goals as goal
 
 pub returns : goal.returns

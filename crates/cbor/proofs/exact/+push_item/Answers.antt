@@ -1,16 +1,13 @@
-use Rattle.std.proofs.Common.{◌≡◌, ◌+◌, ◌*◌, ◌++◌, ◌∙◌, List, ℕ, ap, arith, codes, decimal, false, length, true}
-use Rattle.std.proofs.Common.{refl, subst, ◌-◌, ◌∷◌, suc}
-use Rattle.std.proofs.lemmas.Result.{on_ok_weaker}
-use Rattle.ciborium_ll.specs.ItemHeads.{open_in}
-use Rattle.ciborium_ll.specs.Levels.{incomplete}
-use Rattle.ciborium_ll.specs.StringRefusal.{of_bytes, of_text}
-use Rattle.ciborium_ll.specs.declared.header.Header.TheVariants as header
+use Rattle.std.proofs.Common.{◌≡◌, ◌+◌, ◌*◌, ◌++◌, ◌∙◌, List, ℕ, ap, arith, codes, decimal, false, length, true, refl}
+use Rattle.std.proofs.{Common.{subst, ◌-◌, ◌∷◌, suc}, lemmas.Result.on_ok_weaker}
+use Rattle.ciborium_ll.specs.{ItemHeads.open_in, Levels.incomplete, StringRefusal.{of_bytes, of_text}}
 use Rattle.ciborium_ll.specs.declared.levels.Level.TheVariants.{Items}
 use Rattle.cbor.specs.Exact.{AreExactly, AreOpenParts, IsBegun, IsExactly, mark, open_level, spaced}
-use Rattle.cbor.proofs.DumpedHeads.{less-unread}
-use Rattle.cbor.proofs.ExactLevels.{head-begun, no-break, part-due, parts-break, parts-due, parts-open}
-use Rattle.cbor.proofs.ExactNotation.{all-parts, alone, as-float, as-open-string, as-string, as-tag, behind-both}
-use Rattle.cbor.proofs.ExactNotation.{bracketed, less-left, next-pushed, none-pushed, one-more-pushed, passed-less}
+use Rattle.cbor.proofs.{DumpedHeads.less-unread, ExactLevels.{head-begun, no-break, part-due, parts-break, parts-due}}
+use Rattle.cbor.proofs.{ExactLevels.parts-open, ExactNotation.{all-parts, alone, as-float, as-open-string, as-string}}
+use Rattle.cbor.proofs.ExactNotation.{as-tag, behind-both, bracketed, less-left, next-pushed, none-pushed}
+use Rattle.cbor.proofs.ExactNotation.{one-more-pushed, passed-less}
+use Rattle.ciborium_ll.specs.declared.header.Header.TheVariants as header
 use Rattle.cbor.proofs.exact.+push_item.Goals as goal
 
 pub push_item-returns-in_ok-push_number-in-Positive-clause-shown :
@@ -121,8 +118,7 @@ push_item-returns-in_ok-push_float-in-Float-clause-shown t c =
     c.in_ok-push_float-in-Float.ensures
 
 pub push_next-returns-clause-shown : goal.push_next-returns-clause-shown
-push_next-returns-clause-shown t c =
-    on_ok_weaker c.push_item.result
+push_next-returns-clause-shown t c = on_ok_weaker c.push_item.result
     (next-pushed c.args.heads.now c.next_head.new.heads c.push_item.new.heads c.in_ok-head.head _ _
     c.in_ok-head.ensures.read) c.push_item.ensures.shown
 
@@ -157,8 +153,7 @@ push_next-push_item-requires t c =
     )
 
 pub push_next-returns-clause-left : goal.push_next-returns-clause-left
-push_next-returns-clause-left t c =
-    on_ok_weaker c.push_item.result (λ left n around e. left (Items n ∷ around)
+push_next-returns-clause-left t c = on_ok_weaker c.push_item.result (λ left n around e. left (Items n ∷ around)
     (head-begun c.args.heads.now c.next_head.new.heads c.in_ok-head.head _ _ e refl
     (no-break c.args.heads.now c.next_head.new.heads c.in_ok-head.head (suc n) around e c.in_ok-head.ensures.read)
     c.in_ok-head.ensures.read)) c.push_item.ensures.left

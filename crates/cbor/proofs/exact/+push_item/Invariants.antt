@@ -1,7 +1,5 @@
 use Rattle.std.proofs.Common.{◌≡◌, ◌+◌, ◌-◌, ◌*◌, ◌∷◌, ◌≤◌, List, length}
-use Rattle.ciborium_ll.specs.ItemHeads.{open_in, unread}
-use Rattle.ciborium_ll.specs.Levels.{incomplete}
-use Rattle.ciborium_ll.specs.declared.levels.Level.{Level}
+use Rattle.ciborium_ll.specs.{ItemHeads.{open_in, unread}, Levels.incomplete, declared.levels.Level.Level}
 use Rattle.ciborium_ll.specs.declared.levels.Level.TheVariants.{Items}
 use Rattle.cbor.specs.Exact.{AreExactly, IsPushed, open_level}
 use Rattle.cbor.proofs.exact.+push_item.Given as goal

@@ -1,6 +1,5 @@
 use Rattle.std.proofs.Common.{◌≡◌, ◌+◌, ◌∷◌, ◌≤◌, List, length}
-use Rattle.ciborium_ll.specs.ItemHeads.{open_in, unread}
-use Rattle.ciborium_ll.specs.declared.levels.Level.{Level}
+use Rattle.ciborium_ll.specs.{ItemHeads.{open_in, unread}, declared.levels.Level.Level}
 use Rattle.cbor.specs.Exact.{chunk_level, kind_of}
 use Rattle.cbor.proofs.ExactNotation.{AreChunksBegun}
 use Rattle.cbor.proofs.exact.push_chunks.Given as goal

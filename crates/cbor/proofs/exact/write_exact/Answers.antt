@@ -1,7 +1,5 @@
 use Rattle.std.proofs.Common.{◌++◌, List, ℕ, ap, arith, subst, ◌∙◌}
-use Rattle.cbor.specs.Exact.{Explains, TellsNoItem}
-use Rattle.cbor.specs.Dumped.{reason_text}
-use Rattle.cbor.specs.Line.{trailing_text}
+use Rattle.cbor.specs.{Exact.{Explains, TellsNoItem}, Dumped.reason_text, Line.trailing_text}
 use Rattle.cbor.proofs.ExactNotation.{told-trailing}
 use Rattle.cbor.proofs.exact.write_exact.Goals as goal
 
@@ -13,8 +11,6 @@ returns-in_ok-push_trailing-in-Ok c =
 
 pub returns-in_ok-push_reason-in-Err-NoItem : goal.returns-in_ok-push_reason-in-Err-NoItem
 returns-in_ok-push_reason-in-Err-NoItem c =
-    TellsNoItem.none c.in-Err-NoItem.reason
-    (subst (Explains c.args.bytes.now) c.in-Err-NoItem.field-0-is
-    (rw c.in-Err-NoItem.is at c.push_exact.ensures.unshown))
-    (c.in_ok-push_reason-in-Err-NoItem.ensures ∙
+    TellsNoItem.none c.in-Err-NoItem.reason (subst (Explains c.args.bytes.now) c.in-Err-NoItem.field-0-is
+    (rw c.in-Err-NoItem.is at c.push_exact.ensures.unshown)) (c.in_ok-push_reason-in-Err-NoItem.ensures ∙
     ap (λ (t : List ℕ). t ++ reason_text c.in-Err-NoItem.reason) c.clear-in-Err-NoItem.ensures.items)

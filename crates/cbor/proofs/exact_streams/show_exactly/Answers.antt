@@ -1,7 +1,6 @@
 use Rattle.std.proofs.Common.{ap, ◌∙◌}
 use Rattle.cbor.specs.ExactStreams.{IsShownExactly}
-use Rattle.cbor.proofs.AnsweredLines.{begins-with, held-empty, sent-each}
-use Rattle.cbor.proofs.ExactlyStreamed.{shown-still}
+use Rattle.cbor.proofs.{AnsweredLines.{begins-with, held-empty, sent-each}, ExactlyStreamed.shown-still}
 use Rattle.cbor.proofs.exact_streams.show_exactly.Goals as goal
 
 pub returns : goal.returns

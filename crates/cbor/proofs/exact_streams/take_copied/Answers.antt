@@ -1,6 +1,5 @@
 use Rattle.std.proofs.Common.{◌++◌, ap, Some, ◌∙◌}
-use Rattle.cbor.proofs.ExactlyStreamed.{copy-shown}
-use Rattle.cbor.proofs.StreamedItems.{what-is-left}
+use Rattle.cbor.proofs.{ExactlyStreamed.copy-shown, StreamedItems.what-is-left}
 use Rattle.cbor.proofs.exact_streams.take_copied.Goals as goal
 
 pub returns-in-Ok : goal.returns-in-Ok

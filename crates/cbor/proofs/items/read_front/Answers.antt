@@ -3,8 +3,7 @@ use Rattle.cbor.proofs.ReadBytes.{front-refused, named-anyway, nothing-left}
 use Rattle.cbor.proofs.items.read_front.Goals as goal
 
 pub name_refusal-requires : goal.name_refusal-requires
-name_refusal-requires c =
-    named-anyway (Some c.read_spelled.new.reader.now) c.in-Err.error _
+name_refusal-requires c = named-anyway (Some c.read_spelled.new.reader.now) c.in-Err.error _
     (c.in-Err.ensures.refused c.args.rest.now.now refl)
 
 pub returns-in-Err-clause-refused : goal.returns-in-Err-clause-refused

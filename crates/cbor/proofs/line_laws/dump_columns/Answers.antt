@@ -1,5 +1,4 @@
-use Rattle.cbor.proofs.DumpedHeads.{dump_keeps_bytes, dump_keeps_hex}
-use Rattle.cbor.proofs.OneDump.{one_dump_of_item}
+use Rattle.cbor.proofs.{DumpedHeads.{dump_keeps_bytes, dump_keeps_hex}, OneDump.one_dump_of_item}
 use Rattle.cbor.proofs.line_laws.dump_columns.Goals as goal
 
 pub returns : goal.returns

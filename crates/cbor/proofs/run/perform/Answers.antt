@@ -1,16 +1,9 @@
 use Rattle.std.proofs.Common.{◌≡◌, ℕ, [], ◌++◌, Bool, List, Option}
-use Rattle.cbor.specs.EncodedLines.{AreEncoded}
-use Rattle.cbor.specs.ExactStreams.{IsShownExactly}
-use Rattle.cbor.specs.Lines.{AreAnswered}
-use Rattle.cbor.specs.SortedLines.{AreSortedOrRefused}
-use Rattle.cbor.specs.Streams.{IsDumpedBehind, IsStreamShown}
-use Rattle.cbor.specs.Topics.{topic_text}
-use Rattle.cbor.proofs.AnsweredLines.{answered-still, flushed-each, flushed-told, still}
-use Rattle.cbor.proofs.MeantLines.{sorted-still}
-use Rattle.cbor.proofs.DumpedInputs.{dumped-still}
-use Rattle.cbor.proofs.EncodedLines.{encoded-still, encoded-told}
-use Rattle.cbor.proofs.ExactlyStreamed.{shown-still}
-use Rattle.cbor.proofs.StreamedItems.{shown-sent}
+use Rattle.cbor.specs.{EncodedLines.AreEncoded, ExactStreams.IsShownExactly, Lines.AreAnswered}
+use Rattle.cbor.specs.{SortedLines.AreSortedOrRefused, Streams.{IsDumpedBehind, IsStreamShown}, Topics.topic_text}
+use Rattle.cbor.proofs.{AnsweredLines.{answered-still, flushed-each, flushed-told, still}, MeantLines.sorted-still}
+use Rattle.cbor.proofs.{DumpedInputs.dumped-still, EncodedLines.{encoded-still, encoded-told}}
+use Rattle.cbor.proofs.{ExactlyStreamed.shown-still, StreamedItems.shown-sent}
 use Rattle.cbor.proofs.run.perform.Goals as goal
 
 pub returns-in-Answer-clause-answered : goal.returns-in-Answer-clause-answered

@@ -1,8 +1,6 @@
-use Rattle.std.proofs.Common.{arith, refl, rules, ◌≡◌}
-use Rattle.std.proofs.lemmas.List.{take_all}
+use Rattle.std.proofs.{Common.{arith, refl, rules, ◌≡◌}, lemmas.List.take_all}
 use Rattle.hex.specs.Hex.{encode_lower}
-use Rattle.ciborium_value.specs.Encoding.{encoding}
-use Rattle.ciborium_value.specs.View.{tree_of}
+use Rattle.ciborium_value.specs.{Encoding.encoding, View.tree_of}
 use Rattle.cbor.proofs.WrittenLines.{one-more-written}
 use Rattle.cbor.proofs.sorting.put_values.Goals as goal
 

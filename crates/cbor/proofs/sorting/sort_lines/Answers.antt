@@ -1,5 +1,4 @@
-use Rattle.std.proofs.Common.{map}
-use Rattle.std.proofs.lemmas.List.Sorted.{IsPermutation-map}
+use Rattle.std.proofs.{Common.map, lemmas.List.Sorted.IsPermutation-map}
 use Rattle.ciborium_value.specs.View.{tree_of}
 use Rattle.cbor.proofs.sorting.sort_lines.Goals as goal
 

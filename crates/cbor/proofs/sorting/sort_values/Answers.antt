@@ -1,6 +1,4 @@
-use Rattle.std.proofs.Common.{rules}
-use Rattle.std.proofs.lemmas.Fn.{always_returns_same}
-use Rattle.std.proofs.lemmas.Result.{IfOk-weaker}
+use Rattle.std.proofs.{Common.rules, lemmas.Fn.always_returns_same, lemmas.Result.IfOk-weaker}
 use Rattle.ciborium_value.specs.declared.key_order.KeyOrder.TheVariants.{LengthFirst}
 use Rattle.cbor.proofs.SortedValues.{sorted-trees, stands_before, stands_before-orders}
 use Rattle.cbor.proofs.sorting.sort_values.Goals as goal

@@ -1,7 +1,6 @@
 use Rattle.std.proofs.Common.{[], Some}
 use Rattle.cbor.specs.declared.reading.Spelling.TheVariants.{Deterministic}
-use Rattle.cbor.proofs.ReadBytes.{named-anyway}
-use Rattle.cbor.proofs.StreamedItems.{what-is-left}
+use Rattle.cbor.proofs.{ReadBytes.named-anyway, StreamedItems.what-is-left}
 use Rattle.cbor.proofs.streams.read_deterministic.Goals as goal
 
 pub judge_error-requires : goal.judge_error-requires

@@ -1,7 +1,6 @@
 use Rattle.std.proofs.Common.{ap, ◌∙◌}
 use Rattle.cbor.specs.Streams.{IsStreamShown}
-use Rattle.cbor.proofs.AnsweredLines.{begins-with, held-empty, sent-each}
-use Rattle.cbor.proofs.StreamedItems.{shown-sent}
+use Rattle.cbor.proofs.{AnsweredLines.{begins-with, held-empty, sent-each}, StreamedItems.shown-sent}
 use Rattle.cbor.proofs.streams.show_items.Goals as goal
 
 pub returns : goal.returns

@@ -1,7 +1,6 @@
 use Rattle.std.proofs.Common.{[], append-nil, inr, refl, sym}
 use Rattle.ciborium_value.specs.View.{tree_of}
-use Rattle.cbor.specs.Forms.{formless_text}
-use Rattle.cbor.specs.Streams.{refused_line}
+use Rattle.cbor.specs.{Forms.formless_text, Streams.refused_line}
 use Rattle.cbor.proofs.streams.show_judged.Goals as goal
 
 pub returns-in-Err-make_shown : goal.returns-in-Err-make_shown

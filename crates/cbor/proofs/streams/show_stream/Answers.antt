@@ -8,8 +8,7 @@ items-init g c b w e f = none-shown c.args.place.now c.args.showing c.args.limit
 pub returns-in-None : goal.returns-in-None
 returns-in-None g c b w e f =
     all-shown c.args.place.now c.args.showing c.args.limit b w _ _ _ c.items.number c.items.offset c.items.all
-    (c.items.invariant b w e f) c.in_ok-next.ensures.held
-    (λ xs h. rw c.in-None.is at (c.in_ok-next.ensures.next xs h))
+    (c.items.invariant b w e f) c.in_ok-next.ensures.held (λ xs h. rw c.in-None.is at (c.in_ok-next.ensures.next xs h))
 
 pub returns-in-Some-NoItem : goal.returns-in-Some-NoItem
 returns-in-Some-NoItem g c b w e f =

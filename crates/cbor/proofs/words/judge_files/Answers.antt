@@ -13,8 +13,7 @@ before f words names e =
 
 pub returns-in_default : goal.returns-in_default
 returns-in_default c command files asked =
-    c.in_default.ensures command
-    (subst (λ (ws : List (List ℕ)). AskFor ws command)
+    c.in_default.ensures command (subst (λ (ws : List (List ℕ)). AskFor ws command)
     (sym (before string_bytes c.args.words.now _ c.find_names-names.ensures.names)) asked)
 
 pub returns-then-not-takes_files : goal.returns-then-not-takes_files

@@ -1,9 +1,7 @@
 -- The bytes begin at offset 0.
 use Rattle.std.specs.declared.io.Error.{Error}
-use Rattle.ciborium_value.specs.View.{read_as}
-use Rattle.ciborium_value.specs.Spelling.{any}
-use Rattle.ciborium.proofs.Readers.HandedReaders.{some-map}
-use Rattle.ciborium.proofs.Readers.KnownReaders.{whole-of}
+use Rattle.ciborium_value.specs.{View.read_as, Spelling.any}
+use Rattle.ciborium.proofs.{Readers.HandedReaders.some-map, Readers.KnownReaders.whole-of}
 use Rattle.ciborium.proofs.de.read.Goals as goal
 
 pub returns-clause-reads : goal.returns-clause-reads

@@ -2,10 +2,8 @@
 use Rattle.std.proofs.Common.{◌≡◌, Err, sym, ap, ◌∙◌, subst}
 use Rattle.ciborium_ll.specs.Accesses.{left_at_failure}
 use Rattle.ciborium_value.specs.Sources.{IsGrantedFault, RefusesAhead}
-use Rattle.ciborium.specs.inner.ByteSources.{HasTaken, ReadsValue, StandsBefore, fault_at}
-use Rattle.ciborium.specs.Errors.{fault_of}
-use Rattle.ciborium.proofs.Readers.HandedReaders.{some-map}
-use Rattle.ciborium.proofs.Readers.PutAside.{back-reads, same-cause, same-decoder}
+use Rattle.ciborium.specs.{inner.ByteSources.{HasTaken, ReadsValue, StandsBefore, fault_at}, Errors.fault_of}
+use Rattle.ciborium.proofs.{Readers.HandedReaders.some-map, Readers.PutAside.{back-reads, same-cause, same-decoder}}
 use Rattle.ciborium.proofs.de.read_from.Goals as goal
 
 pub returns-in-Err : goal.returns-in-Err

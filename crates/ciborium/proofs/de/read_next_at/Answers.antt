@@ -1,6 +1,5 @@
 -- What the first head and what follows it took was taken from the reader that was lent.
-use Rattle.std.proofs.Common.{None, arith, rules, sym, ◌∙◌}
-use Rattle.std.proofs.lemmas.Result.{err_from_is_err_and}
+use Rattle.std.proofs.{Common.{None, arith, rules, sym, ◌∙◌}, lemmas.Result.err_from_is_err_and}
 use Rattle.std.specs.declared.io.Error.{Error}
 use Rattle.ciborium.proofs.Readers.NextReaders.{reads-next, refuses-first, refuses-full}
 use Rattle.ciborium.proofs.de.read_next_at.Goals as goal

@@ -1,23 +1,22 @@
 //! Bytes, of a byte string or of an array of numbers.
 
-ghost use Rattle.std.specs.Prelude.{◌≡◌, ◌+◌, ◌<◌, ◌≤◌, IfErr, IfOk, List, OnErr, OnOk, Option};
+ghost use Rattle.std.specs.Prelude.{◌≡◌, ◌+◌, ◌≤◌, IfErr, IfOk, List, OnErr, OnOk, Option};
 ghost use Rattle.std.specs.Prelude.{Some, ℕ};
-ghost use Rattle.ciborium_ll.specs.Decoding.{HasSameReader};
 ghost use Rattle.ciborium_value.specs.Nesting.{Limit};
 ghost use Rattle.ciborium_value.specs.Places.{sequence};
-ghost use Rattle.ciborium_value.specs.Sources.{HasItem, IsFaultOf, RefusesAhead, TakesAhead};
-ghost use Rattle.ciborium_value.specs.Sources.{TakesItem, TakesOnly, TakesTo};
+ghost use Rattle.ciborium_value.specs.Sources.{HasItem, IsFaultOf};
+ghost use Rattle.ciborium_value.specs.Sources.{TakesOnly, TakesTo};
 ghost use Rattle.ciborium_value.specs.Given.{gives, number_below, outcome, take_each};
-ghost use Rattle.ciborium_value.specs.Given.{given_byte, given_bytes};
-ghost use Rattle.ciborium.specs.inner.ByteSources.{HasTaken, IsUnread, ReadsRest, RefusesRest};
-ghost use Rattle.ciborium.specs.inner.ByteSources.{SeqOwes, StandsBefore, seq_left, weight_left};
+ghost use Rattle.ciborium_value.specs.Given.{given_byte};
+ghost use Rattle.ciborium.specs.inner.ByteSources.{HasTakenSince, IsUnread, ReadsRest, RefusesRest};
+ghost use Rattle.ciborium.specs.inner.ByteSources.{SeqOwes, seq_left, weight_left};
 ghost use Rattle.ciborium.specs.Errors.{fault_of};
 ghost use Rattle.ciborium.specs.inner.ByteSources.{fault_at};
 
 use crate::de::byte_source::{ByteSeq, ByteSource};
 use crate::de::error::{BareReadError, Error};
-use ciborium_ll::{Access, Header};
-use ciborium_value::Kind;
+use ciborium_ll::Access;
+use ciborium_value::{Kind, Source};
 use std::alloc::Global;
 
 // The byte that a number at this offset is.
@@ -41,11 +40,14 @@ fn to_byte(number: (bool, u128), offset: usize) -> Result<u8, BareReadError>
 }
 
 impl<'a, R, A: Access<R>> ByteSource<'a, R, A> {
-    // The items that are left of a sequence, each a number that is a byte.
+    /// The items that are left of a sequence, each a number that is a byte.
     #[inline(never)]
-    fn read_byte_items(&mut self, alloc: Global, seq: ByteSeq) -> Result<Vec<u8>, BareReadError>
-        ensures same_reader { HasSameReader self.old.decoder self.new.decoder }
-        ensures only { TakesOnly (HasTaken A.remaining) self.old.decoder self.new.decoder }
+    pub(crate) fn read_byte_items(
+        &mut self,
+        alloc: Global,
+        seq: ByteSeq,
+    ) -> Result<Vec<u8>, BareReadError>
+        ensures only { TakesOnly (HasTakenSince A.remaining) self.old self.new }
         ensures no_more { OnErr result
             (weight_left self.new ≤ weight_left self.old + seq_left seq) }
         ensures ok { IfOk result (λ v. ReadsRest A.remaining self.old self.new seq
@@ -60,7 +62,7 @@ impl<'a, R, A: Access<R>> ByteSource<'a, R, A> {
         let mut left = seq;
         let mut bytes = Vec::new(alloc);
         'items: loop {
-            let goes_on = self.next_part(&mut left)?;
+            let goes_on = self.next(&mut left)?;
             if !goes_on {
                 return Ok(bytes);
             }
@@ -70,34 +72,6 @@ impl<'a, R, A: Access<R>> ByteSource<'a, R, A> {
                 Ok(()) => {}
                 Err(_) => return Err(Error::Memory),
             }
-        }
-    }
-
-    #[inline(always)]
-    pub(crate) fn bytes(&mut self, alloc: Global) -> Result<Vec<u8>, BareReadError>
-        ensures same_reader { HasSameReader self.old.decoder self.new.decoder }
-        ensures only { TakesOnly (HasTaken A.remaining) self.old.decoder self.new.decoder }
-        ensures no_more { OnErr result (weight_left self.new ≤ weight_left self.old) }
-        ensures ok { IfOk result (λ v.
-            TakesAhead (StandsBefore A.remaining) self.old self.new given_bytes v.items) }
-        ensures refused { IfErr result (λ e.
-            RefusesAhead (StandsBefore A.remaining) self.old given_bytes
-            (fault_at A.can_fail A.remaining self.new e)) }
-        ensures took { OnOk result (TakesItem (IsUnread A.remaining) self.old self.new) }
-        ensures fewer { OnOk result (weight_left self.new < weight_left self.old) }
-    {
-        let (header, offset) = self.bare_head(false)?;
-        match header {
-            Header::Bytes(len) => {
-                let bytes = self.bytes_content(alloc, len)?;
-                Ok(bytes)
-            }
-            Header::Array(count) => {
-                let seq = self.enter(count, offset)?;
-                let bytes = self.read_byte_items(alloc, seq)?;
-                Ok(bytes)
-            }
-            _ => Err(Error::Semantic(Some(offset), Kind::Bytes)),
         }
     }
 }

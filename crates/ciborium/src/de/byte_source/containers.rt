@@ -1,25 +1,21 @@
-//! Containers: how they are entered, and their parts in turn.
+//! Containers: how they are entered.
 
-ghost use Rattle.std.specs.Prelude.{◌≡◌, ◌≢◌, ℕ, List, ◌+◌, ◌-◌, ◌<◌, ◌≤◌, IfErr, IfOk, MatchBool};
-ghost use Rattle.std.specs.Prelude.{None, OnErr, OnOk, Some, false};
+ghost use Rattle.std.specs.Prelude.{◌≡◌, ◌≢◌, ◌+◌, ◌-◌, ◌≤◌, IfErr, IfOk};
+ghost use Rattle.std.specs.Prelude.{None, OnErr, OnOk, Some};
 ghost use Rattle.ciborium_ll.specs.Decoding.{HasSameReader};
 ghost use Rattle.ciborium_ll.specs.StringRefusal.{of_bytes};
-ghost use Rattle.ciborium_value.specs.Ahead.{takes_level};
-ghost use Rattle.ciborium_value.specs.Sources.{GoesOn, IsGrantedFault, Leaves, OwesLess};
-ghost use Rattle.ciborium_value.specs.Sources.{OwesNothing, RefusesNext, TakesOnly, TakesTo};
-ghost use Rattle.ciborium_value.specs.Given.{give, given_pairs, given_seq};
-ghost use Rattle.ciborium.specs.inner.ByteSources.{EntersItemsUnread, EntersPairsUnread, HasBytes};
-ghost use Rattle.ciborium.specs.inner.ByteSources.{HasTaken, IsUnread, SeqOwes, SeqStands};
-ghost use Rattle.ciborium.specs.inner.ByteSources.{StandsBefore, bytes_weight, end_at};
+ghost use Rattle.ciborium_value.specs.Sources.{TakesOnly};
+ghost use Rattle.ciborium.specs.inner.ByteSources.{HasBytes};
+ghost use Rattle.ciborium.specs.inner.ByteSources.{HasTaken, IsUnread};
+ghost use Rattle.ciborium.specs.inner.ByteSources.{bytes_weight, end_at};
 ghost use Rattle.ciborium.specs.inner.ByteSources.{parts_left, seq_left};
-ghost use Rattle.ciborium.specs.inner.ByteSources.{weight_left, KeepsSource};
+ghost use Rattle.ciborium.specs.inner.ByteSources.{weight_left};
 ghost use Rattle.ciborium.specs.inner.ByteSources.{fault_at};
-ghost use Rattle.ciborium.specs.inner.FrontItems.{Denies};
 ghost use Rattle.ciborium.specs.inner.StringContents.{DeniesContent, TakesContent};
 
 use crate::de::byte_source::{ByteSeq, ByteSource, Left};
 use crate::de::error::{BareReadError, Error};
-use ciborium_ll::{Access, Header};
+use ciborium_ll::Access;
 use ciborium_value::Kind;
 use std::alloc::Global;
 
@@ -59,10 +55,10 @@ impl<'a, R, A: Access<R>> ByteSource<'a, R, A> {
         }
     }
 
-    // Enters the byte string at this offset whose head was taken last. Apart from `begin_seq`, so
-    // that the room for its bytes is made ready only here.
+    /// Enters the byte string at this offset whose head was taken last. Apart from `begin_seq`, so
+    /// that the room for its bytes is made ready only here.
     #[inline(always)]
-    fn open_bytes(
+    pub(crate) fn open_bytes(
         &mut self,
         alloc: Global,
         len: Option<usize>,
@@ -90,112 +86,5 @@ impl<'a, R, A: Access<R>> ByteSource<'a, R, A> {
             levels,
             offset,
         })
-    }
-
-    #[inline(always)]
-    pub(crate) fn begin_seq(&mut self, alloc: Global) -> Result<ByteSeq, BareReadError>
-        ensures keeps { KeepsSource A.remaining self.old self.new result }
-        ensures levels { IfOk result (λ q. q.levels ≡ self.old.levels) }
-        ensures fewer { IfOk result
-            (λ q. weight_left self.new + seq_left q < weight_left self.old) }
-        ensures ok { IfOk result (EntersItemsUnread A.remaining self.old self.new given_seq
-            (λ form is. give (takes_level form, is))) }
-        ensures denied { IfErr result
-            (λ e. Denies (IsUnread A.remaining) (end_at A.remaining) self.old
-            (Some self.old.levels) given_seq (fault_at A.can_fail A.remaining self.new e)) }
-    {
-        let (header, offset) = self.bare_head(false)?;
-        match header {
-            Header::Array(count) => {
-                let seq = self.enter(count, offset)?;
-                Ok(seq)
-            }
-            Header::Bytes(len) => {
-                let seq = self.open_bytes(alloc, len, offset)?;
-                Ok(seq)
-            }
-            _ => Err(Error::Semantic(Some(offset), Kind::Array)),
-        }
-    }
-
-    #[inline(always)]
-    pub(crate) fn begin_map(&mut self) -> Result<ByteSeq, BareReadError>
-        ensures keeps { KeepsSource A.remaining self.old self.new result }
-        ensures levels { IfOk result (λ q. q.levels ≡ self.old.levels) }
-        ensures fewer { IfOk result
-            (λ q. weight_left self.new + seq_left q < weight_left self.old) }
-        ensures ok { IfOk result (EntersPairsUnread A.remaining self.old self.new given_pairs
-            (λ form ps. give (takes_level form, ps))) }
-        ensures denied { IfErr result
-            (λ e. Denies (IsUnread A.remaining) (end_at A.remaining) self.old
-            (Some self.old.levels) given_pairs (fault_at A.can_fail A.remaining self.new e)) }
-        ensures memory { IfErr result
-            (λ e. IsGrantedFault (fault_at A.can_fail A.remaining self.new e) false) }
-    {
-        let (header, offset) = self.bare_head(false)?;
-        let Header::Map(count) = header else {
-            return Err(Error::Semantic(Some(offset), Kind::Map));
-        };
-        let seq = self.enter(count, offset)?;
-        Ok(seq)
-    }
-
-    /// Whether a further item or pair is ahead; the container is left where none is.
-    #[inline(always)]
-    pub(crate) fn next_part(&mut self, seq: &mut ByteSeq) -> Result<bool, BareReadError>
-        ensures same_reader { HasSameReader self.old.decoder self.new.decoder }
-        ensures only { TakesOnly (HasTaken A.remaining) self.old.decoder self.new.decoder }
-        ensures no_more { OnErr result
-            (weight_left self.new + seq_left seq.new ≤ weight_left self.old + seq_left seq.old) }
-        ensures ok { IfOk result (λ b. MatchBool b
-            (GoesOn (StandsBefore A.remaining) SeqStands self.old self.new seq.old seq.new)
-            (Leaves (StandsBefore A.remaining) SeqStands self.old self.new seq.old)) }
-        ensures refused { IfErr result (λ e.
-            RefusesNext (StandsBefore A.remaining) SeqStands self.old seq.old
-            (fault_at A.can_fail A.remaining self.new e)) }
-        ensures memory { IfErr result
-            (λ e. IsGrantedFault (fault_at A.can_fail A.remaining self.new e) false) }
-        ensures took { IfOk result (λ b. MatchBool b
-            (TakesTo (IsUnread A.remaining) self.old self.new (OwesLess SeqOwes seq.old seq.new))
-            (TakesTo (IsUnread A.remaining) self.old self.new (OwesNothing SeqOwes seq.old))) }
-        ensures fewer { OnOk result
-            (weight_left self.new + seq_left seq.new ≤ weight_left self.old + seq_left seq.old) }
-    {
-        match &mut seq.left {
-            Left::Counted(n) => {
-                if *n == 0 {
-                    self.levels = seq.levels;
-                    return Ok(false);
-                }
-                *n -= 1;
-                Ok(true)
-            }
-            Left::Open => {
-                let (header, offset) = self.next_head()?;
-                match header {
-                    Header::Break => {
-                        self.levels = seq.levels;
-                        Ok(false)
-                    }
-                    _ => {
-                        self.pending = Some((header, offset));
-                        Ok(true)
-                    }
-                }
-            }
-            Left::Bytes(bytes) => {
-                // The byte before was not read.
-                if self.pending.is_some() {
-                    return Err(Error::Semantic(None, Kind::Other));
-                }
-                match bytes.next() {
-                    Some(byte) => {
-                        self.pending = Some((Header::Positive(u64::from(byte)), seq.offset));
-                        Ok(true)
-                    }
-                    None => Ok(false),
-                }
-            }
-        }
     }
 }

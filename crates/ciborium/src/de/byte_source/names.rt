@@ -1,11 +1,11 @@
 //! Names.
 
-ghost use Rattle.std.specs.Prelude.{◌≡◌, ◌≤◌, IfErr, IfOk, IfSome, List, None, OnErr, OnOk, Some};
-ghost use Rattle.std.specs.Prelude.{IsUtf8, MatchOption, string_bytes, ℕ};
+ghost use Rattle.std.specs.Prelude.{◌≡◌, ◌≤◌, IfErr, IfOk, IfSome, None, OnErr, OnOk, Some};
+ghost use Rattle.std.specs.Prelude.{IsUtf8, MatchOption, string_bytes};
 ghost use Rattle.ciborium_ll.specs.Decoding.{HasSameReader};
 ghost use Rattle.ciborium_ll.specs.StringRefusal.{of_text};
 ghost use Rattle.ciborium_value.specs.Sources.{TakesOnly};
-ghost use Rattle.ciborium_value.specs.Labels.{label_place, name_place, placed};
+ghost use Rattle.ciborium_value.specs.Labels.{name_place, placed};
 ghost use Rattle.ciborium_value.specs.Given.{given_name};
 ghost use Rattle.ciborium_value.specs.declared.labels.LabelKind.TheVariants.{Name};
 ghost use Rattle.ciborium.specs.inner.ByteSources.{AnswersItem, HasTaken, IsUnread, PassesItem};
@@ -40,9 +40,9 @@ fn short_len(len: Option<usize>) -> Option<usize>
     }
 }
 
-// How the item that this head begins is read as a label.
+/// How the item that this head begins is read as a label.
 #[inline(always)]
-fn label_kind(header: Header) -> LabelKind
+pub(crate) fn label_kind(header: Header) -> LabelKind
     ensures { result ≡ head_label_kind header }
 {
     match header {
@@ -168,10 +168,10 @@ impl<'a, R, A: Access<R>> ByteSource<'a, R, A> {
         }
     }
 
-    // The place of the text whose head, at this offset, was taken last. Memory is taken only for a
-    // long one, and one of indefinite length.
+    /// The place of the text whose head, at this offset, was taken last. Memory is taken only for a
+    /// long one, and one of indefinite length.
     #[inline(always)]
-    fn text_place<N: Labels>(
+    pub(crate) fn text_place<N: Labels>(
         &mut self,
         alloc: Global,
         len: Option<usize>,
@@ -226,9 +226,9 @@ impl<'a, R, A: Access<R>> ByteSource<'a, R, A> {
         }
     }
 
-    // The place among these labels of a key of this kind.
+    /// The place among these labels of a key of this kind.
     #[inline(never)]
-    fn place_of_kind<N: Labels>(
+    pub(crate) fn place_of_kind<N: Labels>(
         &mut self,
         alloc: Global,
         kind: LabelKind,
@@ -250,33 +250,6 @@ impl<'a, R, A: Access<R>> ByteSource<'a, R, A> {
             LabelKind::Other => {
                 self.skip(alloc)?;
                 Ok(labels.find_other())
-            }
-        }
-    }
-
-    /// The place of a key among these labels.
-    #[inline(always)]
-    pub(crate) fn label<N: Labels>(
-        &mut self,
-        alloc: Global,
-        labels: &N,
-    ) -> Result<N::Place, BareReadError>
-        ensures keeps { PassesItem A.remaining self.old self.new result }
-        ensures answer { AnswersItem A.can_fail A.remaining self.old self.new (Some self.old.levels)
-            (label_place (N.place_of labels.now)) (λ v. v) result }
-    {
-        let (header, offset) = self.next_head()?;
-        match header {
-            Header::Text(len) => {
-                let place = self.text_place(alloc, len, offset, labels)?;
-                Ok(place)
-            }
-            Header::Positive(n) => Ok(labels.find_number(false, u128::from(n))),
-            Header::Negative(n) => Ok(labels.find_number(true, u128::from(n))),
-            _ => {
-                self.pending = Some((header, offset));
-                let place = self.place_of_kind(alloc, label_kind(header), labels)?;
-                Ok(place)
             }
         }
     }

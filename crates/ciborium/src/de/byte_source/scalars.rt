@@ -1,15 +1,12 @@
-//! Booleans and null.
+//! What a head alone makes.
 
-ghost use Rattle.std.specs.Prelude.{◌≡◌, IfErr, Some, false};
-ghost use Rattle.ciborium_value.specs.Sources.{IsGrantedFault};
-ghost use Rattle.ciborium_value.specs.Given.{is_null_simple, given_boolean, given_unit};
-ghost use Rattle.ciborium.specs.inner.ByteSources.{AnswersItem, PassesItem, fault_at};
-ghost use Rattle.ciborium.specs.inner.ByteSources.{tells_null};
+ghost use Rattle.std.specs.Prelude.{◌≡◌, MatchOption, false};
+ghost use Rattle.ciborium_value.specs.View.{tree_of};
+ghost use Rattle.ciborium_value.specs.Given.{is_null_simple};
+ghost use Rattle.ciborium.specs.inner.ByteSources.{MeansTree, is_portable, tells_null};
 
-use crate::de::byte_source::ByteSource;
-use crate::de::error::{BareReadError, Error};
-use ciborium_ll::{Access, Header, simple};
-use ciborium_value::Kind;
+use ciborium_ll::{Header, simple};
+use ciborium_value::{Integer, Value};
 
 /// Whether a simple value is null or undefined.
 #[inline(always)]
@@ -30,47 +27,19 @@ pub(crate) fn is_null_head(header: &Header) -> bool
     }
 }
 
-impl<'a, R, A: Access<R>> ByteSource<'a, R, A> {
-    #[inline(always)]
-    pub(crate) fn boolean(&mut self) -> Result<bool, BareReadError>
-        ensures keeps { PassesItem A.remaining self.old self.new result }
-        ensures answer { AnswersItem A.can_fail A.remaining self.old self.new (Some self.old.levels)
-            given_boolean (λ v. v) result }
-        ensures memory { IfErr result
-            (λ e. IsGrantedFault (fault_at A.can_fail A.remaining self.new e) false) }
-    {
-        let (header, offset) = self.bare_head(false)?;
-        match header {
-            Header::Simple(number) => {
-                if number == simple::FALSE {
-                    return Ok(false);
-                }
-                if number == simple::TRUE {
-                    return Ok(true);
-                }
-                Err(Error::Semantic(Some(offset), Kind::Bool))
+/// The value of a head that means the same wherever it stands.
+pub(crate) fn portable_value(header: Header) -> Option<Value>
+    ensures { MatchOption result (is_portable header ≡ false)
+        (λ v. MeansTree header (tree_of v)) }
+{
+    match header {
+        Header::Positive(n) => Some(Value::Integer(Integer::from(n))),
+        Header::Simple(number) => {
+            if is_null(number) {
+                return Some(Value::Null);
             }
-            _ => Err(Error::Semantic(Some(offset), Kind::Bool)),
+            None
         }
-    }
-
-    #[inline(always)]
-    pub(crate) fn unit(&mut self) -> Result<(), BareReadError>
-        ensures keeps { PassesItem A.remaining self.old self.new result }
-        ensures answer { AnswersItem A.can_fail A.remaining self.old self.new (Some self.old.levels)
-            given_unit (λ v. v) result }
-        ensures memory { IfErr result
-            (λ e. IsGrantedFault (fault_at A.can_fail A.remaining self.new e) false) }
-    {
-        let (header, offset) = self.bare_head(false)?;
-        match header {
-            Header::Simple(number) => {
-                if is_null(number) {
-                    return Ok(());
-                }
-                Err(Error::Semantic(Some(offset), Kind::Unit))
-            }
-            _ => Err(Error::Semantic(Some(offset), Kind::Unit)),
-        }
+        _ => None,
     }
 }

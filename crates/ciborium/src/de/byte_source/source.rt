@@ -5,10 +5,15 @@ ghost use Rattle.ciborium.specs.inner.ByteSources.{HasTakenSince, IsUnread, Leve
 ghost use Rattle.ciborium.specs.inner.ByteSources.{ReadsValue, SeqStands, StandsBefore, fault_at};
 ghost use Rattle.ciborium.specs.inner.ByteSources.{offset_of_next, seq_left, weight_left};
 
-use crate::de::byte_source::scalars::is_null_head;
-use crate::de::byte_source::{ByteLevel, ByteSeq, ByteSource};
+use crate::de::building::read_value;
+use crate::de::byte_source::characters::{GREATEST_CHARACTER_SIZE, only_character};
+use crate::de::byte_source::levels::is_one;
+use crate::de::byte_source::names::label_kind;
+use crate::de::byte_source::scalars::{is_null, is_null_head, portable_value};
+use crate::de::byte_source::{ByteLevel, ByteSeq, ByteSource, Left};
 use crate::de::error::{BareReadError, Error};
-use ciborium_ll::Access;
+use crate::de::spelling::AnySpelling;
+use ciborium_ll::{Access, Header, simple};
 use ciborium_value::{Kind, Labels, Source, Value};
 use std::alloc::Global;
 
@@ -51,27 +56,83 @@ impl<'a, R, A: Access<R>> Source for ByteSource<'a, R, A> {
 
     #[inline(always)]
     fn boolean(&mut self) -> Result<bool, BareReadError> {
-        self.boolean()
+        let (header, offset) = self.bare_head(false)?;
+        match header {
+            Header::Simple(number) => {
+                if number == simple::FALSE {
+                    return Ok(false);
+                }
+                if number == simple::TRUE {
+                    return Ok(true);
+                }
+                Err(Error::Semantic(Some(offset), Kind::Bool))
+            }
+            _ => Err(Error::Semantic(Some(offset), Kind::Bool)),
+        }
     }
 
     #[inline(always)]
     fn unit(&mut self) -> Result<(), BareReadError> {
-        self.unit()
+        let (header, offset) = self.bare_head(false)?;
+        match header {
+            Header::Simple(number) => {
+                if is_null(number) {
+                    return Ok(());
+                }
+                Err(Error::Semantic(Some(offset), Kind::Unit))
+            }
+            _ => Err(Error::Semantic(Some(offset), Kind::Unit)),
+        }
     }
 
-    #[inline(always)]
+    // A text that is longer than any character is not read.
     fn character(&mut self) -> Result<char, BareReadError> {
-        self.character()
+        let (header, offset) = self.bare_head(false)?;
+        match header {
+            Header::Text(len) => match len {
+                Some(n) => {
+                    if n > GREATEST_CHARACTER_SIZE {
+                        return Err(Error::Semantic(Some(offset), Kind::Char));
+                    }
+                    let mut buffer = [0u8; GREATEST_CHARACTER_SIZE];
+                    let payload = &mut buffer[..n];
+                    self.fill(payload)?;
+                    let character = only_character(payload, offset)?;
+                    Ok(character)
+                }
+                None => Err(Error::Semantic(Some(offset), Kind::Char)),
+            },
+            _ => Err(Error::Semantic(Some(offset), Kind::Char)),
+        }
     }
 
     #[inline(always)]
     fn text(&mut self, alloc: Global) -> Result<String, BareReadError> {
-        self.text(alloc)
+        let (header, offset) = self.bare_head(false)?;
+        match header {
+            Header::Text(len) => {
+                let text = self.text_content(alloc, len)?;
+                Ok(text)
+            }
+            _ => Err(Error::Semantic(Some(offset), Kind::Text)),
+        }
     }
 
     #[inline(always)]
     fn bytes(&mut self, alloc: Global) -> Result<Vec<u8>, BareReadError> {
-        self.bytes(alloc)
+        let (header, offset) = self.bare_head(false)?;
+        match header {
+            Header::Bytes(len) => {
+                let bytes = self.bytes_content(alloc, len)?;
+                Ok(bytes)
+            }
+            Header::Array(count) => {
+                let seq = self.enter(count, offset)?;
+                let bytes = self.read_byte_items(alloc, seq)?;
+                Ok(bytes)
+            }
+            _ => Err(Error::Semantic(Some(offset), Kind::Bytes)),
+        }
     }
 
     #[inline(always)]
@@ -81,7 +142,20 @@ impl<'a, R, A: Access<R>> Source for ByteSource<'a, R, A> {
 
     #[inline(always)]
     fn label<N: Labels>(&mut self, alloc: Global, labels: &N) -> Result<N::Place, BareReadError> {
-        self.label(alloc, labels)
+        let (header, offset) = self.next_head()?;
+        match header {
+            Header::Text(len) => {
+                let place = self.text_place(alloc, len, offset, labels)?;
+                Ok(place)
+            }
+            Header::Positive(n) => Ok(labels.find_number(false, u128::from(n))),
+            Header::Negative(n) => Ok(labels.find_number(true, u128::from(n))),
+            _ => {
+                self.pending = Some((header, offset));
+                let place = self.place_of_kind(alloc, label_kind(header), labels)?;
+                Ok(place)
+            }
+        }
     }
 
     #[inline(always)]
@@ -94,42 +168,147 @@ impl<'a, R, A: Access<R>> Source for ByteSource<'a, R, A> {
 
     #[inline(always)]
     fn begin_tag(&mut self) -> Result<(Option<u64>, ByteLevel), BareReadError> {
-        self.begin_tag()
+        let (header, offset) = self.next_head()?;
+        match header {
+            Header::Tag(tag) => {
+                let level = self.take_level()?;
+                Ok((Some(tag), level))
+            }
+            Header::Break => Err(Error::Semantic(Some(offset), Kind::Break)),
+            _ => {
+                let level = self.take_level()?;
+                self.pending = Some((header, offset));
+                Ok((None, level))
+            }
+        }
     }
 
     #[inline(always)]
     fn end_tag(&mut self, level: ByteLevel) {
-        self.give_back(level);
+        self.levels = level.levels;
     }
 
     #[inline(always)]
     fn begin_variant(&mut self, alloc: Global) -> Result<(String, ByteLevel), BareReadError> {
-        self.begin_variant(alloc)
+        let (header, offset) = self.bare_head(false)?;
+        match header {
+            Header::Text(len) => {
+                let level = self.take_level()?;
+                let name = self.text_content(alloc, len)?;
+                // The null that is the data is not in the bytes: it stands where the text does.
+                self.pending = Some((Header::Simple(simple::NULL), offset));
+                Ok((name, level))
+            }
+            Header::Map(count) => {
+                if !is_one(count) {
+                    return Err(Error::Semantic(Some(offset), Kind::Variant));
+                }
+                let level = self.take_level()?;
+                let name = self.name(alloc)?;
+                Ok((name, level))
+            }
+            _ => Err(Error::Semantic(Some(offset), Kind::Variant)),
+        }
     }
 
     #[inline(always)]
     fn end_variant(&mut self, level: ByteLevel) {
-        self.give_back(level);
+        self.levels = level.levels;
     }
 
     #[inline(always)]
     fn begin_seq(&mut self, alloc: Global) -> Result<ByteSeq, BareReadError> {
-        self.begin_seq(alloc)
+        let (header, offset) = self.bare_head(false)?;
+        match header {
+            Header::Array(count) => {
+                let seq = self.enter(count, offset)?;
+                Ok(seq)
+            }
+            Header::Bytes(len) => {
+                let seq = self.open_bytes(alloc, len, offset)?;
+                Ok(seq)
+            }
+            _ => Err(Error::Semantic(Some(offset), Kind::Array)),
+        }
     }
 
     #[inline(always)]
     fn begin_map(&mut self) -> Result<ByteSeq, BareReadError> {
-        self.begin_map()
+        let (header, offset) = self.bare_head(false)?;
+        let Header::Map(count) = header else {
+            return Err(Error::Semantic(Some(offset), Kind::Map));
+        };
+        let seq = self.enter(count, offset)?;
+        Ok(seq)
     }
 
     #[inline(always)]
     fn next(&mut self, seq: &mut ByteSeq) -> Result<bool, BareReadError> {
-        self.next_part(seq)
+        match &mut seq.left {
+            Left::Counted(n) => {
+                if *n == 0 {
+                    self.levels = seq.levels;
+                    return Ok(false);
+                }
+                *n -= 1;
+                Ok(true)
+            }
+            Left::Open => {
+                let (header, offset) = self.next_head()?;
+                match header {
+                    Header::Break => {
+                        self.levels = seq.levels;
+                        Ok(false)
+                    }
+                    _ => {
+                        self.pending = Some((header, offset));
+                        Ok(true)
+                    }
+                }
+            }
+            Left::Bytes(bytes) => {
+                // The byte before was not read.
+                if self.pending.is_some() {
+                    return Err(Error::Semantic(None, Kind::Other));
+                }
+                match bytes.next() {
+                    Some(byte) => {
+                        self.pending = Some((Header::Positive(u64::from(byte)), seq.offset));
+                        Ok(true)
+                    }
+                    None => Ok(false),
+                }
+            }
+        }
     }
 
-    #[inline(always)]
     fn value(&mut self, alloc: Global) -> Result<Value, BareReadError> {
-        self.value(alloc)
+        match self.pending.take() {
+            Some((header, offset)) => match portable_value(header) {
+                Some(value) => Ok(value),
+                None => {
+                    self.decoder.push(header, offset);
+                    let value = read_value::<AnySpelling, R, A>(
+                        alloc,
+                        &mut self.decoder,
+                        self.scratch,
+                        self.levels,
+                        &mut self.failure,
+                    )?;
+                    Ok(value)
+                }
+            },
+            None => {
+                let value = read_value::<AnySpelling, R, A>(
+                    alloc,
+                    &mut self.decoder,
+                    self.scratch,
+                    self.levels,
+                    &mut self.failure,
+                )?;
+                Ok(value)
+            }
+        }
     }
 
     #[inline(always)]

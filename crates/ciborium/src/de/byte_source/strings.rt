@@ -1,20 +1,19 @@
 //! Strings.
 
-ghost use Rattle.std.specs.Prelude.{◌≡◌, ◌+◌, ◌<◌, ◌≤◌, IfErr, IfNone, IfOk, IfSome, List, None};
+ghost use Rattle.std.specs.Prelude.{◌≡◌, ◌+◌, ◌≤◌, IfErr, IfNone, IfOk, IfSome, List, None};
 ghost use Rattle.std.specs.Prelude.{OnErr, OnOk, Some, false, length, string_bytes, ℕ};
 ghost use Rattle.ciborium_ll.specs.Decoding.{HasSameReader};
 ghost use Rattle.ciborium_ll.specs.StringRefusal.{of_bytes, of_text};
 ghost use Rattle.ciborium_value.specs.Sources.{IsGrantedFault, TakesOnly};
-ghost use Rattle.ciborium_value.specs.Given.{given_text};
 ghost use Rattle.ciborium.specs.inner.ByteSources.{HasTaken, IsUnread, bytes_weight, end_at};
-ghost use Rattle.ciborium.specs.inner.ByteSources.{AnswersItem, PassesItem, weight_left};
+ghost use Rattle.ciborium.specs.inner.ByteSources.{weight_left};
 ghost use Rattle.ciborium.specs.inner.ByteSources.{fault_at};
 ghost use Rattle.ciborium.specs.inner.StringContents.{DeniesContent, DeniesJust, TakesContent};
 ghost use Rattle.ciborium.specs.inner.StringContents.{TakesJust};
 
 use crate::de::byte_source::ByteSource;
-use crate::de::error::{BareReadError, Error};
-use ciborium_ll::{Access, Header, Visitor};
+use crate::de::error::BareReadError;
+use ciborium_ll::{Access, Visitor};
 use ciborium_value::Kind;
 use std::alloc::Global;
 
@@ -125,21 +124,5 @@ impl<'a, R, A: Access<R>> ByteSource<'a, R, A> {
         self.decoder
             .text_into_keeping(len, self.scratch, &mut out, &mut self.failure)?;
         Ok(out)
-    }
-
-    #[inline(always)]
-    pub(crate) fn text(&mut self, alloc: Global) -> Result<String, BareReadError>
-        ensures keeps { PassesItem A.remaining self.old self.new result }
-        ensures answer { AnswersItem A.can_fail A.remaining self.old self.new (Some self.old.levels)
-            given_text string_bytes result }
-    {
-        let (header, offset) = self.bare_head(false)?;
-        match header {
-            Header::Text(len) => {
-                let text = self.text_content(alloc, len)?;
-                Ok(text)
-            }
-            _ => Err(Error::Semantic(Some(offset), Kind::Text)),
-        }
     }
 }

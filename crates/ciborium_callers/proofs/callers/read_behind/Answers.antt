@@ -1,12 +1,7 @@
 -- An item that ends within the greatest offset is not too long.
 use Rattle.std.proofs.Common.{◌≢◌, ◌<◌, ◌≤◌, ℕ, List, Option, Result, Ok, Err, IfErr, ◌++◌, refl, subst, arith}
-use Rattle.ciborium.specs.Bytes.{greatest_offset}
-use Rattle.ciborium.specs.Errors.{fault_of}
-use Rattle.ciborium.specs.Sources.{IsFaultOf}
-use Rattle.ciborium.specs.View.{read_as}
-use Rattle.ciborium.specs.Given.{Outcome}
-use Rattle.ciborium.specs.declared.de.error.Error.{Error}
-use Rattle.ciborium.specs.declared.de.error.Error.TheVariants.{TooLong}
+use Rattle.ciborium.specs.{Bytes.greatest_offset, Errors.fault_of, Sources.IsFaultOf, View.read_as, Given.Outcome}
+use Rattle.ciborium.specs.{declared.de.error.Error.Error, declared.de.error.Error.TheVariants.TooLong}
 use Rattle.ciborium_callers.proofs.callers.read_behind.Goals as goal
 
 fits-not : {A E : Type 0} (end : ℕ) (after : Option (List ℕ)) (e : Error E) (o : Outcome A) → end ≤ greatest_offset →

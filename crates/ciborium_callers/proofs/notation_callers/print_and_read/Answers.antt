@@ -1,6 +1,5 @@
 use Rattle.std.proofs.Common.{rules, ◌∙◌, subst, sym, false}
-use Rattle.ciborium.specs.Denotes.{DenotesWithin, depth}
-use Rattle.ciborium.specs.View.{tree_of}
+use Rattle.ciborium.specs.{Denotes.{DenotesWithin, depth}, View.tree_of}
 use Rattle.ciborium_callers.proofs.ReadNotation.{may_refuse, same_read}
 use Rattle.ciborium_callers.proofs.notation_callers.print_and_read.Goals as goal
 

@@ -1,5 +1,4 @@
-use Rattle.std.proofs.Common.{refl, inl, inr, sym, ap, ◌∙◌, rules}
-use Rattle.std.proofs.lemmas.Result.{err_from_is_err_and}
+use Rattle.std.proofs.{Common.{refl, inl, inr, sym, ap, ◌∙◌, rules}, lemmas.Result.err_from_is_err_and}
 use Rattle.ciborium.specs.View.{trees_of}
 use Rattle.ciborium_callers.specs.NumberTrees.{are_number_trees, is_number_tree, shape_of}
 use Rattle.ciborium_value.proofs.Trees.MadeOfValues.{one_made, one_right, one_wrong}

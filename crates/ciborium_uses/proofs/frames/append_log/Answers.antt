@@ -1,6 +1,5 @@
 -- What is written message by message is written in turn.
-use Rattle.std.proofs.Common.{map, subst}
-use Rattle.std.proofs.lemmas.Result.{err_from_is_err_and}
+use Rattle.std.proofs.{Common.{map, subst}, lemmas.Result.err_from_is_err_and}
 use Rattle.std.specs.declared.io.Error.{Error as IoError}
 use Rattle.ciborium_value.proofs.Writing.Progress.{next_part, no_part}
 use Rattle.ciborium.specs.declared.ser.error.Error.{Error}

@@ -1,13 +1,10 @@
 use Rattle.std.proofs.Common.{◌≡◌, Bool, Global, String, Vec, ap, map, rules, subst, sym, ◌∙◌}
-use Rattle.std.specs.List.{list_all}
-use Rattle.std.specs.Prelude.{IsTrue}
-use Rattle.ciborium.specs.Tree as trees
-use Rattle.ciborium.specs.Tree.{TreePairs}
-use Rattle.ciborium.specs.View.{tree_of, tree_pairs_of}
+use Rattle.std.specs.{List.list_all, Prelude.IsTrue}
+use Rattle.ciborium.specs.{Tree.TreePairs, View.{tree_of, tree_pairs_of}}
 use Rattle.ciborium_value.proofs.Trees.Views.{tree_of-Map}
-use Rattle.ciborium_uses.specs.Shapes.{field_test, fits, has_field}
+use Rattle.ciborium_uses.specs.{Shapes.{field_test, fits, has_field}, declared.schema.Shape.{Shape, the_lemmas}}
+use Rattle.ciborium.specs.Tree as trees
 use Rattle.ciborium_uses.specs.declared.schema.Shape as shape
-use Rattle.ciborium_uses.specs.declared.schema.Shape.{Shape, the_lemmas}
 use Rattle.ciborium_uses.proofs.schema.+has_shape.Goals as goal
 
 -- a map fits where it has each field

@@ -11,12 +11,10 @@ invariant-have_shape-loop-item l =
 
 -- the fields so far are there, so the rest decides
 abbrev pub invariant-has_fields-loop-name : goal.invariant-has_fields-loop-name
-invariant-has_fields-loop-name l =
-    list_all (has_field (tree_pairs_of l.pairs)) (map field_test l.fields)
+invariant-has_fields-loop-name l = list_all (has_field (tree_pairs_of l.pairs)) (map field_test l.fields)
     ≡ list_all (has_field (tree_pairs_of l.pairs)) (map field_test (drop l.name-index l.fields))
 
 -- the values so far under the name have the shape, so the rest decides
 abbrev pub invariant-has_field-loop-key : goal.invariant-has_field-loop-key
-invariant-has_field-loop-key l =
-    field_fits (not l.required) l.name (fits l.shape) (tree_pairs_of l.pairs)
-    ≡ field_fits l.is_complete l.name (fits l.shape) (tree_pairs_of (drop l.key-index l.pairs))
+invariant-has_field-loop-key l = field_fits (not l.required) l.name (fits l.shape)
+    (tree_pairs_of l.pairs) ≡ field_fits l.is_complete l.name (fits l.shape) (tree_pairs_of (drop l.key-index l.pairs))

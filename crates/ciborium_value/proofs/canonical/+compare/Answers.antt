@@ -1,6 +1,5 @@
 use Rattle.std.proofs.Common.{◌≡◌, ◌<◌, ◌≤◌, length, get_or, rules, refl, sym, ap, ◌∙◌, subst, arith}
-use Rattle.ciborium_value.specs.Encoding.{encoding}
-use Rattle.ciborium_value.specs.declared.tree.Value.{the_lemmas}
+use Rattle.ciborium_value.specs.{Encoding.encoding, declared.tree.Value.the_lemmas}
 use Rattle.ciborium_value.proofs.Orders.VisitCounts.{items_visits-differ, items_visits-same, keys_visits-differ}
 use Rattle.ciborium_value.proofs.Orders.VisitCounts.{values_visits-differ, pairs_visits-same}
 use Rattle.ciborium_value.proofs.Orders.SideBySide.{different_heads, contents_decide, payloads_decide, payloads_as_long}
@@ -65,9 +64,8 @@ compare-returns-in-Tag-Tag-clause-decides t c =
 pub compare-returns-in-Array-Array-clause-decides : goal.compare-returns-in-Array-Array-clause-decides
 compare-returns-in-Array-Array-clause-decides t c =
     contents_decide _ _ _ _ _ _ _ c.compare_heads-order.ensures.left_fits c.compare_heads-order.ensures.right_fits
-    c.compare_heads-order.ensures.order c.is_ne.ensures c.if-is_ne.false
-    (content_bytes-Array _ _ c.in-Array-Array.is-0) (content_bytes-Array _ _ c.in-Array-Array.is-1)
-    c.compare_items.ensures.decides
+    c.compare_heads-order.ensures.order c.is_ne.ensures c.if-is_ne.false (content_bytes-Array _ _ c.in-Array-Array.is-0)
+    (content_bytes-Array _ _ c.in-Array-Array.is-1) c.compare_items.ensures.decides
 
 pub compare-returns-in-Map-Map-clause-decides : goal.compare-returns-in-Map-Map-clause-decides
 compare-returns-in-Map-Map-clause-decides t c =

@@ -17,13 +17,11 @@ measure-returns-in-Text-clause-proper t c = is_proper-Text _ _ _ c.in-Text.is c.
     c.payload_size-in-Text.ensures.bytes c.as_bytes.type_inv.0
 
 pub measure-returns-in-Integer-2-clause-size : goal.measure-returns-in-Integer-2-clause-size
-measure-returns-in-Integer-2-clause-size t c =
-    encoded_size-head _ _ _ _ c.visit.ensures.major c.visit.ensures.argument
+measure-returns-in-Integer-2-clause-size t c = encoded_size-head _ _ _ _ c.visit.ensures.major c.visit.ensures.argument
     (c.head_size-head.ensures c.visit.result.major) c.head_size-head.type_inv (content_bytes-none _ c.in-Integer.is)
 
 pub measure-returns-in-Integer-3-clause-size : goal.measure-returns-in-Integer-3-clause-size
-measure-returns-in-Integer-3-clause-size t c =
-    encoded_size-head _ _ _ _ c.visit.ensures.major c.visit.ensures.argument
+measure-returns-in-Integer-3-clause-size t c = encoded_size-head _ _ _ _ c.visit.ensures.major c.visit.ensures.argument
     (c.head_size-head.ensures c.visit.result.major) c.head_size-head.type_inv (content_bytes-none _ c.in-Integer.is)
 
 pub measure-returns-in-Array-clause-size : goal.measure-returns-in-Array-clause-size

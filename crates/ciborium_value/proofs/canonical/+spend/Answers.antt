@@ -8,58 +8,43 @@ use Rattle.ciborium_value.proofs.Orders.TreeEncodings.{encodings-more-length, pa
 use Rattle.ciborium_value.proofs.canonical.+spend.Goals as goal
 
 pub spend-returns-in_err-room : goal.spend-returns-in_err-room
-spend-returns-in_err-room t c =
-    spends_nothing _ _ _ _ _ c.head_of.ensures.major c.head_of.ensures.argument
-    (c.head_size.ensures c.head_of.result.major) _
-    c.from_residual.ensures c.in_err-room.ensures
+spend-returns-in_err-room t c = spends_nothing _ _ _ _ _ c.head_of.ensures.major c.head_of.ensures.argument
+    (c.head_size.ensures c.head_of.result.major) _ c.from_residual.ensures c.in_err-room.ensures
 
 pub spend-returns-in-Bytes : goal.spend-returns-in-Bytes
-spend-returns-in-Bytes t c =
-    spends_content _ _ _ _ _ c.head_of.ensures.major c.head_of.ensures.argument
+spend-returns-in-Bytes t c = spends_content _ _ _ _ _ c.head_of.ensures.major c.head_of.ensures.argument
     (c.head_size.ensures c.head_of.result.major) _ _ _
     (ap length (content_bytes-Bytes _ _ _ c.in-Bytes.is c.deref.ensures.value) ∙ sym c.payload_size.ensures.size)
     c.in_ok-room.ensures c.checked_sub-in-Bytes.ensures
 
 pub spend-returns-in-Text : goal.spend-returns-in-Text
-spend-returns-in-Text t c =
-    spends_content _ _ _ _ _ c.head_of.ensures.major c.head_of.ensures.argument
+spend-returns-in-Text t c = spends_content _ _ _ _ _ c.head_of.ensures.major c.head_of.ensures.argument
     (c.head_size.ensures c.head_of.result.major) _ _ _
     (ap length (content_bytes-Text _ _ _ c.in-Text.is c.as_bytes.ensures.value) ∙
-    sym c.payload_size-in-Text.ensures.size)
-    c.in_ok-room.ensures c.checked_sub-in-Text.ensures
+    sym c.payload_size-in-Text.ensures.size) c.in_ok-room.ensures c.checked_sub-in-Text.ensures
 
 pub spend-returns-in-Tag : goal.spend-returns-in-Tag
-spend-returns-in-Tag t c =
-    spends_content _ _ _ _ _ c.head_of.ensures.major c.head_of.ensures.argument
+spend-returns-in-Tag t c = spends_content _ _ _ _ _ c.head_of.ensures.major c.head_of.ensures.argument
     (c.head_size.ensures c.head_of.result.major) _ _ _
-    (ap length (content_bytes-Tag _ _ _ _ c.in-Tag.is c.deref-in-Tag.ensures))
-    c.in_ok-room.ensures c.spend.ensures
+    (ap length (content_bytes-Tag _ _ _ _ c.in-Tag.is c.deref-in-Tag.ensures)) c.in_ok-room.ensures c.spend.ensures
 
 pub spend-returns-in-Array : goal.spend-returns-in-Array
-spend-returns-in-Array t c =
-    spends_content _ _ _ _ _ c.head_of.ensures.major c.head_of.ensures.argument
+spend-returns-in-Array t c = spends_content _ _ _ _ _ c.head_of.ensures.major c.head_of.ensures.argument
     (c.head_size.ensures c.head_of.result.major) _ _ _
-    (ap length (content_bytes-Array _ _ c.in-Array.is))
-    c.in_ok-room.ensures c.spend_items.ensures
+    (ap length (content_bytes-Array _ _ c.in-Array.is)) c.in_ok-room.ensures c.spend_items.ensures
 
 pub spend-returns-in-Map : goal.spend-returns-in-Map
-spend-returns-in-Map t c =
-    spends_content _ _ _ _ _ c.head_of.ensures.major c.head_of.ensures.argument
+spend-returns-in-Map t c = spends_content _ _ _ _ _ c.head_of.ensures.major c.head_of.ensures.argument
     (c.head_size.ensures c.head_of.result.major) _ _ _
-    (ap length (content_bytes-Map _ _ c.in-Map.is))
-    c.in_ok-room.ensures c.spend_pairs.ensures
+    (ap length (content_bytes-Map _ _ c.in-Map.is)) c.in_ok-room.ensures c.spend_pairs.ensures
 
 pub spend-returns-in-Integer-2 : goal.spend-returns-in-Integer-2
-spend-returns-in-Integer-2 t c =
-    spends_head _ _ _ _ _ c.head_of.ensures.major c.head_of.ensures.argument
-    (c.head_size.ensures c.head_of.result.major) _
-    (content_bytes-none _ c.in-Integer.is) c.in_ok-room.ensures
+spend-returns-in-Integer-2 t c = spends_head _ _ _ _ _ c.head_of.ensures.major c.head_of.ensures.argument
+    (c.head_size.ensures c.head_of.result.major) _ (content_bytes-none _ c.in-Integer.is) c.in_ok-room.ensures
 
 pub spend-returns-in-Integer-3 : goal.spend-returns-in-Integer-3
-spend-returns-in-Integer-3 t c =
-    spends_head _ _ _ _ _ c.head_of.ensures.major c.head_of.ensures.argument
-    (c.head_size.ensures c.head_of.result.major) _
-    (content_bytes-none _ c.in-Integer.is) c.in_ok-room.ensures
+spend-returns-in-Integer-3 t c = spends_head _ _ _ _ _ c.head_of.ensures.major c.head_of.ensures.argument
+    (c.head_size.ensures c.head_of.result.major) _ (content_bytes-none _ c.in-Integer.is) c.in_ok-room.ensures
 
 pub spend_items-returns-in_err-left : goal.spend_items-returns-in_err-left
 spend_items-returns-in_err-left t c =

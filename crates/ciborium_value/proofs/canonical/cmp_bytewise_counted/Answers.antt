@@ -1,7 +1,5 @@
-use Rattle.ciborium_value.specs.Encoding.{encoding}
-use Rattle.ciborium_value.specs.View.{tree_of}
-use Rattle.ciborium_value.proofs.Orders.SideBySide.{decided_alone, equal_where_same}
-use Rattle.ciborium_value.proofs.Orders.VisitCounts.{one_walk-all}
+use Rattle.ciborium_value.specs.{Encoding.encoding, View.tree_of}
+use Rattle.ciborium_value.proofs.{Orders.SideBySide.{decided_alone, equal_where_same}, Orders.VisitCounts.one_walk-all}
 use Rattle.ciborium_value.proofs.canonical.cmp_bytewise_counted.Goals as goal
 
 pub returns-clause-order : goal.returns-clause-order

@@ -1,18 +1,15 @@
 use Rattle.std.proofs.Common.{◌∙◌, ap, string_bytes}
-use Rattle.ciborium_value.specs.Tree.{bytes, text}
-use Rattle.ciborium_value.specs.View.{tree_of}
-use Rattle.ciborium_value.specs.inner.SideBySide.{payload_order}
+use Rattle.ciborium_value.specs.{Tree.{bytes, text}, View.tree_of, inner.SideBySide.payload_order}
 use Rattle.ciborium_value.proofs.Orders.OrderedStrings.{bytes-in-order, of-these, one-payload, texts-in-order}
-use Rattle.ciborium_value.proofs.Orders.SideBySide.{same_payload-Bytes, same_payload-Text}
-use Rattle.ciborium_value.proofs.Trees.Views.{tree_of-Bytes, tree_of-Text}
+use Rattle.ciborium_value.proofs.{Orders.SideBySide.{same_payload-Bytes, same_payload-Text}, Trees.Views.tree_of-Bytes}
+use Rattle.ciborium_value.proofs.Trees.Views.{tree_of-Text}
 use Rattle.ciborium_value.proofs.canonical.cmp_strings.Goals as goal
 
 pub returns-in-Text-Text-clause-order : goal.returns-in-Text-Text-clause-order
 returns-in-Text-Text-clause-order c =
     of-these _ _ _ _ _ (c.cmp_payloads.ensures ∙ texts-in-order _ _ c.as_bytes.type_inv.0
-    c.as_bytes-in-Text-Text.type_inv.0)
-    (ap text c.as_bytes.ensures.value) (ap text c.as_bytes-in-Text-Text.ensures.value)
-    (ap tree_of c.in-Text-Text.is-0 ∙ tree_of-Text c.in-Text-Text.left)
+    c.as_bytes-in-Text-Text.type_inv.0) (ap text c.as_bytes.ensures.value)
+    (ap text c.as_bytes-in-Text-Text.ensures.value) (ap tree_of c.in-Text-Text.is-0 ∙ tree_of-Text c.in-Text-Text.left)
     (ap tree_of c.in-Text-Text.is-1 ∙ tree_of-Text c.in-Text-Text.right)
 
 pub returns-in-Text-Text-clause-equal : goal.returns-in-Text-Text-clause-equal
@@ -27,8 +24,7 @@ returns-in-Text-Text-clause-equal c e =
 pub returns-in-Bytes-Bytes-clause-order : goal.returns-in-Bytes-Bytes-clause-order
 returns-in-Bytes-Bytes-clause-order c =
     of-these _ _ _ _ _ (c.cmp_payloads-in-Bytes-Bytes.ensures ∙ bytes-in-order _ _ c.deref.type_inv.0
-    c.deref-in-Bytes-Bytes.type_inv.0)
-    (ap bytes c.deref.ensures.value) (ap bytes c.deref-in-Bytes-Bytes.ensures.value)
+    c.deref-in-Bytes-Bytes.type_inv.0) (ap bytes c.deref.ensures.value) (ap bytes c.deref-in-Bytes-Bytes.ensures.value)
     (ap tree_of c.in-Bytes-Bytes.is-0 ∙ tree_of-Bytes c.in-Bytes-Bytes.left)
     (ap tree_of c.in-Bytes-Bytes.is-1 ∙ tree_of-Bytes c.in-Bytes-Bytes.right)
 

@@ -1,8 +1,6 @@
-use Rattle.std.proofs.Common.{◌≡◌, sym, ap, ◌∙◌, nat_cmp, rules}
-use Rattle.std.proofs.lemmas.Cmp.{tied_itself, nat_cmp_total}
+use Rattle.std.proofs.{Common.{◌≡◌, sym, ap, ◌∙◌, nat_cmp, rules}, lemmas.Cmp.{tied_itself, nat_cmp_total}}
 use Rattle.std.specs.Cmp.Lexicographic.{slice_cmp}
-use Rattle.ciborium_value.specs.Encoding.{encoding, encoded_size}
-use Rattle.ciborium_value.specs.View.{tree_of}
+use Rattle.ciborium_value.specs.{Encoding.{encoding, encoded_size}, View.tree_of}
 use Rattle.ciborium_value.proofs.Orders.SideBySide.{decided_alone, equal_where_same}
 use Rattle.ciborium_value.proofs.Orders.VisitCounts.{both_walks-most, both_walks-all}
 use Rattle.ciborium_value.proofs.canonical.cmp_value_counted.Goals as goal
@@ -23,8 +21,7 @@ returns-in-Equal-clause-at_most_twice c =
 pub returns-in-Equal-clause-twice_where_equal : goal.returns-in-Equal-clause-twice_where_equal
 returns-in-Equal-clause-twice_where_equal c e =
     both_walks-all _ _ _ _ _ _ c.measure-left_size.ensures.visits c.measure-right_size.ensures.visits
-    c.compare-order.ensures.visits
-    (equal_where_same _ _ _ c.compare-order.ensures.decides e)
+    c.compare-order.ensures.visits (equal_where_same _ _ _ c.compare-order.ensures.decides e)
 
 pub returns-in_default-clause-twice_where_equal : goal.returns-in_default-clause-twice_where_equal
 returns-in_default-clause-twice_where_equal c e =

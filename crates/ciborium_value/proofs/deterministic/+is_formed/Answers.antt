@@ -1,10 +1,8 @@
 use Rattle.std.proofs.Common.{◌≡◌, ◌<◌, length, get_or, subst, ap, sym, ◌∙◌}
-use Rattle.ciborium_value.specs.Deterministic.{AreRising, keys_of}
-use Rattle.ciborium_value.specs.inner.OwnForms.{IsFormed}
-use Rattle.ciborium_value.specs.View.{tree_of, tree_pairs_of}
+use Rattle.ciborium_value.specs.{Deterministic.{AreRising, keys_of}, inner.OwnForms.IsFormed, View.tree_of}
+use Rattle.ciborium_value.specs.View.{tree_pairs_of}
 use Rattle.ciborium_value.proofs.Forms.FormedLists.{failed, AreFormed-more, formed_at, PairsAreFormed-more}
-use Rattle.ciborium_value.proofs.Forms.FormedLists.{pair_formed_at}
-use Rattle.ciborium_value.proofs.Trees.Views.{tree_of-Map}
+use Rattle.ciborium_value.proofs.{Forms.FormedLists.pair_formed_at, Trees.Views.tree_of-Map}
 use Rattle.ciborium_value.proofs.deterministic.+is_formed.Goals as goal
 
 pub is_formed-returns-else-keys_rise : goal.is_formed-returns-else-keys_rise

@@ -1,6 +1,5 @@
 use Rattle.std.proofs.Common.{take}
-use Rattle.ciborium_value.specs.inner.OwnForms.{AreFormed, PairsAreFormed}
-use Rattle.ciborium_value.specs.View.{trees_of, tree_pairs_of}
+use Rattle.ciborium_value.specs.{inner.OwnForms.{AreFormed, PairsAreFormed}, View.{trees_of, tree_pairs_of}}
 use Rattle.ciborium_value.proofs.deterministic.+is_formed.Given as goal
 
 -- the items so far are their own forms

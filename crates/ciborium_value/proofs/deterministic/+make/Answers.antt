@@ -1,22 +1,18 @@
 use Rattle.std.proofs.Common.{◌≡◌, ◌<◌, length, get_or, set, Some, None, rules, refl, sym, ap, ◌∙◌, subst, arith}
-use Rattle.std.proofs.lemmas.List.{get_or_default, get_or-set_other, length-set}
-use Rattle.std.proofs.lemmas.Result.{IfOk-weaker, IfErr-weaker}
-use Rattle.ciborium_value.specs.DeterministicForms.{deterministic_form, deterministic_forms, pair_forms}
-use Rattle.ciborium_value.specs.SameContents as same
-use Rattle.ciborium_value.specs.Given.{gives, refuses}
-use Rattle.ciborium_value.specs.Folded.{tree_folding_bytes}
-use Rattle.ciborium_value.specs.Meaning.{bignum_meaning, without_zeros}
-use Rattle.ciborium_value.specs.Tree as trees
-use Rattle.ciborium_value.specs.SameContents.{AreAlike, PairsAreAlike}
-use Rattle.ciborium_value.specs.View.{tree_of, trees_of, tree_pairs_of}
+use Rattle.std.proofs.{lemmas.List.{get_or_default, get_or-set_other, length-set}, lemmas.Result.IfOk-weaker}
+use Rattle.std.proofs.lemmas.Result.{IfErr-weaker}
+use Rattle.ciborium_value.specs.{DeterministicForms.{deterministic_form, deterministic_forms, pair_forms}, Given.gives}
+use Rattle.ciborium_value.specs.{Given.refuses, Folded.tree_folding_bytes, Meaning.{bignum_meaning, without_zeros}}
+use Rattle.ciborium_value.specs.{SameContents.{AreAlike, PairsAreAlike}, View.{tree_of, trees_of, tree_pairs_of}}
 use Rattle.ciborium_value.specs.declared.tree.Value.{Value, the_lemmas}
 use Rattle.ciborium_value.proofs.Forms.MadeForms.{AreAlike-refl, AreAlike-set, PairsAreAlike-set, all_made}
 use Rattle.ciborium_value.proofs.Forms.MadeForms.{all_pairs_made, one_refused, one_key_refused, one_value_refused}
 use Rattle.ciborium_value.proofs.Forms.MadeForms.{all_written, one_more_made, made_as, alike_as, made-tag, made-bignum}
 use Rattle.ciborium_value.proofs.Forms.MadeForms.{alike-bignum, alike-tag, alike-array, alike-map, refused-pairs}
-use Rattle.ciborium_value.proofs.Forms.MadeForms.{refused-order, made-map}
-use Rattle.ciborium_value.proofs.Forms.ReorderedPairs.{PairsAreAlike-refl}
+use Rattle.ciborium_value.proofs.{Forms.MadeForms.{refused-order, made-map}, Forms.ReorderedPairs.PairsAreAlike-refl}
 use Rattle.ciborium_value.proofs.Trees.Views.{tree_of-Tag, tree_of-Array, tree_of-Map, tree_of-Integer}
+use Rattle.ciborium_value.specs.SameContents as same
+use Rattle.ciborium_value.specs.Tree as trees
 use Rattle.ciborium_value.proofs.deterministic.+make.Goals as goal
 
 pub make-returns-in_err-number-in-Some-clause-alike : goal.make-returns-in_err-number-in-Some-clause-alike
@@ -33,8 +29,7 @@ make-returns-in_err-make_pairs-in-Map-clause-refused t c =
     search (rules, refused)
 
 pub make-returns-in_err-make_pairs-in-Map-clause-alike : goal.make-returns-in_err-make_pairs-in-Map-clause-alike
-make-returns-in_err-make_pairs-in-Map-clause-alike t c =
-    alike_as (search (rules, the_lemmas, tree_of-Map))
+make-returns-in_err-make_pairs-in-Map-clause-alike t c = alike_as (search (rules, the_lemmas, tree_of-Map))
     (alike-map _ _ _ c.make_pairs.ensures.alike (search (rules, the_lemmas, tree_of-Map)))
 
 pub make-returns-in-Some-2-clause-alike : goal.make-returns-in-Some-2-clause-alike
@@ -88,8 +83,7 @@ make-returns-in-None-clause-alike t c =
     (ap tree_of c.in-Tag.is ∙ tree_of-Tag _ _))
 
 pub make-returns-in-Array-clause-alike : goal.make-returns-in-Array-clause-alike
-make-returns-in-Array-clause-alike t c =
-    alike_as (search (rules, the_lemmas, tree_of-Array))
+make-returns-in-Array-clause-alike t c = alike_as (search (rules, the_lemmas, tree_of-Array))
     (alike-array _ _ _ c.make_items.ensures.alike (search (rules, the_lemmas, tree_of-Array)))
 
 pub make-returns-in_ok-make_pairs-in-Map-clause-ok : goal.make-returns-in_ok-make_pairs-in-Map-clause-ok
@@ -109,8 +103,7 @@ make-returns-in_ok-make_pairs-in-Map-clause-refused t c =
     (ap tree_of c.in-Map.is ∙ tree_of-Map _)) c.sort_pairs.ensures.refused
 
 pub make-returns-in_ok-make_pairs-in-Map-clause-alike : goal.make-returns-in_ok-make_pairs-in-Map-clause-alike
-make-returns-in_ok-make_pairs-in-Map-clause-alike t c =
-    alike_as (search (rules, the_lemmas, tree_of-Map))
+make-returns-in_ok-make_pairs-in-Map-clause-alike t c = alike_as (search (rules, the_lemmas, tree_of-Map))
     (alike-map _ _ _ (same.one_after_another c.make_pairs.ensures.alike c.sort_pairs.ensures.alike)
     (search (rules, the_lemmas, tree_of-Map)))
 

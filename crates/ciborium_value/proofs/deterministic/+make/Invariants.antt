@@ -1,9 +1,6 @@
 use Rattle.std.proofs.Common.{◌≡◌, ℕ, ◌<◌, get_or}
-use Rattle.ciborium_value.specs.DeterministicForms.{deterministic_form}
-use Rattle.ciborium_value.specs.SameContents.{AreAlike, PairsAreAlike}
-use Rattle.ciborium_value.specs.Given.{gives}
-use Rattle.ciborium_value.specs.View.{tree_of, trees_of, tree_pairs_of}
-use Rattle.ciborium_value.specs.declared.tree.Value.{Value}
+use Rattle.ciborium_value.specs.{DeterministicForms.deterministic_form, SameContents.{AreAlike, PairsAreAlike}}
+use Rattle.ciborium_value.specs.{Given.gives, View.{tree_of, trees_of, tree_pairs_of}, declared.tree.Value.Value}
 use Rattle.ciborium_value.proofs.deterministic.+make.Given as goal
 
 -- the items so far are forms

@@ -1,9 +1,8 @@
 use Rattle.std.proofs.Common.{rules, ◌≡◌, ℕ, length, Some, IsTrue, nat_eq, sym, ap, ◌∙◌, arith}
 use Rattle.std.proofs.lemmas.Bool.Decides.{nat_tests}
 use Rattle.ciborium_value.specs.Meaning.{bignum_meaning, without_zeros}
+use Rattle.ciborium_value.proofs.{FoldedTrees.Bignums.zeros_absent, Forms.BignumShapes.one_string}
 use Rattle.ciborium_value.specs.Tree as trees
-use Rattle.ciborium_value.proofs.FoldedTrees.Bignums.{zeros_absent}
-use Rattle.ciborium_value.proofs.Forms.BignumShapes.{one_string}
 use Rattle.ciborium_value.proofs.deterministic.is_folded.Goals as goal
 
 pub returns-in-Ok-None : goal.returns-in-Ok-None

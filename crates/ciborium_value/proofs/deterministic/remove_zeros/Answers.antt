@@ -1,8 +1,7 @@
 use Rattle.std.proofs.Common.{◌≡◌, length, rules, ap, ◌∙◌, arith}
-use Rattle.ciborium_value.specs.Meaning.{without_zeros}
+use Rattle.ciborium_value.specs.{Meaning.without_zeros, lemmas.ReadsBackBignums.length-without_zeros}
 use Rattle.ciborium_value.proofs.FoldedTrees.Bignums.{zeros_dropped}
 use Rattle.ciborium_value.proofs.deterministic.remove_zeros.Goals as goal
-use Rattle.ciborium_value.specs.lemmas.ReadsBackBignums.{length-without_zeros}
 
 pub overflow_sub-zeros : goal.overflow_sub-zeros
 overflow_sub-zeros c =

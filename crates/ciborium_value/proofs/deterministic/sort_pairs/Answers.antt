@@ -1,5 +1,4 @@
-use Rattle.std.proofs.Common.{rules, ◌∙◌}
-use Rattle.std.proofs.lemmas.Fn.{always_returns_same}
+use Rattle.std.proofs.{Common.{rules, ◌∙◌}, lemmas.Fn.always_returns_same}
 use Rattle.ciborium_value.proofs.Forms.ReorderedPairs.{alike-reordered, permuted-reordered, sorted-in_order}
 use Rattle.ciborium_value.proofs.Forms.ReorderedPairs.{sorted-reordered, stands_before, stands_before-orders}
 use Rattle.ciborium_value.proofs.Forms.SortedPairs.{apart_rising, rising_apart, rising-sorted, tied_refused}

@@ -1,10 +1,9 @@
 use Rattle.std.proofs.Common.{◌≡◌, [], length, refl, sym, ap, ◌∙◌, arith}
-use Rattle.ciborium_value.specs.Notation.{notation_on}
-use Rattle.ciborium_value.specs.Tree as trees
-use Rattle.ciborium_value.specs.View.{tree_of}
+use Rattle.ciborium_value.specs.{Notation.notation_on, View.tree_of}
 use Rattle.ciborium_value.proofs.Trees.Notations.{then, as_bytes, lead_behind-more, notation_on-array, notation_on-map}
 use Rattle.ciborium_value.proofs.Trees.Notations.{notation_on-tag, notations_on-more, pair_notations_on-more}
 use Rattle.ciborium_value.proofs.Trees.Views.{tree_of-Tag, tree_of-Array, tree_of-Map}
+use Rattle.ciborium_value.specs.Tree as trees
 use Rattle.ciborium_value.proofs.notation.+write_value.Goals as goal
 
 pub write_value-returns-in_ok-write_value-in-Tag : goal.write_value-returns-in_ok-write_value-in-Tag

@@ -1,5 +1,4 @@
-use Rattle.std.proofs.Common.{◌≡◌, false, sym, subst, ◌∙◌, arith, take_all}
-use Rattle.std.proofs.lemmas.List.Elements.{All-more}
+use Rattle.std.proofs.{Common.{◌≡◌, false, sym, subst, ◌∙◌, arith, take_all}, lemmas.List.Elements.All-more}
 use Rattle.ciborium_value.specs.Notation.{IsPlain, needs_escape}
 use Rattle.ciborium_value.proofs.notation.next_escape.Goals as goal
 

@@ -1,6 +1,5 @@
 use Rattle.std.proofs.Common.{rules, ◌≡◌, ◌<◌, ◌+◌, ◌∷◌, [], ◌++◌, codes, length, take, drop, get_or, true, refl, sym}
-use Rattle.std.proofs.Common.{ap, subst, ◌∙◌, append_assoc}
-use Rattle.std.proofs.lemmas.Str.{IsCharBoundary-after_ascii}
+use Rattle.std.proofs.{Common.{ap, subst, ◌∙◌, append_assoc}, lemmas.Str.IsCharBoundary-after_ascii}
 use Rattle.ciborium_value.specs.Notation.{IsPlain, escape, needs_escape}
 use Rattle.ciborium_value.proofs.Trees.Notations.{then, as_bytes, around_byte, escaped_is_ascii, escaped-last}
 use Rattle.ciborium_value.proofs.Trees.Notations.{escaped-more}

@@ -1,6 +1,5 @@
 -- The parts stand in a definite container.
-use Rattle.std.proofs.Common.{sym, ◌∙◌}
-use Rattle.std.proofs.lemmas.Result.{on_ok_weaker, on_err_weaker}
+use Rattle.std.proofs.{Common.{sym, ◌∙◌}, lemmas.Result.{on_ok_weaker, on_err_weaker}}
 use Rattle.ciborium_value.proofs.Writing.Progress.{on_err, parts_added, parts_ahead, parts_begin_broken, parts_broken}
 use Rattle.ciborium_value.proofs.Writing.Progress.{parts_can_end, parts_end_broken}
 use Rattle.ciborium_value.proofs.parts.serialize_parts.Goals as goal
@@ -13,8 +12,7 @@ returns-in_err-begin-in-Some-clause-err g c =
     c.in_err-begin-in-Some.ensures.err)
 
 pub write_parts-requires : goal.write_parts-requires
-write_parts-requires g c =
-    parts_ahead g.S.Sink.stands_at g.S.Sink.out g.C.Container.shape
+write_parts-requires g c = parts_ahead g.S.Sink.stands_at g.S.Sink.out g.C.Container.shape
     (g.P.Parts.number c.args.parts.now) c.in-Some.count (g.P.Parts.parts c.args.parts.now) c.args.sink.now
     (sym c.count.ensures.count ∙ c.in-Some.is) c.count.ensures.sized c.begin.new.sink c.requires
     c.in_ok-begin-in-Some.ensures.ok
@@ -27,8 +25,7 @@ returns-in_err-write_parts-in-Some-clause-err g c =
     c.in_ok-begin-in-Some.ensures.ok c.in_err-write_parts-in-Some.ensures.err)
 
 pub end-requires : goal.end-requires
-end-requires g c =
-    parts_can_end g.S.Sink.stands_at g.S.Sink.out g.C.Container.shape
+end-requires g c = parts_can_end g.S.Sink.stands_at g.S.Sink.out g.C.Container.shape
     (g.P.Parts.number c.args.parts.now) c.in-Some.count (g.P.Parts.parts c.args.parts.now) c.args.sink.now
     (sym c.count.ensures.count ∙ c.in-Some.is) c.count.ensures.sized c.begin.new.sink c.write_parts.new.sink
     c.requires c.in_ok-begin-in-Some.ensures.ok c.in_ok-write_parts-in-Some.ensures.ok

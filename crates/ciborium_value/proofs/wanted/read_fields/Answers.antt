@@ -1,12 +1,9 @@
 -- A map is read by names pair by pair.
 use Rattle.std.proofs.Common.{arith, ◌∙◌, subst, sym}
-use Rattle.ciborium_value.specs.Ahead.{end_of}
-use Rattle.ciborium_value.specs.Sources.{IsFaultOf}
-use Rattle.ciborium_value.specs.StructReadings.{given_fields}
-use Rattle.ciborium_value.proofs.Sources.Sequences.{so, takes, blames, passes_on}
-use Rattle.ciborium_value.proofs.Sources.Dictionaries.{owed_pair, owed_pairs}
-use Rattle.ciborium_value.proofs.Sources.NamedFields.{fields_more, fields_blame_next, fields_blame_name}
-use Rattle.ciborium_value.proofs.Sources.NamedFields.{fields_blame_field, fields_end}
+use Rattle.ciborium_value.specs.{Ahead.end_of, Sources.IsFaultOf, StructReadings.given_fields}
+use Rattle.ciborium_value.proofs.{Sources.Sequences.{so, takes, blames, passes_on}, Sources.Dictionaries.owed_pair}
+use Rattle.ciborium_value.proofs.{Sources.Dictionaries.owed_pairs, Sources.NamedFields.{fields_more, fields_blame_next}}
+use Rattle.ciborium_value.proofs.Sources.NamedFields.{fields_blame_name, fields_blame_field, fields_end}
 use Rattle.ciborium_value.proofs.wanted.read_fields.Goals as goal
 
 pub returns-in_err-next : goal.returns-in_err-next

@@ -1,13 +1,8 @@
 use Rattle.std.proofs.Common.{◌≡◌, ◌+◌, ◌<◌}
 use Rattle.ciborium_ll.specs.Item.{Item}
-use Rattle.ciborium_value.specs.Labels.{Label}
-use Rattle.ciborium_value.specs.Nesting.{Limit}
-use Rattle.ciborium_value.specs.Given.{outcome}
-use Rattle.ciborium_value.specs.Places.{dictionary}
-use Rattle.ciborium_value.specs.Sources.{TakesTo, TakesOnly}
-use Rattle.ciborium_value.specs.StructReadings.{given_fields}
-use Rattle.ciborium_value.proofs.Sources.Sequences.{Follows, IsBefore}
-use Rattle.ciborium_value.proofs.Sources.NamedFields.{IsInsideFields}
+use Rattle.ciborium_value.specs.{Labels.Label, Nesting.Limit, Given.outcome, Places.dictionary, Sources.TakesTo}
+use Rattle.ciborium_value.specs.{Sources.TakesOnly, StructReadings.given_fields}
+use Rattle.ciborium_value.proofs.{Sources.Sequences.{Follows, IsBefore}, Sources.NamedFields.IsInsideFields}
 use Rattle.ciborium_value.proofs.wanted.read_fields.Given as goal
 
 -- the pairs that were read are in the fields, and the others are left

@@ -1,18 +1,11 @@
 use Rattle.std.proofs.Common.{◌≡◌, ◌∙◌, ◌≤◌, arith, rules, refl, sym, subst, ℕ, List, length, None, Some, Ok, Err}
 use Rattle.std.proofs.Common.{MatchOption, Option, Result}
-use Rattle.ciborium_ll.specs.declared.decoder.Decoder.{Decoder}
-use Rattle.ciborium_ll.specs.Decoding.{TakesBeforeAny, left_of, with_left}
-use Rattle.ciborium_value.specs.declared.tree.Value.{Value}
-use Rattle.ciborium_value.specs.inner.Frames.{TreeFrame}
-use Rattle.ciborium_value.specs.inner.Stack.{frames_of}
-use Rattle.ciborium.specs.declared.de.error.Error.{Error}
-use Rattle.ciborium.specs.ValueAnswers.{IsRefusedBy}
-use Rattle.ciborium.specs.inner.Turns.{IsReading, IsTurned, IsValueRead}
-use Rattle.ciborium.specs.inner.ValuesInBytes.{StandsAt}
-use Rattle.ciborium_value.specs.Spelling.{Spelling}
-use Rattle.ciborium_value.specs.Refuses.{Refuses}
-use Rattle.ciborium.proofs.Turns.Turned.{begin}
-use Rattle.ciborium.proofs.Readers.WhateverFollows.{so-then, so-unread}
+use Rattle.ciborium_ll.specs.{declared.decoder.Decoder.Decoder, Decoding.{TakesBeforeAny, left_of, with_left}}
+use Rattle.ciborium_value.specs.{declared.tree.Value.Value, inner.Frames.TreeFrame, inner.Stack.frames_of}
+use Rattle.ciborium_value.specs.{Spelling.Spelling, Refuses.Refuses}
+use Rattle.ciborium.specs.{declared.de.error.Error.Error, ValueAnswers.IsRefusedBy, inner.Turns.{IsReading, IsTurned}}
+use Rattle.ciborium.specs.{inner.Turns.IsValueRead, inner.ValuesInBytes.StandsAt}
+use Rattle.ciborium.proofs.{Turns.Turned.begin, Readers.WhateverFollows.{so-then, so-unread}}
 use Rattle.ciborium.proofs.de.building.read_value.Goals as goal
 
 -- reading has come so far
@@ -69,12 +62,10 @@ returns-in-Ok-Some-clause-value g c =
     c.in-Ok-Some.field-0-is c.in-Ok-Some.ensures.turn)
 
 pub returns-in-Err-clause-value : goal.returns-in-Err-clause-value
-returns-in-Err-clause-value g c =
-    so-then g.A.Access.remaining c.args.decoder.now c.turn.new.decoder c.forget.new.self
+returns-in-Err-clause-value g c = so-then g.A.Access.remaining c.args.decoder.now c.turn.new.decoder c.forget.new.self
     (λ d e. (xs : List ℕ) (p : ℕ) → StandsAt g.S.Rules.spelling Some d xs p →
     IsTurned g.S.Rules.spelling Some e (frames_of c.turn.new.stack) c.args.levels xs p (Err c.in-Err.refusal))
-    (λ d e. left_of Some e ≡ left_of Some d)
-    (λ d e. (xs : List ℕ) (p : ℕ) → StandsAt g.S.Rules.spelling Some d xs p →
+    (λ d e. left_of Some e ≡ left_of Some d) (λ d e. (xs : List ℕ) (p : ℕ) → StandsAt g.S.Rules.spelling Some d xs p →
     IsValueRead g.S.Rules.spelling Some e c.args.levels xs p (Err c.in-Err.refusal))
     (λ u v w h k xs p s. subst (λ o. IsRefusedBy o c.in-Err.refusal
     (Refuses g.S.Rules.spelling xs p (Some c.args.levels))) (sym k) (h xs p s))

@@ -1,8 +1,7 @@
 use Rattle.std.proofs.Common.{ℕ, ◌≤◌, List, Some, length}
 use Rattle.ciborium_ll.specs.Decoding.{HasSameReader, TakesBeforeAny}
 use Rattle.ciborium_value.specs.inner.Stack.{frames_of}
-use Rattle.ciborium.specs.inner.Turns.{IsReading}
-use Rattle.ciborium.specs.inner.ValuesInBytes.{StandsAt, heads_left}
+use Rattle.ciborium.specs.{inner.Turns.IsReading, inner.ValuesInBytes.{StandsAt, heads_left}}
 use Rattle.ciborium.proofs.de.building.read_value.Given as goal
 
 -- reading has come so far

@@ -1,8 +1,6 @@
-use Rattle.std.proofs.Common.{◌++◌, ◌-◌, ◌∙◌, Some, Ok, Err, ap, refl}
-use Rattle.std.proofs.lemmas.Result.{err_from_is_err_and}
+use Rattle.std.proofs.{Common.{◌++◌, ◌-◌, ◌∙◌, Some, Ok, Err, ap, refl}, lemmas.Result.err_from_is_err_and}
 use Rattle.ciborium_ll.specs.Decoding.{with_left}
-use Rattle.ciborium_value.specs.inner.Stack.{frames_of}
-use Rattle.ciborium_value.specs.View.{tree_of}
+use Rattle.ciborium_value.specs.{inner.Stack.frames_of, View.tree_of}
 use Rattle.ciborium.specs.declared.de.front.Part.TheVariants.{Whole, Begun, Ended}
 use Rattle.ciborium.proofs.Turns.Turned.{turn-refused, turn-whole, turn-begun, turn-ended, turn-break, depth-placed}
 use Rattle.ciborium.proofs.Turns.Turned.{depth-closed}
@@ -24,9 +22,8 @@ returns-in_err-value-clause-turn g c =
     )
 
 pub returns-in-Whole-clause-depth : goal.returns-in-Whole-clause-depth
-returns-in-Whole-clause-depth g c =
-    depth-placed g.S.Rules.spelling c.place.result (frames_of c.args.stack.now) (frames_of c.place.new.stack)
-    (tree_of c.in-Whole.value) c.offset.result c.args.levels c.place.ensures c.requires
+returns-in-Whole-clause-depth g c = depth-placed g.S.Rules.spelling c.place.result (frames_of c.args.stack.now)
+    (frames_of c.place.new.stack) (tree_of c.in-Whole.value) c.offset.result c.args.levels c.place.ensures c.requires
 
 pub returns-in-Whole-clause-turn : goal.returns-in-Whole-clause-turn
 returns-in-Whole-clause-turn g c =
@@ -57,8 +54,7 @@ returns-in-Ok-clause-turn g c =
     )
 
 pub returns-in-Some-clause-depth : goal.returns-in-Some-clause-depth
-returns-in-Some-clause-depth g c =
-    depth-placed g.S.Rules.spelling c.place-in-Some.result (frames_of c.close.new.self)
+returns-in-Some-clause-depth g c = depth-placed g.S.Rules.spelling c.place-in-Some.result (frames_of c.close.new.self)
     (frames_of c.place-in-Some.new.stack) (tree_of c.in-Some.value) c.offset-in-Some.result c.args.levels
     c.place-in-Some.ensures
     (depth-closed (frames_of c.args.stack.now) (frames_of c.close.new.self) (tree_of c.in-Some.value) c.args.levels

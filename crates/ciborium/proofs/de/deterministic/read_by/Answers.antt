@@ -3,9 +3,8 @@ use Rattle.std.proofs.Common.{Err, Ok, rules, sym, subst, ◌∙◌}
 use Rattle.std.specs.declared.io.Error.{Error}
 use Rattle.ciborium_ll.specs.Decoding.{TakesBeforeAny}
 use Rattle.ciborium_value.specs.View.{tree_of}
-use Rattle.ciborium.proofs.Readers.KnownReaders.{whole-of}
-use Rattle.ciborium.proofs.Readers.PutAside.{back-tree}
-use Rattle.ciborium.proofs.Readers.WhateverFollows.{TreeSo, taken-lent}
+use Rattle.ciborium.proofs.{Readers.KnownReaders.whole-of, Readers.PutAside.back-tree, Readers.WhateverFollows.TreeSo}
+use Rattle.ciborium.proofs.Readers.WhateverFollows.{taken-lent}
 use Rattle.ciborium.proofs.de.deterministic.read_by.Goals as goal
 
 pub returns-in-Ok : goal.returns-in-Ok

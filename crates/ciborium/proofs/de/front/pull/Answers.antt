@@ -1,10 +1,7 @@
-use Rattle.std.proofs.Common.{Some, Ok, Err}
-use Rattle.std.proofs.lemmas.Result.{err_from_is_err_and}
-use Rattle.ciborium_ll.specs.Refusal.{HeadRefuses}
+use Rattle.std.proofs.{Common.{Some, Ok, Err}, lemmas.Result.err_from_is_err_and}
+use Rattle.ciborium_ll.specs.{Refusal.HeadRefuses, Decoding.with_left}
 use Rattle.ciborium.specs.Errors.{from_ll}
-use Rattle.ciborium_ll.specs.Decoding.{with_left}
-use Rattle.ciborium.proofs.Turns.Fronts.{PullsSo}
-use Rattle.ciborium.proofs.Readers.WhateverFollows.{so-map, head-pulled, PullsAll}
+use Rattle.ciborium.proofs.{Turns.Fronts.PullsSo, Readers.WhateverFollows.{so-map, head-pulled, PullsAll}}
 use Rattle.ciborium.proofs.Turns.Pulled.{refused-from, head-read, fewer-heads}
 use Rattle.ciborium.proofs.de.front.pull.Goals as goal
 
@@ -26,8 +23,7 @@ returns-clause-fewer g c = fewer-heads g.row.K-Kept.Denot g.A.Access.remaining c
     c.in_ok-pull_keeping.ensures.taken
 
 pub returns-clause-head : goal.returns-clause-head
-returns-clause-head g c =
-    so-map g.A.Access.remaining c.args.decoder.now c.pull_keeping.new.self
+returns-clause-head g c = so-map g.A.Access.remaining c.args.decoder.now c.pull_keeping.new.self
     (λ d e. PullsAll {E = g.row.K-Kept.Denot} d e (Ok c.in_ok-pull_keeping.field-0))
     (λ d e. PullsSo {E = g.row.K-Kept.Denot} Some d e (Ok c.in_ok-pull_keeping.field-0))
     (λ u v h xs p s. head-read Some (with_left c.pull_keeping.new.self v) xs p c.in_ok-pull_keeping.field-0 (h xs p s))

@@ -1,7 +1,5 @@
-use Rattle.std.proofs.Common.{◌∙◌, ap, subst, Some, Ok}
-use Rattle.std.proofs.lemmas.Result.{err_from_is_err_and}
-use Rattle.ciborium_ll.specs.Decoded.{IsVisited}
-use Rattle.ciborium_ll.specs.Decoding.{Takes}
+use Rattle.std.proofs.{Common.{◌∙◌, ap, subst, Some, Ok}, lemmas.Result.err_from_is_err_and}
+use Rattle.ciborium_ll.specs.{Decoded.IsVisited, Decoding.Takes}
 use Rattle.ciborium.specs.inner.StringAnswers.{IsCopied, string_kind}
 use Rattle.ciborium.proofs.Readers.WhateverFollows.{held-no-text, held-refused}
 use Rattle.ciborium.proofs.de.held.copy_held.Goals as goal

@@ -1,8 +1,7 @@
 -- What reading refuses is refused, and another encoding.
 use Rattle.std.proofs.Common.{MatchOption, inr, subst}
 use Rattle.ciborium_value.specs.Encoding.{encoding}
-use Rattle.ciborium.specs.DeterministicWrites.{HasForm, named_form}
-use Rattle.ciborium.specs.LoadedAnswers.{AreFormOf, DifferAt, RefusesOther}
+use Rattle.ciborium.specs.{DeterministicWrites.{HasForm, named_form}, LoadedAnswers.{AreFormOf, DifferAt, RefusesOther}}
 use Rattle.ciborium.proofs.Readers.Loading.{loads-refused}
 use Rattle.ciborium.proofs.de.loading.from_slice_deterministic.Goals as goal
 

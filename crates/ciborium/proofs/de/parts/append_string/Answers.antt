@@ -1,9 +1,8 @@
-use Rattle.std.proofs.Common.{rules, ◌≡◌, ◌++◌, string_bytes}
-use Rattle.std.proofs.lemmas.Result.{err_from_is_err_and}
+use Rattle.std.proofs.{Common.{rules, ◌≡◌, ◌++◌, string_bytes}, lemmas.Result.err_from_is_err_and}
 use Rattle.ciborium_ll.specs.StringRefusal.{of_bytes, of_text}
-use Rattle.ciborium_value.specs.declared.tree.Value as value
 use Rattle.ciborium_value.proofs.Trees.Views.{tree_of-Bytes, tree_of-Text}
 use Rattle.ciborium.proofs.Readers.WhateverFollows.{string-refused, string-taken}
+use Rattle.ciborium_value.specs.declared.tree.Value as value
 use Rattle.ciborium.proofs.de.parts.append_string.Goals as goal
 
 pub returns-then-is_text-clause-content : goal.returns-then-is_text-clause-content

@@ -1,21 +1,17 @@
 use Rattle.std.proofs.Common.{◌≡◌, ℕ, List, ◌++◌, ap, sym, ◌∙◌, Some, Ok, Err, subst, false, true}
 use Rattle.std.proofs.lemmas.Result.{err_from_is_err_and}
-use Rattle.ciborium_ll.specs.declared.header.Header.TheVariants as header
-use Rattle.ciborium_ll.specs.Decoding.{with_left}
-use Rattle.ciborium_ll.specs.Refusal.{semantic}
-use Rattle.ciborium_ll.specs.Refusal as refusal
-use Rattle.ciborium_ll.specs.StringRefusal.{of_bytes, of_text}
-use Rattle.ciborium_value.specs.Tree as trees
+use Rattle.ciborium_ll.specs.{Decoding.with_left, Refusal.semantic, StringRefusal.{of_bytes, of_text}}
 use Rattle.ciborium_value.specs.View.{tree_of}
 use Rattle.ciborium_value.proofs.Trees.Views.{tree_of-Integer}
-use Rattle.ciborium.specs.ValueAnswers.{IsRefusedBy}
-use Rattle.ciborium.specs.inner.Parts.{IsHeadAccepted, IsPartRead, RefusesPart}
+use Rattle.ciborium.specs.{ValueAnswers.IsRefusedBy, inner.Parts.{IsHeadAccepted, IsPartRead, RefusesPart}}
 use Rattle.ciborium.specs.inner.Rules.{head_fault}
-use Rattle.ciborium.proofs.Turns.Contents.{got-string, string-fault}
-use Rattle.ciborium.proofs.Turns.Heads.{ahead-of, faulty-head, head-refused, part-behind-head, part-of-head}
-use Rattle.ciborium.proofs.Turns.Leaves.{container-part, float-refuses, got-end, got-negative, got-positive, got-simple}
-use Rattle.ciborium.proofs.Turns.Leaves.{simple-refuses}
+use Rattle.ciborium.proofs.{Turns.Contents.{got-string, string-fault}, Turns.Heads.{ahead-of, faulty-head}}
+use Rattle.ciborium.proofs.{Turns.Heads.{head-refused, part-behind-head, part-of-head}, Turns.Leaves.container-part}
+use Rattle.ciborium.proofs.Turns.Leaves.{float-refuses, got-end, got-negative, got-positive, got-simple, simple-refuses}
 use Rattle.ciborium.proofs.Readers.WhateverFollows.{StringSo}
+use Rattle.ciborium_ll.specs.declared.header.Header.TheVariants as header
+use Rattle.ciborium_ll.specs.Refusal as refusal
+use Rattle.ciborium_value.specs.Tree as trees
 use Rattle.ciborium.proofs.de.parts.next.Goals as goal
 
 pub returns-in_err-header-clause-part : goal.returns-in_err-header-clause-part
@@ -73,8 +69,7 @@ returns-in_ok-value-in-Bytes-clause-part g c =
     (sym (c.find_head_fault.ensures ∙ ap (head_fault g.S.Rules.spelling c.in_ok-header.header) c.head_len.ensures) ∙
     c.in_default.is) c.in_ok-header.ensures.head c.read_string.new.decoder _
     (λ d e. StringSo {E = Unit} of_bytes c.in-Bytes.len c.pull.new.decoder.last d e (Ok c.in_ok-value-in-Bytes.value))
-    c.in_ok-value-in-Bytes.ensures.content
-    (λ m z xs p a read. got-string of_bytes Some (with_left c.pull.new.decoder m)
+    c.in_ok-value-in-Bytes.ensures.content (λ m z xs p a read. got-string of_bytes Some (with_left c.pull.new.decoder m)
     (with_left c.read_string.new.decoder z) c.args.levels xs p c.in_ok-header.header g.S.Rules.spelling Unit
     c.in-Bytes.len c.in_ok-value-in-Bytes.value c.read_string.ensures.pushed c.in-Bytes.is read a)
 
@@ -99,8 +94,7 @@ returns-in_ok-value-in-Text-clause-part g c =
     (sym (c.find_head_fault.ensures ∙ ap (head_fault g.S.Rules.spelling c.in_ok-header.header) c.head_len.ensures) ∙
     c.in_default.is) c.in_ok-header.ensures.head c.read_string-in-Text.new.decoder _
     (λ d e. StringSo {E = Unit} of_text c.in-Text.len c.pull.new.decoder.last d e (Ok c.in_ok-value-in-Text.value))
-    c.in_ok-value-in-Text.ensures.content
-    (λ m z xs p a read. got-string of_text Some (with_left c.pull.new.decoder m)
+    c.in_ok-value-in-Text.ensures.content (λ m z xs p a read. got-string of_text Some (with_left c.pull.new.decoder m)
     (with_left c.read_string-in-Text.new.decoder z) c.args.levels xs p c.in_ok-header.header g.S.Rules.spelling Unit
     c.in-Text.len c.in_ok-value-in-Text.value c.read_string-in-Text.ensures.pushed c.in-Text.is read a)
 
@@ -194,5 +188,4 @@ returns-in-Tag-clause-part g c =
     c.last_offset-offset.result ≡ p → IsPartRead {E = Unit} g.S.Rules.spelling Some e c.args.levels xs p
     c.read_tag.result) c.read_tag.ensures.part
     (λ m z xs p a read. read xs p (subst (λ h. IsHeadAccepted g.S.Rules.spelling Some
-    (with_left c.pull.new.decoder m) h xs p) c.in-Tag.is a)
-    (c.last_offset-offset.ensures ∙ a.pulled.5))
+    (with_left c.pull.new.decoder m) h xs p) c.in-Tag.is a) (c.last_offset-offset.ensures ∙ a.pulled.5))

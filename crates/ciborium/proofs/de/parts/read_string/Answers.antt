@@ -1,7 +1,6 @@
 use Rattle.std.proofs.Common.{List, ℕ, ◌∙◌, ap, subst, Some, Ok}
 use Rattle.ciborium_ll.specs.Decoding.{TakesBeforeAny}
-use Rattle.ciborium.specs.inner.StringAnswers.{IsHeldRead, string_kind}
-use Rattle.ciborium.specs.inner.ValuesInBytes.{IsAt}
+use Rattle.ciborium.specs.{inner.StringAnswers.{IsHeldRead, string_kind}, inner.ValuesInBytes.IsAt}
 use Rattle.ciborium.proofs.Readers.WhateverFollows.{StringSo, so-then}
 use Rattle.ciborium.proofs.de.parts.read_string.Goals as goal
 

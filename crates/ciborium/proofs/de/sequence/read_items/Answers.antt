@@ -1,6 +1,5 @@
 -- A sequence is read item by item.
-use Rattle.std.proofs.Common.{◌∷◌, [], Some, map, sym, ap, ◌∙◌, subst}
-use Rattle.std.proofs.lemmas.List.{map-append}
+use Rattle.std.proofs.{Common.{◌∷◌, [], Some, map, sym, ap, ◌∙◌, subst}, lemmas.List.map-append}
 use Rattle.std.proofs.lemmas.Result.{err_from_is_err_and}
 use Rattle.std.specs.declared.io.Error.{Error as IoError}
 use Rattle.ciborium_ll.specs.Accesses.{left_at_failure}

@@ -1,6 +1,5 @@
 use Rattle.std.proofs.Common.{ap, ◌∙◌}
-use Rattle.ciborium_value.specs.DeterministicForms.{deterministic_form}
-use Rattle.ciborium_value.specs.View.{tree_of}
+use Rattle.ciborium_value.specs.{DeterministicForms.deterministic_form, View.tree_of}
 use Rattle.ciborium_value.specs.lemmas.ItemsOfTrees.{tree_is_written_as_itself}
 use Rattle.ciborium.proofs.ser.deterministic.is_own_form.Goals as goal
 

@@ -1,7 +1,5 @@
 use Rattle.std.proofs.Common.{None}
-use Rattle.ciborium.specs.Places.{dictionary}
-use Rattle.ciborium.specs.Progress.{Owes}
-use Rattle.ciborium.specs.Sinks.{in_turn}
+use Rattle.ciborium.specs.{Places.dictionary, Progress.Owes, Sinks.in_turn}
 use Rattle.ciborium_callers.proofs.OwnTypes.{named_number}
 use Rattle.ciborium_callers.proofs.own_types.OpenMapSerialize.serialize.Given as goal
 

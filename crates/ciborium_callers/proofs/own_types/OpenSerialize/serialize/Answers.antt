@@ -1,9 +1,7 @@
 -- The numbers are written one after the other, between the beginning and the end of an open array.
 use Rattle.ciborium_callers.proofs.OwnTypes.{named_number, next_number}
-use Rattle.std.proofs.Common.{None, List, refl, map, subst}
-use Rattle.std.proofs.lemmas.Result.{on_ok_weaker, on_err_weaker}
-use Rattle.ciborium.specs.Places.{sequence}
-use Rattle.ciborium.specs.Sinks.{Named, AddsNamed, BreaksNamed, IsOwed, open_container_of}
+use Rattle.std.proofs.{Common.{None, List, refl, map, subst}, lemmas.Result.{on_ok_weaker, on_err_weaker}}
+use Rattle.ciborium.specs.{Places.sequence, Sinks.{Named, AddsNamed, BreaksNamed, IsOwed, open_container_of}}
 use Rattle.ciborium.specs.Progress.{Owes}
 use Rattle.ciborium_value.proofs.Writing.Progress.{exits, on_err, owes_begin, owes_broken_begin, owes_ready, owes_more}
 use Rattle.ciborium_value.proofs.Writing.Progress.{owes_broken, owes_owed, owes_can_end, owes_ends, owes_broken_end}

@@ -1,6 +1,5 @@
 use Rattle.std.proofs.Common.{map, drop, None}
-use Rattle.ciborium.specs.Places.{sequence}
-use Rattle.ciborium.specs.Progress.{Owes}
+use Rattle.ciborium.specs.{Places.sequence, Progress.Owes}
 use Rattle.ciborium_callers.proofs.OwnTypes.{named_number}
 use Rattle.ciborium_callers.proofs.own_types.OpenSerialize.serialize.Given as goal
 

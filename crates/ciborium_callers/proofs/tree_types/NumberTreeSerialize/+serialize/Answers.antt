@@ -1,17 +1,12 @@
 -- A tree is written level by level.
 use Rattle.std.proofs.Common.{◌≡◌, ℕ, pos, Ok, Vec, Global, IfErr, map, rules, subst, sym, ap, ◌∙◌}
 use Rattle.std.proofs.lemmas.Result.{on_ok_weaker, on_err_weaker}
-use Rattle.ciborium.specs.Encoding.{item_of}
-use Rattle.ciborium.specs.Number.{number_tree}
-use Rattle.ciborium.specs.Places.{sequence}
-use Rattle.ciborium.specs.Sinks.{AddsNamed, BreaksNamed, IsOwed, Named, container_of, number_item}
+use Rattle.ciborium.specs.{Encoding.item_of, Number.number_tree, Places.sequence, Sinks.{AddsNamed, BreaksNamed}}
+use Rattle.ciborium.specs.{Sinks.{IsOwed, Named, container_of, number_item}, View.trees_from}
+use Rattle.ciborium_value.proofs.{FoldedTrees.NumberItems.number_tree-item, Writing.WrittenValues.named-parts}
+use Rattle.ciborium_callers.specs.{NumberTrees.shape_of, declared.tree_types.NumberTree.{NumberTree, the_lemmas}}
 use Rattle.ciborium.specs.Tree as trees
-use Rattle.ciborium.specs.View.{trees_from}
-use Rattle.ciborium_value.proofs.FoldedTrees.NumberItems.{number_tree-item}
-use Rattle.ciborium_value.proofs.Writing.WrittenValues.{named-parts}
-use Rattle.ciborium_callers.specs.NumberTrees.{shape_of}
 use Rattle.ciborium_callers.specs.declared.tree_types.NumberTree as tree
-use Rattle.ciborium_callers.specs.declared.tree_types.NumberTree.{NumberTree, the_lemmas}
 use Rattle.ciborium_callers.proofs.tree_types.NumberTreeSerialize.+serialize.Goals as goal
 
 abbrev named : NumberTree → Named

@@ -1,7 +1,5 @@
 use Rattle.std.proofs.Common.{◌+◌, ◌-◌, ◌<◌, ◌≤◌, length}
-use Rattle.ciborium_value.specs.Places.{sequence}
-use Rattle.ciborium_value.specs.Sources.{TakesOnly, TakesTo}
-use Rattle.ciborium_value.specs.Given.{given_byte}
+use Rattle.ciborium_value.specs.{Places.sequence, Sources.{TakesOnly, TakesTo}, Given.given_byte}
 use Rattle.ciborium_value.proofs.Sources.Sequences.{Follows, IsBefore, IsInside}
 use Rattle.ciborium_tests.specs.Few.{given_few}
 use Rattle.ciborium_tests.proofs.FewItems.{few_from}

@@ -8,5 +8,5 @@ pub returns : goal.returns
 returns c =
     let some : ¬ (c.in-Some.labels.now.items ≡ []) = search rules in
     c.check_labels.ensures
-    ∙ ap (λ vs. are_critical (entry_trees c.args.header.now) (trees_of vs)) c.deref.ensures.value
-    ∙ sym (crit_of (entry_trees c.args.header.now) _ c.in-Some.labels.now.items c.in-Some.ensures.tree some)
+    ∙ ap (λ vs. are_critical (entry_trees c.args.header.now.by_label) (trees_of vs)) c.deref.ensures.value
+    ∙ sym (crit_of (entry_trees c.args.header.now.by_label) _ c.in-Some.labels.now.items c.in-Some.ensures.tree some)

@@ -1,9 +1,8 @@
-use Rattle.std.proofs.Common.{ap, ◌∙◌}
-use Rattle.std.proofs.Common.{is_some}
-use Rattle.ciborium_uses.proofs.LabelMaps.{found_by_tree, is_some-by_tree}
+use Rattle.std.proofs.Common.{sym, ◌∙◌}
+use Rattle.ciborium.specs.{Derived.value_cmp, Order.tree_cmp, View.tree_of}
+use Rattle.ciborium_value.specs.{lemmas.DerivedOrder.value_cmp-is, lemmas.ReadsBackMaps.one-has}
 use Rattle.ciborium_uses.proofs.envelopes.labels.has_label.Goals as goal
 
 pub returns : goal.returns
-returns c =
-    c.contains_key.ensures ∙ is_some-by_tree _
-    ∙ ap is_some (found_by_tree c.args.label.now c.args.labels.now.entries)
+returns c = c.contains_key.ensures ∙
+    sym (one-has value_cmp tree_cmp tree_of tree_of value_cmp-is c.args.labels.now.by_label.entries c.args.label.now)

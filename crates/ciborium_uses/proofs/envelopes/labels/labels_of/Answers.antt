@@ -1,28 +1,29 @@
-use Rattle.std.proofs.Common.{ap, rules, sym, ◌∙◌, ◌≡◌, length}
-use Rattle.ciborium.specs.Given.{gives}
-use Rattle.ciborium.specs.View.{tree_pairs_of}
-use Rattle.ciborium_uses.proofs.KeptLabels.{read-kept}
-use Rattle.ciborium_uses.proofs.LabelMaps.{counted, miscounted}
-use Rattle.ciborium_uses.specs.Envelopes.{entry_trees}
+use Rattle.std.proofs.Common.{◌≡◌, ◌∙◌, IsTrue, ap, rules, subst, sym}
+use Rattle.ciborium.specs.{Given.gives, View.{tree_of, tree_pairs_of}}
+use Rattle.ciborium_uses.proofs.KeptLabels.{folds-to, for-memory, gives-folded, kept}
+use Rattle.ciborium_uses.specs.Envelopes.{are_labels, entries_in, entries_of, is_label_map, once_each}
 use Rattle.ciborium_uses.proofs.envelopes.labels.labels_of.Goals as goal
 
-pub returns-then-len-clause-ok : goal.returns-then-len-clause-ok
-returns-then-len-clause-ok c =
-    let is = c.in-Some.ensures.tree in
-    let length_is = c.len-in-Ok.ensures ∙ c.in-Some.pairs.now.ok.0 in (
-      (tree_pairs_of c.in-Some.pairs.now.items, is, search rules),
-      c.in-Ok.ensures.ok,
-      counted _ c.in-Some.pairs.now.items c.in-Ok.labels.entries _ _ is c.len.ensures.len length_is c.if-len.true,
-    )
+pub returns-in-Err-clause-refused : goal.returns-in-Err-clause-refused
+returns-in-Err-clause-refused c m h = c.refusal_of.ensures
+    (for-memory c.in-Err.error _ m c.in-Err.ensures.refused (gives-folded (tree_of c.args.map.now) m h.folds))
 
-pub returns-else-len-clause-refused : goal.returns-else-len-clause-refused
-returns-else-len-clause-refused c es h =
-    let given : gives (entry_trees c.in-Ok.labels) ≡ gives es = sym c.in-Ok.ensures.ok ∙ h.1 in
-    let same : entry_trees c.in-Ok.labels ≡ es = cc in
-    let length_is = c.len-in-Ok.ensures ∙ c.in-Some.pairs.now.ok.0 in
-    miscounted _ c.in-Some.pairs.now.items c.in-Ok.labels.entries _ _ c.in-Some.ensures.tree c.len.ensures.len length_is
-    c.if-len.false (ap length same ∙ h.2)
+pub returns-in-Ok-deserialized-clause-ok : goal.returns-in-Ok-deserialized-clause-ok
+returns-in-Ok-deserialized-clause-ok c =
+    let labels : IsTrue (are_labels (tree_pairs_of c.in-Some.pairs.now.items)) = search rules in
+    let given = c.in-Ok-deserialized.ensures.ok in record {
+      labels = subst (λ t. IsTrue (is_label_map t)) (sym c.in-Some.ensures.tree) labels;
+      folds = folds-to (tree_of c.args.map.now) (tree_of c.in-Ok.map) c.in-Ok.ensures.ok;
+      once = given ∙ ap gives (sym (ap entries_in given));
+    }
 
-pub returns-then-len-clause-kept : goal.returns-then-len-clause-kept
-returns-then-len-clause-kept c =
-    read-kept _ c.in-Ok.labels (returns-then-len-clause-ok c) c.len.ensures.ordered
+pub returns-in-Ok-deserialized-clause-kept : goal.returns-in-Ok-deserialized-clause-kept
+returns-in-Ok-deserialized-clause-kept c = kept (tree_of c.args.map.now) _ (returns-in-Ok-deserialized-clause-ok c)
+
+pub returns-in-Err-deserialized-clause-refused : goal.returns-in-Err-deserialized-clause-refused
+returns-in-Err-deserialized-clause-refused c m h =
+    let folds = folds-to (tree_of c.args.map.now) (tree_of c.in-Ok.map) c.in-Ok.ensures.ok in
+    let others = h.folds in
+    let same : m ≡ tree_of c.in-Ok.map = cc in
+    c.refusal_of-in-Err-deserialized.ensures (for-memory c.in-Err-deserialized.error _ _
+    c.in-Err-deserialized.ensures.refused (subst (λ m. once_each m ≡ gives (entries_of m)) same h.once))

@@ -1,12 +1,7 @@
-use Rattle.std.proofs.Common.{rules, ◌≡◌, []}
-use Rattle.ciborium_uses.proofs.ReadAgain.{header-again}
-use Rattle.ciborium_uses.proofs.WrittenMessages.{written-header}
+use Rattle.ciborium.specs.View.{tree_of}
+use Rattle.ciborium_uses.proofs.KeptLabels.{header-again, spelled}
 use Rattle.ciborium_uses.proofs.envelopes.writing.header_bytes.Goals as goal
 
-pub returns-clause-bytes : goal.returns-clause-bytes
-returns-clause-bytes c =
-    let some : ¬ (c.args.header.now.entries ≡ []) = search rules in
-    written-header c.in_ok-to_vec.field-0.items c.args.header.now.entries some c.in_ok-to_vec.ensures.bytes
-
 pub returns-clause-again : goal.returns-clause-again
-returns-clause-again c = header-again c.in_ok-to_vec.field-0.items c.args.header.now c.in_ok-to_vec.ensures.bytes
+returns-clause-again c h nests = header-again c.in_ok-to_vec.field-0.items (tree_of c.args.header.now) h nests
+    (spelled c.in_ok-to_vec.field-0.items _ c.in_ok-to_vec.ensures.bytes)

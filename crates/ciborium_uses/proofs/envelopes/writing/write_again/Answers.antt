@@ -1,6 +1,5 @@
 use Rattle.std.proofs.Common.{◌∙◌}
-use Rattle.ciborium_uses.proofs.Exits.{answered_by}
-use Rattle.ciborium_uses.proofs.ReadAgain.{alike-shortest, one-envelope, written-wrapped}
+use Rattle.ciborium_uses.proofs.{Exits.answered_by, WholeMessages.{alike-shortest, one-envelope, spelled-is-read}}
 use Rattle.ciborium_uses.proofs.envelopes.writing.write_again.Goals as goal
 
 pub returns-clause-again : goal.returns-clause-again
@@ -11,7 +10,7 @@ returns-clause-again c =
       wrapping = w;
       envelope = e;
       read = c.in_ok-wrapping.ensures.ok;
-      same = written-wrapped again.items w e c.in_ok-wrapping.ensures.whole spells;
+      same = spelled-is-read again.items w e c.in_ok-wrapping.ensures.whole spells;
     })
 
 pub returns-clause-shortest : goal.returns-clause-shortest

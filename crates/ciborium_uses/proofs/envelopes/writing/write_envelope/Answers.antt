@@ -1,20 +1,15 @@
-use Rattle.ciborium_uses.proofs.Exits.{answered_by, refused_by}
-use Rattle.ciborium_uses.proofs.WrittenMessages.{lacks-memory, named, spelled, written-message}
+use Rattle.ciborium_uses.proofs.{Exits.answered_by, WholeMessages.spelled-under}
+use Rattle.ciborium_uses.specs.declared.envelopes.wrapping.Wrapping.TheVariants.{Bare, Signed, Token}
 use Rattle.ciborium_uses.proofs.envelopes.writing.write_envelope.Goals as goal
 
-pub returns-clause-bytes : goal.returns-clause-bytes
-returns-clause-bytes c = answered_by c.to_vec.result c.to_vec.ensures.bytes
-    (λ bytes h. (written-message bytes.items c.args.protected.now.0.items c.args.payload.now.0.items
-    c.args.signature.now.0.items c.args.unprotected.now c.args.wrapping c.tags_of-outer.result
-    c.tags_of-outer.ensures h).0)
+pub returns-in-Bare-clause-item : goal.returns-in-Bare-clause-item
+returns-in-Bare-clause-item c = answered_by c.to_vec.result c.to_vec.ensures.bytes
+    (λ bytes h. spelled-under c.args.wrapping Bare bytes.items _ c.in-Bare.is h)
 
-pub returns-clause-item : goal.returns-clause-item
-returns-clause-item c = answered_by c.to_vec.result c.to_vec.ensures.bytes
-    (λ bytes h. spelled bytes.items _ (written-message bytes.items c.args.protected.now.0.items
-    c.args.payload.now.0.items c.args.signature.now.0.items c.args.unprotected.now c.args.wrapping
-    c.tags_of-outer.result c.tags_of-outer.ensures h))
+pub returns-in-Signed-clause-item : goal.returns-in-Signed-clause-item
+returns-in-Signed-clause-item c = answered_by c.to_vec-in-Signed.result c.to_vec-in-Signed.ensures.bytes
+    (λ bytes h. spelled-under c.args.wrapping Signed bytes.items _ c.in-Signed.is h)
 
-pub returns-clause-refused : goal.returns-clause-refused
-returns-clause-refused c = refused_by c.to_vec.result c.to_vec.ensures.refused
-    (λ e h. lacks-memory e _ _ (named c.tags_of-outer.result c.args.protected.now.0.items c.args.payload.now.0.items
-    c.args.signature.now.0.items c.args.unprotected.now) h)
+pub returns-in-Token-clause-item : goal.returns-in-Token-clause-item
+returns-in-Token-clause-item c = answered_by c.to_vec-in-Token.result c.to_vec-in-Token.ensures.bytes
+    (λ bytes h. spelled-under c.args.wrapping Token bytes.items _ c.in-Token.is h)

@@ -1,14 +1,12 @@
 -- A map is read pair by pair.
 use Rattle.std.proofs.Common.{arith, map, sym, refl, ap, ◌≡◌, ◌∙◌, ◌&&◌, Bool, List, subst}
-use Rattle.ciborium_value.specs.Sources.{RefusesAhead, of_kind}
-use Rattle.ciborium_value.specs.GivenParts.{has_key, given_map}
-use Rattle.ciborium_value.specs.declared.kind.Kind.TheVariants as kinds
-use Rattle.ciborium_value.specs.lemmas.ReadsBackMaps.{one-has, one-put}
+use Rattle.ciborium_value.specs.{Sources.{RefusesAhead, of_kind}, GivenParts.{has_key, given_map}}
+use Rattle.ciborium_value.specs.lemmas.PutEntries.{one-has, one-put}
 use Rattle.ciborium_value.proofs.Sources.Sequences.{so, Follows, IsBefore, takes, blames, passes_on}
 use Rattle.ciborium_value.proofs.Sources.Dictionaries.{IsInsideMap, map_begins, map_more, map_blames_next}
 use Rattle.ciborium_value.proofs.Sources.Dictionaries.{map_blames_again, map_blames_key, map_blames_value, map_ends}
-use Rattle.ciborium_value.proofs.Sources.Dictionaries.{owed_pair, owed_pairs}
-use Rattle.ciborium_value.proofs.deserialize.maps.read_map.Given.{Over}
+use Rattle.ciborium_value.proofs.{Sources.Dictionaries.{owed_pair, owed_pairs}, deserialize.maps.read_map.Given.Over}
+use Rattle.ciborium_value.specs.declared.kind.Kind.TheVariants as kinds
 use Rattle.ciborium_value.proofs.deserialize.maps.read_map.Goals as goal
 
 -- a key occurs again where its content does

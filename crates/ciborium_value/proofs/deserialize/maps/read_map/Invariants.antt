@@ -1,9 +1,6 @@
 use Rattle.std.proofs.Common.{◌+◌, ◌<◌, map}
-use Rattle.ciborium_value.specs.Places.{dictionary}
-use Rattle.ciborium_value.specs.Sources.{TakesTo, TakesOnly}
-use Rattle.ciborium_value.specs.GivenParts.{given_map}
-use Rattle.ciborium_value.proofs.Sources.Sequences.{Follows, IsBefore}
-use Rattle.ciborium_value.proofs.Sources.Dictionaries.{IsInsideMap}
+use Rattle.ciborium_value.specs.{Places.dictionary, Sources.{TakesTo, TakesOnly}, GivenParts.given_map}
+use Rattle.ciborium_value.proofs.{Sources.Sequences.{Follows, IsBefore}, Sources.Dictionaries.IsInsideMap}
 use Rattle.ciborium_value.proofs.deserialize.maps.read_map.Given as goal
 
 -- the pairs that were read are put in, and the others are left

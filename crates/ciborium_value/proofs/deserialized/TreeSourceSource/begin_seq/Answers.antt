@@ -1,8 +1,6 @@
 -- The items of the array are ahead.
 use Rattle.std.proofs.Common.{◌≡◌, sym, ap, ◌∙◌, subst}
-use Rattle.ciborium_value.specs.Ahead.{counted}
-use Rattle.ciborium_value.specs.Given.{given_seq, untagged}
-use Rattle.ciborium_value.specs.inner.TreeSources.{IsPending}
+use Rattle.ciborium_value.specs.{Ahead.counted, Given.{given_seq, untagged}, inner.TreeSources.IsPending}
 use Rattle.ciborium_value.specs.TreeAnswers.{value_item}
 use Rattle.ciborium_value.proofs.Sources.TreeReading.{begun, seq_of}
 use Rattle.ciborium_value.proofs.deserialized.TreeSourceSource.begin_seq.Goals as goal

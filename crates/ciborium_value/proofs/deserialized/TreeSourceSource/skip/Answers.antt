@@ -1,7 +1,6 @@
 use Rattle.std.proofs.Common.{◌∙◌}
 use Rattle.ciborium_value.specs.Given.{given_skip}
-use Rattle.ciborium_value.proofs.Sources.SkippedItems.{skip-gives}
-use Rattle.ciborium_value.proofs.Sources.TreeCalls.{given-there, some-weight}
+use Rattle.ciborium_value.proofs.{Sources.SkippedItems.skip-gives, Sources.TreeCalls.{given-there, some-weight}}
 use Rattle.ciborium_value.proofs.deserialized.TreeSourceSource.skip.Goals as goal
 
 pub returns-in_default : goal.returns-in_default

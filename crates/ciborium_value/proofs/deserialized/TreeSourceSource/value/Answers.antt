@@ -1,11 +1,9 @@
 use Rattle.std.proofs.Common.{◌≡◌, None, sym, ap, ◌∙◌, subst, arith}
 use Rattle.ciborium_ll.specs.Item.{simple}
-use Rattle.ciborium_value.specs.Given.{gives, outcome, given_value}
-use Rattle.ciborium_value.specs.inner.TreeSources.{IsPending, pending_tree_weight}
-use Rattle.ciborium_value.specs.View.{tree_of}
+use Rattle.ciborium_value.specs.{Given.{gives, outcome, given_value}, inner.TreeSources.IsPending}
+use Rattle.ciborium_value.specs.{inner.TreeSources.pending_tree_weight, View.tree_of}
+use Rattle.ciborium_value.proofs.{Sources.TreeCalls.{given-there, taken-there}, Trees.Views.tree_of-Null}
 use Rattle.ciborium_value.specs.declared.tree.Value as value
-use Rattle.ciborium_value.proofs.Sources.TreeCalls.{given-there, taken-there}
-use Rattle.ciborium_value.proofs.Trees.Views.{tree_of-Null}
 use Rattle.ciborium_value.proofs.deserialized.TreeSourceSource.value.Goals as goal
 
 pub returns-in-Whole-clause-takes : goal.returns-in-Whole-clause-takes

@@ -1,18 +1,12 @@
 -- The walk ends where the whole is one value, or where a part does not fold.
 use Rattle.std.proofs.Common.{◌≡◌, ◌+◌, [], ◌∷◌, ◌++◌, Some, None, sym, ap, ◌∙◌, arith}
-use Rattle.ciborium_value.specs.Folded.{folded}
-use Rattle.ciborium_value.specs.inner.FoldedCopies.{where_folded, copied, path_trees, nodes_of, coming_trees}
-use Rattle.ciborium_value.specs.inner.FoldedCopies.{IsCopyBegun}
-use Rattle.ciborium_value.specs.declared.deserialized.folding.Part.TheVariants as part
-use Rattle.ciborium_value.specs.Counts.{node_count}
-use Rattle.ciborium_value.specs.inner.Frames.{more, placed, done}
-use Rattle.ciborium_value.specs.inner.Stack.{frames_of}
-use Rattle.ciborium_value.specs.Given.{outcome, given_value}
-use Rattle.ciborium_value.specs.TreeAnswers.{IsErrorOf, tree_fault, value_item}
-use Rattle.ciborium_value.specs.View.{tree_of}
+use Rattle.ciborium_value.specs.{Folded.folded, inner.FoldedCopies.{where_folded, copied, path_trees, nodes_of}}
+use Rattle.ciborium_value.specs.{inner.FoldedCopies.{coming_trees, IsCopyBegun}, Counts.node_count, inner.Frames.more}
+use Rattle.ciborium_value.specs.{inner.Frames.{placed, done}, inner.Stack.frames_of, Given.{outcome, given_value}}
+use Rattle.ciborium_value.specs.{TreeAnswers.{IsErrorOf, tree_fault, value_item}, View.tree_of}
 use Rattle.ciborium_value.proofs.FoldedTrees.FoldedCopies.{copied-done, refused_as, path_last, nodes-append}
-use Rattle.ciborium_value.proofs.Sources.TreeFaults.{error_fault}
-use Rattle.ciborium_value.proofs.Writing.Progress.{exits}
+use Rattle.ciborium_value.proofs.{Sources.TreeFaults.error_fault, Writing.Progress.exits}
+use Rattle.ciborium_value.specs.declared.deserialized.folding.Part.TheVariants as part
 use Rattle.ciborium_value.proofs.deserialized.folding.fold_value.Goals as goal
 
 pub returns-in_err-whole-clause-refused : goal.returns-in_err-whole-clause-refused

@@ -1,9 +1,7 @@
 -- What the value makes is what the trees that still come make of what is open.
 use Rattle.std.proofs.Common.{◌≡◌, [], ◌∷◌}
-use Rattle.ciborium_value.specs.inner.FoldedCopies.{copied, path_trees, nodes_of}
-use Rattle.ciborium_value.specs.inner.Frames.{more}
-use Rattle.ciborium_value.specs.inner.Stack.{frames_of}
-use Rattle.ciborium_value.specs.View.{tree_of}
+use Rattle.ciborium_value.specs.{inner.FoldedCopies.{copied, path_trees, nodes_of}, inner.Frames.more}
+use Rattle.ciborium_value.specs.{inner.Stack.frames_of, View.tree_of}
 use Rattle.ciborium_value.proofs.deserialized.folding.fold_value.Given as goal
 
 abbrev pub invariant-values : goal.invariant-values

@@ -1,7 +1,6 @@
 -- The bytes of the values so far.
 use Rattle.std.proofs.Common.{◌≡◌, map, drop, None}
-use Rattle.ciborium_value.specs.Given.{outcome, given_byte, take_each}
-use Rattle.ciborium_value.specs.TreeAnswers.{value_item}
+use Rattle.ciborium_value.specs.{Given.{outcome, given_byte, take_each}, TreeAnswers.value_item}
 use Rattle.ciborium_value.proofs.Sources.TreeReading.{behind_these}
 use Rattle.ciborium_value.proofs.deserialized.parts.copy_bytes_of.Given as goal
 

@@ -1,8 +1,7 @@
 -- A byte string as a name.
 use Rattle.std.proofs.Common.{◌∙◌, sym, ap}
-use Rattle.ciborium_value.specs.Given.{gives}
+use Rattle.ciborium_value.specs.{Given.gives, TreeAnswers.value_item}
 use Rattle.ciborium_value.proofs.Sources.TreeLevels.{name_of_bytes, no_name_of_bytes}
-use Rattle.ciborium_value.specs.TreeAnswers.{value_item}
 use Rattle.ciborium_value.proofs.deserialized.parts.find_name.Goals as goal
 
 pub returns-in-Ok-clause-ok : goal.returns-in-Ok-clause-ok

@@ -1,8 +1,5 @@
 use Rattle.std.proofs.Common.{◌≡◌}
-use Rattle.ciborium_value.specs.Counts.{node_count}
-use Rattle.ciborium_value.specs.Given.{number_of}
-use Rattle.ciborium_value.specs.TreeAnswers.{value_item}
-use Rattle.ciborium_value.specs.View.{tree_of}
+use Rattle.ciborium_value.specs.{Counts.node_count, Given.number_of, TreeAnswers.value_item, View.tree_of}
 use Rattle.ciborium_value.proofs.deserialized.parts.find_number.Given as goal
 
 abbrev pub invariant-tags : goal.invariant-tags

@@ -1,9 +1,6 @@
 use Rattle.std.proofs.Common.{◌≡◌, ◌≤◌}
-use Rattle.ciborium_value.specs.Counts.{node_count}
-use Rattle.ciborium_value.specs.Given.{untagged}
-use Rattle.ciborium_value.specs.inner.TreeSources.{value_weight}
-use Rattle.ciborium_value.specs.TreeAnswers.{value_item}
-use Rattle.ciborium_value.specs.View.{tree_of}
+use Rattle.ciborium_value.specs.{Counts.node_count, Given.untagged, inner.TreeSources.value_weight}
+use Rattle.ciborium_value.specs.{TreeAnswers.value_item, View.tree_of}
 use Rattle.ciborium_value.proofs.deserialized.parts.skip_tags.Given as goal
 
 abbrev pub invariant-loop-bare : goal.invariant-loop-bare

@@ -1,6 +1,5 @@
 use Rattle.std.proofs.Common.{◌≡◌, ◌≤◌, length}
-use Rattle.ciborium_value.specs.Tokens.{base64_at, prepended}
-use Rattle.ciborium_value.specs.inner.ReadTokens.{IsGroup}
+use Rattle.ciborium_value.specs.{Tokens.{base64_at, prepended}, inner.ReadTokens.IsGroup}
 use Rattle.ciborium_value.proofs.from_notation.byte_strings.read_base64.Given as goal
 
 -- the bytes stand before those of the rest

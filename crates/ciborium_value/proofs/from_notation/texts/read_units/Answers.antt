@@ -16,6 +16,5 @@ returns-in-Some-from_u32-clause-character c =
     (search rules) (search rules) (search rules) (search rules)
 
 pub returns-in-None-clause-character : goal.returns-in-None-clause-character
-returns-in-None-clause-character c =
-    unit_alone c.args.text.now c.in-Some.behind.now c.in-Some.unit (search rules) (search rules) (search rules)
-    (search rules)
+returns-in-None-clause-character c = unit_alone c.args.text.now c.in-Some.behind.now c.in-Some.unit (search rules)
+    (search rules) (search rules) (search rules)

@@ -22,13 +22,11 @@ write_parts-requires g c =
     (g.R.Parts.parts c.args.self.now.1) c.serialize.new.sink c.requires c.in_ok-serialize.ensures.ok
 
 pub returns-clause-ok : goal.returns-clause-ok
-returns-clause-ok g c =
-    on_ok_weaker _ (takes_one_more g.S.Sink.stands_at g.S.Sink.out sequence c.args.sink.now
+returns-clause-ok g c = on_ok_weaker _ (takes_one_more g.S.Sink.stands_at g.S.Sink.out sequence c.args.sink.now
     (g.V.Serialize.written c.args.self.now.0) (g.R.Parts.parts c.args.self.now.1) c.serialize.new.sink
     c.write_parts.new.sink c.in_ok-serialize.ensures.ok) c.write_parts.ensures.ok
 
 pub returns-clause-err : goal.returns-clause-err
-returns-clause-err g c =
-    on_err_weaker _ (breaks_behind_one g.S.Sink.stands_at g.S.Sink.out sequence c.args.sink.now
+returns-clause-err g c = on_err_weaker _ (breaks_behind_one g.S.Sink.stands_at g.S.Sink.out sequence c.args.sink.now
     (g.V.Serialize.written c.args.self.now.0) (g.R.Parts.parts c.args.self.now.1) c.serialize.new.sink
     c.write_parts.new.sink c.in_ok-serialize.ensures.ok) c.write_parts.ensures.err

@@ -1,10 +1,8 @@
 -- What is left of a sequence is dropped item by item.
 use Rattle.std.proofs.Common.{arith}
-use Rattle.ciborium_value.specs.EnteredSequences.{RefusesInTurn}
-use Rattle.ciborium_value.specs.GivenParts.{no_part_given}
-use Rattle.ciborium_value.proofs.Writing.Progress.{exits}
-use Rattle.ciborium_value.proofs.Sources.Sequences.{so, blames_next, drop_more, drop_blames, drop_ends, dropped_more}
-use Rattle.ciborium_value.proofs.Sources.Sequences.{dropped_all, refuses_parts, takes_parts}
+use Rattle.ciborium_value.specs.{EnteredSequences.RefusesInTurn, GivenParts.no_part_given}
+use Rattle.ciborium_value.proofs.{Writing.Progress.exits, Sources.Sequences.{so, blames_next, drop_more, drop_blames}}
+use Rattle.ciborium_value.proofs.Sources.Sequences.{drop_ends, dropped_more, dropped_all, refuses_parts, takes_parts}
 use Rattle.ciborium_value.proofs.items.NoItemWantedItems.read_items.Goals as goal
 
 pub returns-in_err-next-clause-refused : goal.returns-in_err-next-clause-refused
@@ -37,8 +35,7 @@ loop-source-preserved g c = record {
 }
 
 pub returns-clause-ok : goal.returns-clause-ok
-returns-clause-ok g c =
-    takes_parts g.S.Source.stands_before g.S.Source.seq_stands no_part_given
+returns-clause-ok g c = takes_parts g.S.Source.stands_before g.S.Source.seq_stands no_part_given
     (so c.loop-source.invariant.inside (drop_ends g.S.Source.stands_before g.S.Source.seq_stands
     (rw c.if-branch.false at c.in_ok-next.ensures.ok)))
 

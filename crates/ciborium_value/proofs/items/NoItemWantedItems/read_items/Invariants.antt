@@ -1,6 +1,5 @@
 use Rattle.std.proofs.Common.{◌+◌, ◌≤◌}
-use Rattle.ciborium_value.specs.Sources.{TakesOnly}
-use Rattle.ciborium_value.specs.GivenParts.{no_part_given}
+use Rattle.ciborium_value.specs.{Sources.TakesOnly, GivenParts.no_part_given}
 use Rattle.ciborium_value.proofs.Sources.Sequences.{Follows, IsInside, TakesOwed}
 use Rattle.ciborium_value.proofs.items.NoItemWantedItems.read_items.Given as goal
 

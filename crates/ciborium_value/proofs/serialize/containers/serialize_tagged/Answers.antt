@@ -9,6 +9,5 @@ returns-in_err-tag-clause-err g c =
     (g.T.Serialize.written c.args.content.now) c.in_err-tag.ensures.err)
 
 pub returns-clause-err : goal.returns-clause-err
-returns-clause-err g c =
-    on_err_weaker _ (tag_broken g.S.Sink.stands_at g.S.Sink.out c.args.sink.now c.args.tag _ _
+returns-clause-err g c = on_err_weaker _ (tag_broken g.S.Sink.stands_at g.S.Sink.out c.args.sink.now c.args.tag _ _
     (g.T.Serialize.written c.args.content.now) c.in_ok-tag.ensures.ok) c.serialize.ensures.err

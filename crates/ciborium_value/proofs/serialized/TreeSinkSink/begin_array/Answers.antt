@@ -1,9 +1,6 @@
 use Rattle.std.proofs.Common.{ap, ◌∙◌, rules}
-use Rattle.ciborium_value.specs.Places.{sequence}
-use Rattle.ciborium_value.specs.Tree.{array}
-use Rattle.ciborium_value.specs.View.{trees_of}
-use Rattle.ciborium_value.proofs.Writing.TreeSinkSteps.{put_begins}
-use Rattle.ciborium_value.proofs.Trees.Views.{tree_of-Array}
+use Rattle.ciborium_value.specs.{Places.sequence, Tree.array, View.trees_of}
+use Rattle.ciborium_value.proofs.{Writing.TreeSinkSteps.put_begins, Trees.Views.tree_of-Array}
 use Rattle.ciborium_value.proofs.serialized.TreeSinkSink.begin_array.Goals as goal
 
 -- a container of nothing is whole at once

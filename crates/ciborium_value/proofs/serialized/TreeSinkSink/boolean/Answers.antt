@@ -1,7 +1,6 @@
 use Rattle.std.proofs.Common.{◌∙◌}
 use Rattle.ciborium_value.specs.Encoding.{boolean_item}
-use Rattle.ciborium_value.proofs.Writing.TreeSinkSteps.{put_adds, boolean-tree}
-use Rattle.ciborium_value.proofs.Trees.Views.{tree_of-Bool}
+use Rattle.ciborium_value.proofs.{Writing.TreeSinkSteps.{put_adds, boolean-tree}, Trees.Views.tree_of-Bool}
 use Rattle.ciborium_value.proofs.serialized.TreeSinkSink.boolean.Goals as goal
 
 pub returns-clause-ok : goal.returns-clause-ok

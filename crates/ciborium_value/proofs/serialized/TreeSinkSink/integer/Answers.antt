@@ -1,7 +1,5 @@
 use Rattle.std.proofs.Common.{◌≡◌, ◌∙◌, rules}
-use Rattle.ciborium_value.specs.Number.{number_tree}
-use Rattle.ciborium_value.specs.Sinks.{number_item}
-use Rattle.ciborium_value.specs.View.{tree_of}
+use Rattle.ciborium_value.specs.{Number.number_tree, Sinks.number_item, View.tree_of}
 use Rattle.ciborium_value.proofs.Writing.TreeSinkSteps.{put_adds, number-tree}
 use Rattle.ciborium_value.proofs.serialized.TreeSinkSink.integer.Goals as goal
 

@@ -1,6 +1,5 @@
 use Rattle.ciborium_ll.specs.Item.{simple}
-use Rattle.ciborium_value.proofs.Writing.TreeSinkSteps.{put_adds}
-use Rattle.ciborium_value.proofs.Trees.Views.{tree_of-Null}
+use Rattle.ciborium_value.proofs.{Writing.TreeSinkSteps.put_adds, Trees.Views.tree_of-Null}
 use Rattle.ciborium_value.proofs.serialized.TreeSinkSink.null.Goals as goal
 
 pub returns-clause-ok : goal.returns-clause-ok

@@ -1,4 +1,13 @@
 -- `as_tag_mut` cuts the borrow of a tag in two, and lends its number and what its box holds.
+use Rattle.std.proofs.{Common.{◌≡◌, ℕ, List, [], ◌∷◌, rules, refl, sym, ap, ◌∙◌, subst}, raw_atomic.Walks.proved}
+use Rattle.std.specs.{Box.with_value, Prelude.⊤, declared.option.Option.TheVariants.{None, Some}}
+use Rattle.ciborium_value.proofs.{Trees.TagParts.{B, Tag, tag_with, tags, lends_two, then₂}, Trees.Views.tree_of-Tag}
+use Rattle.ciborium_value.proofs.{tree.Value.as_tag_mut.Statement.statement, tree.accessors.lend_content.Met.met}
+use Rattle.ciborium_value.specs.{LentParts.value_with_tag, Tree.Tree, TreeVariants.IsTagTree, Variants.{IsTag, IsTagOf}}
+use Rattle.ciborium_value.specs.{View.{tree_of, level_tree}, contracts.tree.Value.{the_type, the_row as R, enum}}
+use Rattle.ciborium_value.specs.{declared.tree.Value.the_lemmas, declared.tree.Value.TheOpen.Value-F}
+use Rattle.ciborium_value.specs.{declared.tree.Value.TheFolds.map-Value, declared.tree.Value.TheViews.out-Value}
+use Rattle.ciborium_value.specs.declared.tree.Value.TheViews.{roll-Value}
 use Prim.Native.Nat.{◌+◌}
 use base.Fml.{ftrue, flft, GName, fsep, feq, fex}
 use base.Fraction.{full_share}
@@ -37,29 +46,10 @@ use types.Match.{vrt, look_tag, by_variants, live}
 use types.Part.{whole, agg}
 use types.Run.{enter, first, stop, fld, load, addr, exec, no_more, and_then, lit, of_opd, returns, OneOf}
 use types.Tokens.{name_done}
-use Rattle.std.proofs.Common.{◌≡◌, ℕ, List, [], ◌∷◌, rules, refl, sym, ap, ◌∙◌, subst}
-use Rattle.std.proofs.raw_atomic.Walks.{proved}
-use Rattle.std.specs.Box.{with_value}
-use Rattle.std.specs.Prelude.{⊤}
-use Rattle.std.specs.declared.option.Option.TheVariants.{None, Some}
-use Rattle.ciborium_value.proofs.Trees.TagParts.{B, Tag, tag_with, tags, lends_two, then₂}
-use Rattle.ciborium_value.proofs.Trees.Views.{tree_of-Tag}
 use Rattle.ciborium_value.proofs.tree.Value.as_tag_mut.Code as code
-use Rattle.ciborium_value.proofs.tree.Value.as_tag_mut.Statement.{statement}
-use Rattle.ciborium_value.proofs.tree.accessors.lend_content.Met.{met}
-use Rattle.ciborium_value.specs.LentParts.{value_with_tag}
 use Rattle.ciborium_value.specs.Tree as trees
-use Rattle.ciborium_value.specs.Tree.{Tree}
-use Rattle.ciborium_value.specs.TreeVariants.{IsTagTree}
-use Rattle.ciborium_value.specs.Variants.{IsTag, IsTagOf}
-use Rattle.ciborium_value.specs.View.{tree_of, level_tree}
-use Rattle.ciborium_value.specs.contracts.tree.Value.{the_type, the_row as R, enum}
 use Rattle.ciborium_value.specs.contracts.tree.Value.as_tag_mut as f
 use Rattle.ciborium_value.specs.contracts.tree.accessors.lend_content as g
-use Rattle.ciborium_value.specs.declared.tree.Value.{the_lemmas}
-use Rattle.ciborium_value.specs.declared.tree.Value.TheOpen.{Value-F}
-use Rattle.ciborium_value.specs.declared.tree.Value.TheFolds.{map-Value}
-use Rattle.ciborium_value.specs.declared.tree.Value.TheViews.{out-Value, roll-Value}
 
 abbrev none_val : Val
 none_val = vstruct (vcons (vint w8 0) vnil)
@@ -70,8 +60,7 @@ stayed = (stay_dropped (mut_ref_to (0 ∷ []) tt (plain (λ _. R))) no, tt)
 none_in : {M : Type 1} {𝓤 : Ura M} (𝓛 : Logic 𝓤) (κs : Lfts 1) →
     ent 𝓤 (emp 𝓤) (sem 𝓛 ((type_at f.signature.result κs).own_val None (none_val ∷ [])))
 none_in 𝓛 κs = qed 𝓛 (‵ ftrue ∷ []) ∵ feq_i ! (List Val) [] [] refl $ fjoin ! $ fpack ! (Valss [])
-    (in_a_row [] (owns [] tt) []) tt $
-    feq_i ! (List Val) (none_val ∷ []) (live 0 (of_list []) ∷ []) refl $ fjoin ! $
+    (in_a_row [] (owns [] tt) []) tt $ feq_i ! (List Val) (none_val ∷ []) (live 0 (of_list []) ∷ []) refl $ fjoin ! $
     fpack ! (List Val) (λ (us : List Val). fsep (feq (List Val) (none_val ∷ []) (live 0 (of_list us) ∷ []))
     (fex (Valss []) (in_a_row [] (owns [] tt) us))) [] $ done !
 

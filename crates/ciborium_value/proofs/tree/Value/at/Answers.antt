@@ -1,8 +1,6 @@
 use Rattle.std.proofs.Common.{ap, sym, ◌∙◌}
-use Rattle.ciborium_value.specs.Lookups.{tree_at, nth_tree}
-use Rattle.ciborium_value.specs.View.{tree_of, trees_of}
-use Rattle.ciborium_value.proofs.Trees.LookedUp.{nth_got}
-use Rattle.ciborium_value.proofs.Trees.Views.{tree_of-Array}
+use Rattle.ciborium_value.specs.{Lookups.{tree_at, nth_tree}, View.{tree_of, trees_of}}
+use Rattle.ciborium_value.proofs.{Trees.LookedUp.nth_got, Trees.Views.tree_of-Array}
 use Rattle.ciborium_value.proofs.tree.Value.at.Goals as goal
 
 pub returns-in-Array : goal.returns-in-Array

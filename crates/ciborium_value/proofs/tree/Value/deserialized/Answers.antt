@@ -1,9 +1,7 @@
 -- The source begins before the item of the value, with nothing around it.
 use Rattle.std.proofs.Common.{None, [], refl}
-use Rattle.ciborium_value.specs.Ahead.{bottom}
-use Rattle.ciborium_value.specs.TreeAnswers.{value_item}
-use Rattle.ciborium_value.proofs.Sources.TreeFaults.{error_fault}
-use Rattle.ciborium_value.proofs.Sources.TreeReading.{if_ok_so, if_err_so}
+use Rattle.ciborium_value.specs.{Ahead.bottom, TreeAnswers.value_item}
+use Rattle.ciborium_value.proofs.{Sources.TreeFaults.error_fault, Sources.TreeReading.{if_ok_so, if_err_so}}
 use Rattle.ciborium_value.proofs.tree.Value.deserialized.Goals as goal
 
 pub returns-clause-ok : goal.returns-clause-ok

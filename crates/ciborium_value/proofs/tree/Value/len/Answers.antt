@@ -1,6 +1,5 @@
 use Rattle.std.proofs.Common.{Some, ap, sym, ◌∙◌}
-use Rattle.ciborium_value.specs.Lookups.{parts_of}
-use Rattle.ciborium_value.specs.View.{tree_of}
+use Rattle.ciborium_value.specs.{Lookups.parts_of, View.tree_of}
 use Rattle.ciborium_value.proofs.Trees.Views.{tree_of-Array, tree_of-Map, tree_pairs_count-tree_pairs_of}
 use Rattle.ciborium_value.proofs.Trees.Views.{trees_count-trees_of}
 use Rattle.ciborium_value.proofs.tree.Value.len.Goals as goal
@@ -12,6 +11,5 @@ returns-in-Array c =
 
 pub returns-in-Map : goal.returns-in-Map
 returns-in-Map c =
-    ap Some (c.len-in-Map.ensures ∙ c.in-Map.pairs.ok.0 ∙
-    sym (tree_pairs_count-tree_pairs_of c.in-Map.pairs.items)) ∙
+    ap Some (c.len-in-Map.ensures ∙ c.in-Map.pairs.ok.0 ∙ sym (tree_pairs_count-tree_pairs_of c.in-Map.pairs.items)) ∙
     sym (ap parts_of (ap tree_of c.in-Map.is ∙ tree_of-Map c.in-Map.pairs))

@@ -1,7 +1,5 @@
 use Rattle.std.proofs.Common.{get_or, rules}
-use Rattle.ciborium_value.specs.Lookups.{tree_label}
-use Rattle.ciborium_value.specs.View.{tree_of}
-use Rattle.ciborium_value.specs.declared.tree.Value.{the_lemmas}
+use Rattle.ciborium_value.specs.{Lookups.tree_label, View.tree_of, declared.tree.Value.the_lemmas}
 use Rattle.ciborium_value.proofs.Trees.Replaced.{last_with-set, last_with-set_other, no_other, tree_pairs_of-set}
 use Rattle.ciborium_value.proofs.Trees.Views.{tree_of-Map}
 use Rattle.ciborium_value.proofs.tree.Value.replace.Goals as goal

@@ -1,8 +1,7 @@
 use Rattle.std.proofs.Common.{rules}
 use Rattle.ciborium_value.specs.declared.tree.Value.{the_lemmas}
-use Rattle.ciborium_value.proofs.Trees.LookedUp.{nth_within, nth_past}
-use Rattle.ciborium_value.proofs.Trees.Replaced.{nth_tree-set, nth_tree-set_other, trees_of-set}
-use Rattle.ciborium_value.proofs.Trees.Views.{tree_of-Array}
+use Rattle.ciborium_value.proofs.{Trees.LookedUp.{nth_within, nth_past}, Trees.Replaced.nth_tree-set}
+use Rattle.ciborium_value.proofs.{Trees.Replaced.{nth_tree-set_other, trees_of-set}, Trees.Views.tree_of-Array}
 use Rattle.ciborium_value.proofs.tree.Value.replace_at.Goals as goal
 
 pub returns-in-Some-clause-ok : goal.returns-in-Some-clause-ok

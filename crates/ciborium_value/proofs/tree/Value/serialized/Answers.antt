@@ -1,7 +1,6 @@
 -- At the end the whole tree is there.
 use Rattle.std.proofs.Common.{◌≡◌, None, Some, refl, sym, ◌∙◌, subst}
-use Rattle.ciborium_value.specs.TreeAnswers.{IsTreeOf}
-use Rattle.ciborium_value.specs.declared.serialized.TreeSink.{TreeSink}
+use Rattle.ciborium_value.specs.{TreeAnswers.IsTreeOf, declared.serialized.TreeSink.TreeSink}
 use Rattle.ciborium_value.proofs.Writing.TreeSinkSteps.{begins_empty, ends_whole, some_is}
 use Rattle.ciborium_value.proofs.tree.Value.serialized.Goals as goal
 

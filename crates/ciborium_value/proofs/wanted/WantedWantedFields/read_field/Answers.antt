@@ -1,10 +1,8 @@
 -- A place behind the first field is one of the fields behind it.
-use Rattle.std.proofs.Common.{ap, ◌∙◌}
-use Rattle.std.proofs.lemmas.Result.{on_ok_weaker}
+use Rattle.std.proofs.{Common.{ap, ◌∙◌}, lemmas.Result.on_ok_weaker}
 use Rattle.std.specs.Option.{option_map}
 use Rattle.ciborium_value.specs.Given.{outcome_map}
-use Rattle.ciborium_value.proofs.Sources.NamedFields.{behind_first}
-use Rattle.ciborium_value.proofs.Sources.Sequences.{fault_map}
+use Rattle.ciborium_value.proofs.{Sources.NamedFields.behind_first, Sources.Sequences.fault_map}
 use Rattle.ciborium_value.proofs.Sources.TreeReading.{if_err_so}
 use Rattle.ciborium_value.proofs.wanted.WantedWantedFields.read_field.Goals as goal
 

@@ -1,13 +1,10 @@
-use Rattle.std.proofs.Common.{refl, ◌∙◌, arith, subst}
-use Rattle.std.proofs.lemmas.Result.{err_from_is_err_and}
-use Rattle.ciborium_value.specs.declared.kind.Kind.TheVariants as kinds
+use Rattle.std.proofs.{Common.{refl, ◌∙◌, arith, subst}, lemmas.Result.err_from_is_err_and}
 use Rattle.ciborium_value.specs.Sources.{of_kind}
-use Rattle.ciborium.specs.inner.ByteSources.{IsUnread, end_at, fault_at}
-use Rattle.ciborium.specs.inner.FrontItems.{TakesHead}
+use Rattle.ciborium.specs.{inner.ByteSources.{IsUnread, end_at, fault_at}, inner.FrontItems.TakesHead}
 use Rattle.ciborium.specs.inner.Skips.{IsEndTag}
-use Rattle.ciborium.proofs.Items.FrontReads.{weighs-none}
-use Rattle.ciborium.proofs.Items.SkippedTags.{skips-none, skips-more, denies-item, denies-break}
-use Rattle.ciborium.proofs.Items.TakenOnly.{same-end}
+use Rattle.ciborium.proofs.{Items.FrontReads.weighs-none, Items.SkippedTags.{skips-none, skips-more, denies-item}}
+use Rattle.ciborium.proofs.{Items.SkippedTags.denies-break, Items.TakenOnly.same-end}
+use Rattle.ciborium_value.specs.declared.kind.Kind.TheVariants as kinds
 use Rattle.ciborium.proofs.de.byte_source.ByteSource.behind_tags.Goals as goal
 
 pub tags-init : goal.tags-init

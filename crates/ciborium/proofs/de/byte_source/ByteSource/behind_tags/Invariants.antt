@@ -1,8 +1,7 @@
 use Rattle.std.proofs.Common.{◌≡◌, ◌≤◌}
 use Rattle.ciborium_ll.specs.Decoding.{HasSameReader}
 use Rattle.ciborium_value.specs.Sources.{TakesOnly}
-use Rattle.ciborium.specs.inner.ByteSources.{HasTaken, IsUnread, weight_left}
-use Rattle.ciborium.specs.inner.Skips.{Skips}
+use Rattle.ciborium.specs.{inner.ByteSources.{HasTaken, IsUnread, weight_left}, inner.Skips.Skips}
 use Rattle.ciborium.proofs.de.byte_source.ByteSource.behind_tags.Given as goal
 
 abbrev pub invariant-tags : goal.invariant-tags

@@ -1,8 +1,7 @@
 use Rattle.std.proofs.lemmas.Result.{err_from_is_err_and}
 use Rattle.ciborium_ll.specs.StringRefusal.{of_bytes}
-use Rattle.ciborium.proofs.Payloads.SpelledStrings.{content-denied}
-use Rattle.ciborium.proofs.Payloads.StringPayloads.{content-taken, content-fewer}
-use Rattle.ciborium.proofs.Items.TakenOnly.{takes-only}
+use Rattle.ciborium.proofs.{Payloads.SpelledStrings.content-denied, Payloads.StringPayloads.content-taken}
+use Rattle.ciborium.proofs.{Payloads.StringPayloads.content-fewer, Items.TakenOnly.takes-only}
 use Rattle.ciborium.proofs.de.byte_source.ByteSource.bytes_content.Goals as goal
 
 pub returns-in_err-bytes_into_keeping-clause-denied : goal.returns-in_err-bytes_into_keeping-clause-denied
@@ -14,8 +13,7 @@ returns-in_err-bytes_into_keeping-clause-denied g c =
     c.in_err-bytes_into_keeping.ensures.refused c.in_err-bytes_into_keeping.ensures.ended)
 
 pub returns-clause-ok : goal.returns-clause-ok
-returns-clause-ok g c =
-    content-taken Unit g.A.Access.remaining c.args.self.now.decoder c.bytes_into_keeping.new.self
+returns-clause-ok g c = content-taken Unit g.A.Access.remaining c.args.self.now.decoder c.bytes_into_keeping.new.self
     c.args.self.now.pending
     of_bytes c.args.len c.new-out.result.items c.bytes_into_keeping.new.out.items c.requires c.new-out.ensures.items
     c.in_ok-bytes_into_keeping.ensures.taken
@@ -33,5 +31,4 @@ returns-in_err-bytes_into_keeping-clause-only g c = takes-only g.A.Access.remain
 
 pub returns-clause-only : goal.returns-clause-only
 returns-clause-only g c = takes-only g.A.Access.remaining c.args.self.now.decoder c.bytes_into_keeping.new.self _
-    c.in_ok-bytes_into_keeping.ensures.same_reader
-    c.in_ok-bytes_into_keeping.ensures.taken
+    c.in_ok-bytes_into_keeping.ensures.same_reader c.in_ok-bytes_into_keeping.ensures.taken

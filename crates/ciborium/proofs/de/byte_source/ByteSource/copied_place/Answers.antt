@@ -1,7 +1,5 @@
-use Rattle.std.proofs.Common.{◌∙◌, subst, length-take-le}
-use Rattle.std.proofs.lemmas.Result.{err_from_is_err_and}
-use Rattle.ciborium.specs.inner.ByteSources.{IsUnread, end_at, fault_at}
-use Rattle.ciborium.specs.inner.StringContents.{DeniesJust}
+use Rattle.std.proofs.{Common.{◌∙◌, subst, length-take-le}, lemmas.Result.err_from_is_err_and}
+use Rattle.ciborium.specs.{inner.ByteSources.{IsUnread, end_at, fault_at}, inner.StringContents.DeniesJust}
 use Rattle.ciborium_ll.specs.StringRefusal.{of_text}
 use Rattle.ciborium_value.specs.Sources.{of_syntax}
 use Rattle.ciborium.proofs.Payloads.ShortNames.{just-denied, no-text-denied}
@@ -19,6 +17,5 @@ returns-in_err-fill-clause-denied g c =
 pub returns-in-Err-clause-denied : goal.returns-in-Err-clause-denied
 returns-in-Err-clause-denied g c =
     no-text-denied (IsUnread g.A.Access.remaining c.args.self.now) (end_at g.A.Access.remaining c.args.self.now)
-    c.args.n
-    of_syntax (IsUnread g.A.Access.remaining c.fill.new.self) c.fill.new.buffer
+    c.args.n of_syntax (IsUnread g.A.Access.remaining c.fill.new.self) c.fill.new.buffer
     (c.fill.auto.buffer ∙ length-take-le c.args.n _ c.requires.short) c.in-Err.ensures.cases.0 c.in_ok-fill.ensures.ok

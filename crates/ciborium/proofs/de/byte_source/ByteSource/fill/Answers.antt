@@ -1,10 +1,7 @@
-use Rattle.std.proofs.Common.{arith, subst, false}
+use Rattle.std.proofs.{Common.{arith, subst, false}, lemmas.Result.err_from_is_err_and}
 use Rattle.ciborium_ll.specs.Accesses.{left_at_failure}
-use Rattle.ciborium.proofs.Items.FrontReads.{granted-fill}
-use Rattle.ciborium.proofs.Payloads.LoneCharacters.{just-taken}
-use Rattle.ciborium.proofs.Payloads.ReadDigits.{fill-fewer, fill-outside}
-use Rattle.ciborium.proofs.Items.TakenOnly.{takes-only}
-use Rattle.std.proofs.lemmas.Result.{err_from_is_err_and}
+use Rattle.ciborium.proofs.{Items.FrontReads.granted-fill, Payloads.LoneCharacters.just-taken}
+use Rattle.ciborium.proofs.{Payloads.ReadDigits.{fill-fewer, fill-outside}, Items.TakenOnly.takes-only}
 use Rattle.ciborium.specs.inner.ByteSources.{IsUnreadBy}
 use Rattle.ciborium.proofs.de.byte_source.ByteSource.fill.Goals as goal
 
@@ -13,8 +10,7 @@ returns-clause-ok g c = just-taken Unit g.A.Access.remaining c.args.self.now.dec
     c.args.self.now.pending c.read_exact_keeping.new.buffer c.requires c.in_ok-read_exact_keeping.ensures.taken
 
 pub returns-clause-fewer : goal.returns-clause-fewer
-returns-clause-fewer g c =
-    fill-fewer Unit g.A.Access.remaining c.args.self.now.decoder c.read_exact_keeping.new.self
+returns-clause-fewer g c = fill-fewer Unit g.A.Access.remaining c.args.self.now.decoder c.read_exact_keeping.new.self
     c.read_exact_keeping.new.buffer c.in_ok-read_exact_keeping.ensures.taken
 
 pub returns-in_err-read_exact_keeping-clause-only : goal.returns-in_err-read_exact_keeping-clause-only
@@ -24,8 +20,7 @@ returns-in_err-read_exact_keeping-clause-only g c = takes-only g.A.Access.remain
 
 pub returns-clause-only : goal.returns-clause-only
 returns-clause-only g c = takes-only g.A.Access.remaining c.args.self.now.decoder c.read_exact_keeping.new.self _
-    c.in_ok-read_exact_keeping.ensures.same_reader
-    c.in_ok-read_exact_keeping.ensures.taken
+    c.in_ok-read_exact_keeping.ensures.same_reader c.in_ok-read_exact_keeping.ensures.taken
 
 pub returns-in_err-read_exact_keeping-clause-outside : goal.returns-in_err-read_exact_keeping-clause-outside
 returns-in_err-read_exact_keeping-clause-outside g c =

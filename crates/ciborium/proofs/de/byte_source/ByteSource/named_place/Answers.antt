@@ -1,20 +1,16 @@
-use Rattle.std.proofs.Common.{◌≡◌, ◌∙◌, ap, sym, Some, false, subst}
-use Rattle.std.proofs.lemmas.Result.{err_from_is_err_and}
+use Rattle.std.proofs.{Common.{◌≡◌, ◌∙◌, ap, sym, Some, false, subst}, lemmas.Result.err_from_is_err_and}
 use Rattle.std.specs.Str.{IsUtf8}
 use Rattle.ciborium_ll.specs.StringRefusal.{of_bytes, of_text}
-use Rattle.ciborium_value.specs.Given.{bare_name, gives, outcome_map, given_name, outcome, settled}
-use Rattle.ciborium_value.specs.Sources.{of_kind}
-use Rattle.ciborium_value.specs.declared.kind.Kind.TheVariants as kinds
-use Rattle.ciborium_value.proofs.Sources.Sequences.{fault_map}
-use Rattle.ciborium_value.specs.Labels.{name_place, placed}
-use Rattle.ciborium_value.specs.declared.labels.LabelKind.TheVariants.{Name}
-use Rattle.ciborium.specs.inner.ByteSources.{IsUnread, end_at, fault_at}
-use Rattle.ciborium.specs.inner.Skips.{TakesBare}
-use Rattle.ciborium.specs.inner.StringContents.{string_item}
+use Rattle.ciborium_value.specs.{Given.{bare_name, gives, outcome_map, given_name, outcome, settled}, Sources.of_kind}
+use Rattle.ciborium_value.specs.{Labels.{name_place, placed}, declared.labels.LabelKind.TheVariants.Name}
 use Rattle.ciborium_value.specs.Places.{is_open}
+use Rattle.ciborium_value.proofs.Sources.Sequences.{fault_map}
+use Rattle.ciborium.specs.{inner.ByteSources.{IsUnread, end_at, fault_at}, inner.Skips.TakesBare}
+use Rattle.ciborium.specs.inner.StringContents.{string_item}
 use Rattle.ciborium.proofs.Containers.NamedVariants.{bytes-name, bytes-no-name, name-other}
-use Rattle.ciborium.proofs.Items.SkippedTags.{untagged-under}
-use Rattle.ciborium.proofs.Items.BareHeads.{head-denied, other-denied, string-denied, string-read}
+use Rattle.ciborium.proofs.{Items.SkippedTags.untagged-under, Items.BareHeads.{head-denied, other-denied}}
+use Rattle.ciborium.proofs.Items.BareHeads.{string-denied, string-read}
+use Rattle.ciborium_value.specs.declared.kind.Kind.TheVariants as kinds
 use Rattle.ciborium.proofs.de.byte_source.ByteSource.named_place.Goals as goal
 
 pub returns-in_err-header-clause-answer : goal.returns-in_err-header-clause-answer
@@ -71,8 +67,7 @@ returns-in-Ok-clause-answer g c =
     ap (outcome_map place) (bytes-name ts l (is_open c.in-Bytes.len) payload utf8) ∙ ap gives (sym found))
 
 pub returns-in-Bytes-clause-answer : goal.returns-in-Bytes-clause-answer
-returns-in-Bytes-clause-answer g c b s z i end u sp e fits =
-    fault_map end (of_kind kinds.Name)
+returns-in-Bytes-clause-answer g c b s z i end u sp e fits = fault_map end (of_kind kinds.Name)
     (name_place (g.N.Labels.place_of c.args.labels.now)) (outcome (Some c.args.self.now.levels) (given_name i))
     (bytes-no-name (IsUnread g.A.Access.remaining) (end_at g.A.Access.remaining) c.args.self.now c.bare_head.new.self
     c.bytes_content.new.self c.in-Bytes.len (Some c.args.self.now.levels) c.in_ok-bytes-in-Bytes.bytes.items

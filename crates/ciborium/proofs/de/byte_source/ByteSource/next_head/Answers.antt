@@ -1,13 +1,10 @@
-use Rattle.std.proofs.Common.{◌∙◌, sym, subst, ◌≡◌, ◌≤◌, arith, false, ◌+◌}
-use Rattle.std.proofs.lemmas.Result.{err_from_is_err_and}
-use Rattle.ciborium.specs.inner.ByteSources.{IsUnreadBy, bytes_weight, weight_left, known_end}
+use Rattle.std.proofs.{Common.{◌∙◌, sym, subst, ◌≡◌, ◌≤◌, arith, false, ◌+◌}, lemmas.Result.err_from_is_err_and}
+use Rattle.ciborium.specs.{inner.ByteSources.{IsUnreadBy, bytes_weight, weight_left, known_end}, Errors.from_ll}
 use Rattle.ciborium.proofs.Items.FrontReads.{ahead-unpushed, counted-pending, counted-pulled, fewer-bytes, head-outside}
 use Rattle.ciborium.proofs.Items.FrontReads.{ended-ll, failed-fault, granted-head, weighs-none}
-use Rattle.ciborium_ll.specs.Accesses.{left_at_failure}
-use Rattle.ciborium_ll.specs.Decoding.{left_of}
 use Rattle.ciborium.proofs.Items.TakenOnly.{takes-only}
+use Rattle.ciborium_ll.specs.{Accesses.left_at_failure, Decoding.left_of}
 use Rattle.ciborium_value.specs.Sources.{IsOutsideFault}
-use Rattle.ciborium.specs.Errors.{from_ll}
 use Rattle.ciborium.proofs.de.byte_source.ByteSource.next_head.Goals as goal
 
 pub returns-in_err-header-clause-denied : goal.returns-in_err-header-clause-denied
@@ -75,5 +72,4 @@ returns-in_err-header-clause-only g c = takes-only g.A.Access.remaining c.args.s
 
 pub returns-clause-only : goal.returns-clause-only
 returns-clause-only g c = takes-only g.A.Access.remaining c.args.self.now.decoder c.pull_next_keeping.new.self _
-    c.in_ok-header.ensures.same_reader
-    c.in_ok-header.ensures.taken
+    c.in_ok-header.ensures.same_reader c.in_ok-header.ensures.taken

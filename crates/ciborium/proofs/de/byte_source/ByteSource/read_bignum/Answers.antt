@@ -1,13 +1,10 @@
-use Rattle.std.proofs.Common.{subst}
-use Rattle.std.proofs.lemmas.Result.{err_from_is_err_and}
-use Rattle.ciborium_value.specs.declared.kind.Kind.TheVariants as kinds
+use Rattle.std.proofs.{Common.subst, lemmas.Result.err_from_is_err_and}
 use Rattle.ciborium_value.specs.Sources.{of_kind}
-use Rattle.ciborium.specs.inner.ByteSources.{IsUnread, end_at, fault_at}
-use Rattle.ciborium.specs.inner.FrontItems.{TakesHead}
+use Rattle.ciborium.specs.{inner.ByteSources.{IsUnread, end_at, fault_at}, inner.FrontItems.TakesHead}
 use Rattle.ciborium.specs.inner.StringContents.{TakesNumber}
 use Rattle.ciborium.proofs.Payloads.OpenNumbers.{bignum-reads, bignum-large, bignum-content, bignum-no-head}
-use Rattle.ciborium.proofs.Payloads.OpenNumbers.{bignum-break, bignum-other}
-use Rattle.ciborium.proofs.Items.TakenOnly.{same-end}
+use Rattle.ciborium.proofs.{Payloads.OpenNumbers.{bignum-break, bignum-other}, Items.TakenOnly.same-end}
+use Rattle.ciborium_value.specs.declared.kind.Kind.TheVariants as kinds
 use Rattle.ciborium.proofs.de.byte_source.ByteSource.read_bignum.Goals as goal
 
 pub returns-in_err-header-clause-answer : goal.returns-in_err-header-clause-answer

@@ -1,4 +1,4 @@
-use Rattle.std.proofs.Common.{◌≡◌, Bool, true, false, MatchBool, Some, refl, sym, ◌∙◌, subst, arith}
+use Rattle.std.proofs.Common.{◌≡◌, Bool, true, false, MatchBool, Some, sym, subst, arith}
 use Rattle.std.proofs.lemmas.Result.{err_from_is_err_and}
 use Rattle.ciborium_ll.specs.Accesses.{left_at_failure}
 use Rattle.ciborium_value.specs.Sources.{GoesOn, Leaves, OwesLess, OwesNothing, TakesAhead, TakesTo}
@@ -17,7 +17,6 @@ no_more P Q t e h = subst (λ b. MatchBool b P Q) e h
 
 pub items-init : goal.items-init
 items-init g c = record {
-  same_reader = refl;
   only = λ first h. h;
   fewer = omega arith;
   read = subst (λ vs. ReadsPartly g.A.Access.remaining given_byte c.args.self.now c.args.seq c.args.self.now c.args.seq
@@ -29,88 +28,86 @@ pub returns-in_err-goes_on-clause-refused : goal.returns-in_err-goes_on-clause-r
 returns-in_err-goes_on-clause-refused g c =
     let exit = err_from_is_err_and c.from_residual.result c.from_residual.ensures.1 in
     rw (exit.1, exit.2) (partly-next-fault g.A.Access.remaining given_byte c.args.self.now c.args.seq c.items.self
-    c.items.left c.items.bytes.items (fault_at g.A.Access.can_fail g.A.Access.remaining c.next_part.new.self
+    c.items.left c.items.bytes.items (fault_at g.A.Access.can_fail g.A.Access.remaining c.next.new.self
     c.in_err-goes_on.field-0.0)
     c.items.invariant.read
     c.in_err-goes_on.ensures.refused)
 
 pub returns-then-not-goes_on-clause-ok : goal.returns-then-not-goes_on-clause-ok
 returns-then-not-goes_on-clause-ok g c =
-    partly-end g.A.Access.remaining given_byte c.args.self.now c.args.seq c.items.self c.next_part.new.self c.items.left
+    partly-end g.A.Access.remaining given_byte c.args.self.now c.args.seq c.items.self c.next.new.self c.items.left
     c.items.bytes.items c.items.invariant.read
-    (no_more (GoesOn (StandsBefore g.A.Access.remaining) SeqStands c.items.self c.next_part.new.self c.items.left
-    c.next_part.new.seq) (Leaves (StandsBefore g.A.Access.remaining) SeqStands c.items.self c.next_part.new.self
-    c.items.left)
+    (no_more (GoesOn (StandsBefore g.A.Access.remaining) SeqStands c.items.self c.next.new.self c.items.left
+    c.next.new.seq) (Leaves (StandsBefore g.A.Access.remaining) SeqStands c.items.self c.next.new.self c.items.left)
     c.in_ok-goes_on.goes_on c.if-not-goes_on.true c.in_ok-goes_on.ensures.ok)
 
 pub returns-then-not-goes_on-clause-took : goal.returns-then-not-goes_on-clause-took
 returns-then-not-goes_on-clause-took g c =
-    owes-end g.A.Access.remaining given_byte c.args.self.now c.args.seq c.items.self c.next_part.new.self c.items.left
-    c.items.invariant.owes
-    (no_more (TakesTo (IsUnread g.A.Access.remaining) c.items.self c.next_part.new.self
-    (OwesLess SeqOwes c.items.left c.next_part.new.seq))
-    (TakesTo (IsUnread g.A.Access.remaining) c.items.self c.next_part.new.self (OwesNothing SeqOwes c.items.left))
+    owes-end g.A.Access.remaining given_byte c.args.self.now c.args.seq c.items.self c.next.new.self c.items.left
+    c.items.invariant.owes (no_more (TakesTo (IsUnread g.A.Access.remaining) c.items.self c.next.new.self
+    (OwesLess SeqOwes c.items.left c.next.new.seq))
+    (TakesTo (IsUnread g.A.Access.remaining) c.items.self c.next.new.self (OwesNothing SeqOwes c.items.left))
     c.in_ok-goes_on.goes_on c.if-not-goes_on.true c.in_ok-goes_on.ensures.took)
 
 pub returns-in_err-number-clause-refused : goal.returns-in_err-number-clause-refused
 returns-in_err-number-clause-refused g c =
     let exit = err_from_is_err_and c.from_residual-in_err-number.result c.from_residual-in_err-number.ensures.1 in
     let fault = fault_at g.A.Access.can_fail g.A.Access.remaining c.read_integer.new.self c.in_err-number.field-0.0 in
-    let goes = yes (GoesOn (StandsBefore g.A.Access.remaining) SeqStands c.items.self c.next_part.new.self c.items.left
-    c.next_part.new.seq) (Leaves (StandsBefore g.A.Access.remaining) SeqStands c.items.self c.next_part.new.self
+    let goes = yes (GoesOn (StandsBefore g.A.Access.remaining) SeqStands c.items.self c.next.new.self c.items.left
+    c.next.new.seq) (Leaves (StandsBefore g.A.Access.remaining) SeqStands c.items.self c.next.new.self
     c.items.left)
     c.in_ok-goes_on.goes_on c.if-not-goes_on.false c.in_ok-goes_on.ensures.ok in
     rw (exit.1, exit.2) (partly-fault g.A.Access.remaining given_byte c.args.self.now c.args.seq c.items.self
-    c.next_part.new.self c.items.left c.next_part.new.seq c.items.bytes.items fault c.items.invariant.read goes
-    (byte-refuses g.A.Access.remaining c.next_part.new.self fault
-    (refuses-denied g.A.Access.remaining c.next_part.new.self given_integer fault c.in_err-number.ensures.answer)))
+    c.next.new.self c.items.left c.next.new.seq c.items.bytes.items fault c.items.invariant.read goes
+    (byte-refuses g.A.Access.remaining c.next.new.self fault
+    (refuses-denied g.A.Access.remaining c.next.new.self given_integer fault c.in_err-number.ensures.answer)))
 
 pub returns-in_err-byte-clause-refused : goal.returns-in_err-byte-clause-refused
 returns-in_err-byte-clause-refused g c =
     let exit = err_from_is_err_and c.from_residual-in_err-byte.result c.from_residual-in_err-byte.ensures.1 in
     let fault = fault_at g.A.Access.can_fail g.A.Access.remaining c.read_integer.new.self c.in_err-byte.field-0.0 in
     let read = c.in_ok-number.ensures in
-    let goes = yes (GoesOn (StandsBefore g.A.Access.remaining) SeqStands c.items.self c.next_part.new.self c.items.left
-    c.next_part.new.seq) (Leaves (StandsBefore g.A.Access.remaining) SeqStands c.items.self c.next_part.new.self
+    let goes = yes (GoesOn (StandsBefore g.A.Access.remaining) SeqStands c.items.self c.next.new.self c.items.left
+    c.next.new.seq) (Leaves (StandsBefore g.A.Access.remaining) SeqStands c.items.self c.next.new.self
     c.items.left)
     c.in_ok-goes_on.goes_on c.if-not-goes_on.false c.in_ok-goes_on.ensures.ok in
     rw (exit.1, exit.2) (partly-fault g.A.Access.remaining given_byte c.args.self.now c.args.seq c.items.self
-    c.next_part.new.self c.items.left c.next_part.new.seq c.items.bytes.items fault c.items.invariant.read goes
-    (range-refuses g.A.Access.remaining c.next_part.new.self c.read_integer.new.self c.in_ok-number.number fault
+    c.next.new.self c.items.left c.next.new.seq c.items.bytes.items fault c.items.invariant.read goes
+    (range-refuses g.A.Access.remaining c.next.new.self c.read_integer.new.self c.in_ok-number.number fault
     (c.in_err-byte.ensures.refused
     (left_at_failure g.A.Access.can_fail (g.A.Access.remaining c.read_integer.new.self.decoder.reader.now)))
-    (takes-read g.A.Access.remaining c.next_part.new.self c.read_integer.new.self given_integer c.in_ok-number.number
+    (takes-read g.A.Access.remaining c.next.new.self c.read_integer.new.self given_integer c.in_ok-number.number
     (read.keeps.same_reader, read.keeps.only) read.keeps.levels read.keeps.pending read.answer)))
 
 pub items-preserved : goal.items-preserved
 items-preserved g c =
     let read = c.in_ok-number.ensures in
-    let goes = yes (GoesOn (StandsBefore g.A.Access.remaining) SeqStands c.items.self c.next_part.new.self c.items.left
-    c.next_part.new.seq) (Leaves (StandsBefore g.A.Access.remaining) SeqStands c.items.self c.next_part.new.self
+    let goes = yes (GoesOn (StandsBefore g.A.Access.remaining) SeqStands c.items.self c.next.new.self c.items.left
+    c.next.new.seq) (Leaves (StandsBefore g.A.Access.remaining) SeqStands c.items.self c.next.new.self
     c.items.left)
     c.in_ok-goes_on.goes_on c.if-not-goes_on.false c.in_ok-goes_on.ensures.ok in
-    let less = yes (TakesTo (IsUnread g.A.Access.remaining) c.items.self c.next_part.new.self
-    (OwesLess SeqOwes c.items.left c.next_part.new.seq))
-    (TakesTo (IsUnread g.A.Access.remaining) c.items.self c.next_part.new.self (OwesNothing SeqOwes c.items.left))
+    let less = yes (TakesTo (IsUnread g.A.Access.remaining) c.items.self c.next.new.self
+    (OwesLess SeqOwes c.items.left c.next.new.seq))
+    (TakesTo (IsUnread g.A.Access.remaining) c.items.self c.next.new.self (OwesNothing SeqOwes c.items.left))
     c.in_ok-goes_on.goes_on c.if-not-goes_on.false c.in_ok-goes_on.ensures.took in
-    let takes : TakesAhead (StandsBefore g.A.Access.remaining) c.next_part.new.self c.read_integer.new.self given_byte
+    let takes : TakesAhead (StandsBefore g.A.Access.remaining) c.next.new.self c.read_integer.new.self given_byte
     c.in_ok-byte.byte =
-    byte-takes g.A.Access.remaining c.next_part.new.self c.read_integer.new.self c.in_ok-number.number c.in_ok-byte.byte
+    byte-takes g.A.Access.remaining c.next.new.self c.read_integer.new.self c.in_ok-number.number c.in_ok-byte.byte
     c.in_ok-byte.ensures.ok
-    (takes-read g.A.Access.remaining c.next_part.new.self c.read_integer.new.self given_integer c.in_ok-number.number
+    (takes-read g.A.Access.remaining c.next.new.self c.read_integer.new.self given_integer c.in_ok-number.number
     (read.keeps.same_reader, read.keeps.only) read.keeps.levels read.keeps.pending read.answer) in
     record {
-      same_reader = read.keeps.same_reader ∙ c.in_ok-goes_on.ensures.same_reader ∙ c.items.invariant.same_reader;
-      only = λ first h. read.keeps.only first (c.in_ok-goes_on.ensures.only first (c.items.invariant.only first h));
-      fewer = omega (arith, read.keeps.fewer, c.in_ok-goes_on.ensures.fewer, c.items.invariant.fewer);
+      only = λ first h. read.keeps.only first.decoder
+          (c.in_ok-goes_on.ensures.only first (c.items.invariant.only first h));
+      fewer = omega (arith, read.keeps.fewer, c.in_ok-goes_on.ensures.less, c.items.invariant.fewer);
       read = subst (λ vs. ReadsPartly g.A.Access.remaining given_byte c.args.self.now c.args.seq c.read_integer.new.self
-          c.next_part.new.seq vs) (sym c.in-Ok.ensures.items)
-          (partly-more g.A.Access.remaining given_byte c.args.self.now c.args.seq c.items.self c.next_part.new.self
-          c.read_integer.new.self c.items.left c.next_part.new.seq c.items.bytes.items c.in_ok-byte.byte
+          c.next.new.seq vs) (sym c.in-Ok.ensures.items)
+          (partly-more g.A.Access.remaining given_byte c.args.self.now c.args.seq c.items.self c.next.new.self
+          c.read_integer.new.self c.items.left c.next.new.seq c.items.bytes.items c.in_ok-byte.byte
           c.items.invariant.read goes takes);
-      owes = owes-more g.A.Access.remaining given_byte c.args.self.now c.args.seq c.items.self c.next_part.new.self
-          c.read_integer.new.self c.items.left c.next_part.new.seq c.items.invariant.owes less
-          (took-read g.A.Access.remaining c.next_part.new.self c.read_integer.new.self
-          (Some c.next_part.new.self.levels)
+      owes = owes-more g.A.Access.remaining given_byte c.args.self.now c.args.seq c.items.self c.next.new.self
+          c.read_integer.new.self c.items.left c.next.new.seq c.items.invariant.owes less
+          (took-read g.A.Access.remaining c.next.new.self c.read_integer.new.self
+          (Some c.next.new.self.levels)
           given_integer c.in_ok-number.number read.answer);
     }

@@ -1,15 +1,12 @@
 use Rattle.std.proofs.Common.{◌≤◌, ◌+◌}
-use Rattle.ciborium_ll.specs.Decoding.{HasSameReader}
-use Rattle.ciborium_value.specs.Sources.{TakesOnly}
-use Rattle.ciborium_value.specs.Given.{given_byte}
-use Rattle.ciborium.specs.inner.ByteSources.{HasTaken, seq_left, weight_left}
+use Rattle.ciborium_value.specs.{Sources.TakesOnly, Given.given_byte}
+use Rattle.ciborium.specs.inner.ByteSources.{HasTakenSince, seq_left, weight_left}
 use Rattle.ciborium.proofs.Containers.ByteItems.{OwesPartly, ReadsPartly}
 use Rattle.ciborium.proofs.de.byte_source.ByteSource.read_byte_items.Given as goal
 
 abbrev pub invariant-items : goal.invariant-items
 invariant-items g l = record {
-  same_reader : HasSameReader l.fn.self.decoder l.self.decoder;
-  only : TakesOnly (HasTaken g.A.Access.remaining) l.fn.self.decoder l.self.decoder;
+  only : TakesOnly (HasTakenSince g.A.Access.remaining) l.fn.self l.self;
   fewer : weight_left l.self + seq_left l.left ≤ weight_left l.fn.self + seq_left l.fn.seq;
   read : ReadsPartly g.A.Access.remaining given_byte l.fn.self l.fn.seq l.self l.left l.bytes.items;
   owes : OwesPartly g.A.Access.remaining l.fn.self l.fn.seq l.self l.left;

@@ -1,10 +1,9 @@
 use Rattle.std.proofs.Common.{sym, ap, ◌∙◌, subst, arith, length, length-append, ◌+◌, ◌≡◌, ◌≤◌, false}
+use Rattle.std.proofs.lemmas.Result.{err_from_is_err_and}
 use Rattle.ciborium_ll.specs.Accesses.{left_at_failure}
 use Rattle.ciborium.specs.inner.ByteSources.{IsUnreadBy}
-use Rattle.ciborium.proofs.Items.FrontReads.{granted-fill}
-use Rattle.ciborium.proofs.Payloads.ReadDigits.{digit-more, fill-fewer, fill-outside}
+use Rattle.ciborium.proofs.{Items.FrontReads.granted-fill, Payloads.ReadDigits.{digit-more, fill-fewer, fill-outside}}
 use Rattle.ciborium.proofs.Items.TakenOnly.{takes-only, same-end}
-use Rattle.std.proofs.lemmas.Result.{err_from_is_err_and}
 use Rattle.ciborium.proofs.de.byte_source.ByteSource.read_digits.Goals as goal
 
 pub loop-left-preserved : goal.loop-left-preserved

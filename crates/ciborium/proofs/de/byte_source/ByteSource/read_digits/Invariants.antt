@@ -1,9 +1,7 @@
 use Rattle.std.proofs.Common.{◌≡◌, ◌≤◌, ◌+◌, ◌++◌, None, List, ℕ, length}
-use Rattle.ciborium_ll.specs.Bytes.{AreBytes}
-use Rattle.ciborium_ll.specs.Decoding.{HasSameReader}
+use Rattle.ciborium_ll.specs.{Bytes.AreBytes, Decoding.HasSameReader}
 use Rattle.ciborium_value.specs.Sources.{TakesOnly}
-use Rattle.ciborium.specs.inner.ByteSources.{HasTaken, IsUnread, bytes_weight}
-use Rattle.ciborium.specs.inner.StringContents.{digits_of}
+use Rattle.ciborium.specs.{inner.ByteSources.{HasTaken, IsUnread, bytes_weight}, inner.StringContents.digits_of}
 use Rattle.ciborium.proofs.de.byte_source.ByteSource.read_digits.Given as goal
 
 abbrev pub invariant-loop-left : goal.invariant-loop-left

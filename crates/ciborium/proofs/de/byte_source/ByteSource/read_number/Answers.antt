@@ -1,16 +1,12 @@
-use Rattle.std.proofs.Common.{Some, sym, ap, ◌∙◌, subst, arith}
-use Rattle.std.proofs.lemmas.Result.{err_from_is_err_and}
-use Rattle.ciborium_ll.specs.declared.header.Header.TheVariants as header
+use Rattle.std.proofs.{Common.{Some, sym, ap, ◌∙◌, subst, arith}, lemmas.Result.err_from_is_err_and}
 use Rattle.ciborium_ll.specs.StringRefusal.{of_bytes}
 use Rattle.ciborium_value.specs.Sources.{of_syntax}
-use Rattle.ciborium.specs.inner.ByteSources.{IsUnread, end_at, fault_at}
-use Rattle.ciborium.specs.inner.FrontItems.{TakesHead}
+use Rattle.ciborium.specs.{inner.ByteSources.{IsUnread, end_at, fault_at}, inner.FrontItems.TakesHead}
 use Rattle.ciborium.specs.inner.StringContents.{DeniesContent, TakesNumber}
-use Rattle.ciborium.proofs.Items.FrontReads.{weighs-none}
-use Rattle.ciborium.proofs.Payloads.OpenNumbers.{parts-more, parts-end, parts-no-head, parts-other, no-break}
-use Rattle.ciborium.proofs.Payloads.OpenNumbers.{no-definite, parts-cut}
-use Rattle.ciborium.proofs.Payloads.ShortNames.{just-denied}
-use Rattle.ciborium.proofs.Items.TakenOnly.{same-end}
+use Rattle.ciborium.proofs.{Items.FrontReads.weighs-none, Payloads.OpenNumbers.{parts-more, parts-end, parts-no-head}}
+use Rattle.ciborium.proofs.Payloads.OpenNumbers.{parts-other, no-break, no-definite, parts-cut}
+use Rattle.ciborium.proofs.{Payloads.ShortNames.just-denied, Items.TakenOnly.same-end}
+use Rattle.ciborium_ll.specs.declared.header.Header.TheVariants as header
 use Rattle.ciborium.proofs.de.byte_source.ByteSource.read_number.Goals as goal
 
 pub returns-in_err-number-in-Some-clause-denied : goal.returns-in_err-number-in-Some-clause-denied

@@ -1,8 +1,7 @@
 use Rattle.std.proofs.Common.{◌≡◌, ◌≤◌, None}
 use Rattle.ciborium_ll.specs.Decoding.{HasSameReader}
 use Rattle.ciborium_value.specs.Sources.{TakesOnly}
-use Rattle.ciborium.specs.inner.ByteSources.{HasTaken, IsUnread, bytes_weight}
-use Rattle.ciborium.specs.inner.StringContents.{TakesParts}
+use Rattle.ciborium.specs.{inner.ByteSources.{HasTaken, IsUnread, bytes_weight}, inner.StringContents.TakesParts}
 use Rattle.ciborium.proofs.de.byte_source.ByteSource.read_number.Given as goal
 
 abbrev pub invariant-parts : goal.invariant-parts

@@ -1,8 +1,7 @@
 use Rattle.std.proofs.lemmas.Result.{err_from_is_err_and}
 use Rattle.ciborium.specs.inner.ByteSources.{IsUnread, end_at, fault_at}
 use Rattle.ciborium_value.proofs.Sources.TreeReading.{if_err_so}
-use Rattle.ciborium.proofs.Items.TakenOnly.{same-end}
-use Rattle.ciborium.proofs.Items.PassedOver.{content-denied, string-denied}
+use Rattle.ciborium.proofs.{Items.TakenOnly.same-end, Items.PassedOver.{content-denied, string-denied}}
 use Rattle.ciborium.proofs.de.byte_source.ByteSource.skip_bignum.Goals as goal
 
 pub returns-in_err-content-clause-denied : goal.returns-in_err-content-clause-denied

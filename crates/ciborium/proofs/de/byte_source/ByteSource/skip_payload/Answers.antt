@@ -1,7 +1,6 @@
 use Rattle.std.proofs.Common.{◌≡◌, Some, ap, sym, ◌∙◌, subst, IfErr}
+use Rattle.ciborium.specs.{inner.ByteSources.{IsUnread, end_at, fault_at}, inner.PassedOver.DeniesPayload}
 use Rattle.ciborium_ll.specs.declared.header.Header.TheVariants as header
-use Rattle.ciborium.specs.inner.ByteSources.{IsUnread, end_at, fault_at}
-use Rattle.ciborium.specs.inner.PassedOver.{DeniesPayload}
 use Rattle.ciborium.proofs.de.byte_source.ByteSource.skip_payload.Goals as goal
 
 pub returns-in-Bytes-Some-clause-denied : goal.returns-in-Bytes-Some-clause-denied

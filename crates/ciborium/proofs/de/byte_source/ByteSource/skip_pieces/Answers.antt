@@ -1,10 +1,8 @@
 use Rattle.std.proofs.Common.{◌≡◌, ◌∙◌, arith, rules, length, length-take-le, subst, Some}
 use Rattle.std.proofs.lemmas.Result.{err_from_is_err_and}
+use Rattle.ciborium.specs.{inner.ByteSources.{IsUnread, end_at, fault_at}, inner.StringContents.DeniesJust}
+use Rattle.ciborium.proofs.{Items.TakenOnly.same-end, Payloads.SkippedPayloads.{bytes-taken, piece-denied, some-more}}
 use Rattle.ciborium_ll.specs.declared.header.Header.TheVariants as header
-use Rattle.ciborium.specs.inner.ByteSources.{IsUnread, end_at, fault_at}
-use Rattle.ciborium.specs.inner.StringContents.{DeniesJust}
-use Rattle.ciborium.proofs.Items.TakenOnly.{same-end}
-use Rattle.ciborium.proofs.Payloads.SkippedPayloads.{bytes-taken, piece-denied, some-more}
 use Rattle.ciborium.proofs.de.byte_source.ByteSource.skip_pieces.Goals as goal
 
 pub returns-in_err-fill-clause-denied : goal.returns-in_err-fill-clause-denied
@@ -41,7 +39,6 @@ loop-left-preserved g c =
     }
 
 pub returns-clause-ok : goal.returns-clause-ok
-returns-clause-ok g c =
-    bytes-taken g.A.Access.remaining c.args.self.now c.loop-left.self c.args.len c.loop-left.left
+returns-clause-ok g c = bytes-taken g.A.Access.remaining c.args.self.now c.loop-left.self c.args.len c.loop-left.left
     c.loop-left.invariant.only c.requires c.loop-left.invariant.pending c.loop-left-test.false
     c.loop-left.invariant.took

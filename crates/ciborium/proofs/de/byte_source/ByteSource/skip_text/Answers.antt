@@ -1,9 +1,8 @@
-use Rattle.std.proofs.Common.{◌≡◌, Some, false, ap, ◌∙◌}
-use Rattle.std.proofs.lemmas.Result.{err_from_is_err_and}
-use Rattle.ciborium_ll.specs.declared.header.Header.TheVariants as header
+use Rattle.std.proofs.{Common.{◌≡◌, Some, false, ap, ◌∙◌}, lemmas.Result.err_from_is_err_and}
 use Rattle.ciborium_value.specs.Sources.{of_syntax}
 use Rattle.ciborium.specs.inner.ByteSources.{IsUnread, end_at, fault_at}
 use Rattle.ciborium.proofs.Payloads.VisitedPayloads.{payload-denied, payload-denied-then, no-text-there}
+use Rattle.ciborium_ll.specs.declared.header.Header.TheVariants as header
 use Rattle.ciborium.proofs.de.byte_source.ByteSource.skip_text.Goals as goal
 
 pub returns-in_err-visit-clause-denied : goal.returns-in_err-visit-clause-denied

@@ -1,14 +1,11 @@
 use Rattle.std.proofs.Common.{◌≡◌, ◌≤◌, ◌+◌, ◌-◌, ◌++◌, ◌∙◌, ℕ, IsUtf8, List, Some, arith, drop, length, subst, sym}
-use Rattle.std.proofs.Common.{take}
-use Rattle.std.proofs.lemmas.List.{take-append-le}
-use Rattle.std.proofs.lemmas.Result.{err_from_is_err_and}
-use Rattle.ciborium_ll.specs.declared.header.Header.TheVariants as header
+use Rattle.std.proofs.{Common.take, lemmas.List.take-append-le, lemmas.Result.err_from_is_err_and}
 use Rattle.ciborium_value.specs.Sources.{of_syntax}
-use Rattle.ciborium.specs.inner.ByteSources.{IsUnread, end_at, fault_at}
-use Rattle.ciborium.specs.inner.StringContents.{DeniesJust}
-use Rattle.ciborium.proofs.Items.TakenOnly.{same-end}
-use Rattle.ciborium.proofs.Payloads.SkippedPayloads.{TookText, cut-text, no-text, part-filled, part-size, piece-denied}
-use Rattle.ciborium.proofs.Payloads.SkippedPayloads.{text-more, text-some, text-taken}
+use Rattle.ciborium.specs.{inner.ByteSources.{IsUnread, end_at, fault_at}, inner.StringContents.DeniesJust}
+use Rattle.ciborium.proofs.{Items.TakenOnly.same-end, Payloads.SkippedPayloads.{TookText, cut-text, no-text}}
+use Rattle.ciborium.proofs.Payloads.SkippedPayloads.{part-filled, part-size, piece-denied, text-more, text-some}
+use Rattle.ciborium.proofs.Payloads.SkippedPayloads.{text-taken}
+use Rattle.ciborium_ll.specs.declared.header.Header.TheVariants as header
 use Rattle.ciborium.proofs.de.byte_source.ByteSource.skip_text_pieces.Goals as goal
 
 pub returns-in_err-fill-clause-denied : goal.returns-in_err-fill-clause-denied

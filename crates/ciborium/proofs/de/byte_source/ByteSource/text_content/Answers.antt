@@ -1,8 +1,6 @@
-use Rattle.std.proofs.Common.{string_bytes}
-use Rattle.std.proofs.lemmas.Result.{err_from_is_err_and}
+use Rattle.std.proofs.{Common.string_bytes, lemmas.Result.err_from_is_err_and}
 use Rattle.ciborium_ll.specs.StringRefusal.{of_text}
-use Rattle.ciborium.proofs.Payloads.SpelledStrings.{content-denied}
-use Rattle.ciborium.proofs.Payloads.StringPayloads.{content-taken}
+use Rattle.ciborium.proofs.{Payloads.SpelledStrings.content-denied, Payloads.StringPayloads.content-taken}
 use Rattle.ciborium.proofs.Items.TakenOnly.{takes-only}
 use Rattle.ciborium.proofs.de.byte_source.ByteSource.text_content.Goals as goal
 
@@ -27,5 +25,4 @@ returns-in_err-text_into_keeping-clause-only g c = takes-only g.A.Access.remaini
 
 pub returns-clause-only : goal.returns-clause-only
 returns-clause-only g c = takes-only g.A.Access.remaining c.args.self.now.decoder c.text_into_keeping.new.self _
-    c.in_ok-text_into_keeping.ensures.same_reader
-    c.in_ok-text_into_keeping.ensures.taken
+    c.in_ok-text_into_keeping.ensures.same_reader c.in_ok-text_into_keeping.ensures.taken

@@ -1,9 +1,8 @@
-use Rattle.std.proofs.Common.{sym, subst}
-use Rattle.std.proofs.lemmas.Result.{err_from_is_err_and}
+use Rattle.std.proofs.{Common.{sym, subst}, lemmas.Result.err_from_is_err_and}
 use Rattle.ciborium_ll.specs.StringRefusal.{of_text}
 use Rattle.ciborium_value.specs.Labels.{name_place}
-use Rattle.ciborium.specs.inner.ByteSources.{IsUnread, end_at, fault_at}
-use Rattle.ciborium.specs.inner.StringContents.{DeniesContent, TakesPlace}
+use Rattle.ciborium.specs.{inner.ByteSources.{IsUnread, end_at, fault_at}, inner.StringContents.DeniesContent}
+use Rattle.ciborium.specs.inner.StringContents.{TakesPlace}
 use Rattle.ciborium.proofs.de.byte_source.ByteSource.text_place.Goals as goal
 
 pub returns-in_err-place-clause-denied : goal.returns-in_err-place-clause-denied
@@ -15,7 +14,6 @@ returns-in_err-place-clause-denied g c =
     (sym c.in-Some.ensures.0) c.in_err-place.ensures.denied)
 
 pub returns-in-Some-clause-ok : goal.returns-in-Some-clause-ok
-returns-in-Some-clause-ok g c =
-    subst (λ n. TakesPlace (IsUnread g.A.Access.remaining c.args.self.now)
+returns-in-Some-clause-ok g c = subst (λ n. TakesPlace (IsUnread g.A.Access.remaining c.args.self.now)
     (IsUnread g.A.Access.remaining c.short_place.new.self) of_text n (name_place (g.N.Labels.place_of c.args.names.now))
     c.in_ok-place.place) (sym c.in-Some.ensures.0) c.in_ok-place.ensures.ok

@@ -1,7 +1,5 @@
 use Rattle.std.proofs.Common.{◌≡◌, ◌+◌, ◌-◌, ◌++◌, ◌∙◌, ℕ, List, ap, append-nil, arith, drop, length, length-drop, sym}
-use Rattle.std.proofs.Common.{take, take-append-drop, take_all}
-use Rattle.std.proofs.lemmas.List.Edits.{take-paste}
-use Rattle.std.proofs.Math.Seq.{paste}
+use Rattle.std.proofs.{Common.{take, take-append-drop, take_all}, lemmas.List.Edits.take-paste, Math.Seq.paste}
 use Rattle.ciborium.proofs.de.byte_source.payloads.keep_cut.Goals as goal
 
 pub returns-then-kept-gt0-clause-kept : goal.returns-then-kept-gt0-clause-kept

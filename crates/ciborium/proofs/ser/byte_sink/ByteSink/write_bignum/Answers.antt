@@ -1,15 +1,9 @@
-use Rattle.std.proofs.Common.{◌≡◌, ◌≤◌, ◌++◌, length, refl, ap, ◌∙◌, subst, rules}
-use Rattle.std.proofs.lemmas.Result.{on_ok_weaker}
-use Rattle.ciborium_ll.specs.Bytes.{AreBytes, greatest_offset}
-use Rattle.ciborium_ll.specs.Head.{shortest_head}
-use Rattle.ciborium_ll.specs.ProperItems.{IsProperBytes}
+use Rattle.std.proofs.{Common.{◌≡◌, ◌≤◌, ◌++◌, length, refl, ap, ◌∙◌, subst, rules}, lemmas.Result.on_ok_weaker}
+use Rattle.ciborium_ll.specs.{Bytes.{AreBytes, greatest_offset}, Head.shortest_head, ProperItems.IsProperBytes}
 use Rattle.ciborium_ll.specs.Writing.{Writes}
-use Rattle.ciborium_value.specs.Meaning.{without_zeros}
-use Rattle.ciborium_value.specs.Number.{shortest_bytes}
-use Rattle.ciborium_value.specs.Sinks.{bignum_item}
+use Rattle.ciborium_value.specs.{Meaning.without_zeros, Number.shortest_bytes, Sinks.bignum_item}
 use Rattle.ciborium_value.specs.WrittenItems.{IsWritten}
-use Rattle.ciborium.proofs.Writing.ByteSinks.{shortest-is}
-use Rattle.ciborium.proofs.Writing.WritingSteps.{Writes-after}
+use Rattle.ciborium.proofs.{Writing.ByteSinks.shortest-is, Writing.WritingSteps.Writes-after}
 use Rattle.ciborium.proofs.ser.byte_sink.ByteSink.write_bignum.Goals as goal
 
 pub returns-clause-bytes : goal.returns-clause-bytes

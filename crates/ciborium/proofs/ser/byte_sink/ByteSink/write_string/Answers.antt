@@ -1,5 +1,4 @@
-use Rattle.ciborium.proofs.Writing.WritingSteps.{Writes-after, OnOk-always}
-use Rattle.ciborium.proofs.Writing.ByteSinks.{fitting_bytes}
+use Rattle.ciborium.proofs.{Writing.WritingSteps.{Writes-after, OnOk-always}, Writing.ByteSinks.fitting_bytes}
 use Rattle.ciborium.proofs.ser.byte_sink.ByteSink.write_string.Goals as goal
 
 pub returns-clause-bytes : goal.returns-clause-bytes

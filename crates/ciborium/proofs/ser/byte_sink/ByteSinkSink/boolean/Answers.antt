@@ -1,9 +1,7 @@
 use Rattle.std.proofs.Common.{rules, subst}
-use Rattle.ciborium_value.specs.Encoding.{boolean_item}
-use Rattle.ciborium_value.specs.WrittenItems.{IsWritten}
+use Rattle.ciborium_value.specs.{Encoding.boolean_item, WrittenItems.IsWritten}
 use Rattle.ciborium.specs.Writes.{PutsOut}
-use Rattle.ciborium.proofs.Writing.ByteSinks.{adds_as, breaks_as}
-use Rattle.ciborium.proofs.Writing.WritingSteps.{OnOk-always}
+use Rattle.ciborium.proofs.{Writing.ByteSinks.{adds_as, breaks_as}, Writing.WritingSteps.OnOk-always}
 use Rattle.ciborium.proofs.ser.byte_sink.ByteSinkSink.boolean.Goals as goal
 
 pub returns-clause-ok : goal.returns-clause-ok

@@ -1,8 +1,7 @@
 use Rattle.std.proofs.Common.{lit<, lit≤}
 use Rattle.ciborium_ll.specs.Item.{simple}
 use Rattle.ciborium_value.specs.WrittenItems.{IsWritten}
-use Rattle.ciborium.proofs.Writing.ByteSinks.{adds, breaks}
-use Rattle.ciborium.proofs.Writing.WritingSteps.{OnOk-always}
+use Rattle.ciborium.proofs.{Writing.ByteSinks.{adds, breaks}, Writing.WritingSteps.OnOk-always}
 use Rattle.ciborium.proofs.ser.byte_sink.ByteSinkSink.null.Goals as goal
 
 pub returns-clause-ok : goal.returns-clause-ok

@@ -1,6 +1,5 @@
 use Rattle.std.proofs.Common.{pos, rules}
-use Rattle.ciborium_value.specs.Encoding.{integer_item}
-use Rattle.ciborium_value.specs.Sinks.{bignum_item, number_item}
+use Rattle.ciborium_value.specs.{Encoding.integer_item, Sinks.{bignum_item, number_item}}
 use Rattle.ciborium.proofs.Writing.ByteSinks.{adds_as, breaks_as}
 use Rattle.ciborium.proofs.ser.byte_sink.ByteSinkSink.unsigned.Goals as goal
 

@@ -1,6 +1,5 @@
 -- A list is read item by item.
-use Rattle.std.proofs.Common.{arith, map, [], ◌∷◌, sym, ap, ◌∙◌, subst}
-use Rattle.std.proofs.lemmas.List.{map-append}
+use Rattle.std.proofs.{Common.{arith, map, [], ◌∷◌, sym, ap, ◌∙◌, subst}, lemmas.List.map-append}
 use Rattle.ciborium_value.specs.GivenParts.{given_list}
 use Rattle.ciborium_value.proofs.Sources.Sequences.{so, Follows, IsBefore, IsInside, takes, blames, blames_next}
 use Rattle.ciborium_value.proofs.Sources.Sequences.{list_from, list_begins, list_more, list_blames, list_ends}

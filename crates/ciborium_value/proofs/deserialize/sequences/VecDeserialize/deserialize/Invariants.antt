@@ -1,7 +1,5 @@
 use Rattle.std.proofs.Common.{◌+◌, ◌<◌, map}
-use Rattle.ciborium_value.specs.Places.{sequence}
-use Rattle.ciborium_value.specs.Sources.{TakesTo, TakesOnly}
-use Rattle.ciborium_value.specs.GivenParts.{given_list}
+use Rattle.ciborium_value.specs.{Places.sequence, Sources.{TakesTo, TakesOnly}, GivenParts.given_list}
 use Rattle.ciborium_value.proofs.Sources.Sequences.{Follows, IsBefore, IsInside, list_from}
 use Rattle.ciborium_value.proofs.deserialize.sequences.VecDeserialize.deserialize.Given as goal
 

@@ -1,6 +1,5 @@
 use Rattle.std.proofs.Common.{rules}
-use Rattle.ciborium_value.proofs.Denoting.BegunLevels.{some_open}
-use Rattle.ciborium_value.proofs.Denoting.Steps.{ends}
+use Rattle.ciborium_value.proofs.{Denoting.BegunLevels.some_open, Denoting.Steps.ends}
 use Rattle.ciborium_value.proofs.from_notation.levels.Levels.end.Goals as goal
 
 pub returns-in-Some-clause-refused : goal.returns-in-Some-clause-refused

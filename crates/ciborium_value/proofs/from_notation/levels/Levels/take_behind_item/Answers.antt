@@ -1,13 +1,11 @@
 use Rattle.std.proofs.Common.{rules}
 use Rattle.ciborium_value.specs.inner.ReadTokens.{token_read}
-use Rattle.ciborium_value.proofs.Denoting.Steps.{other-behind-item}
-use Rattle.ciborium_value.proofs.Denoting.BegunLevels.{array_comma, array_end}
+use Rattle.ciborium_value.proofs.{Denoting.Steps.other-behind-item, Denoting.BegunLevels.{array_comma, array_end}}
 use Rattle.ciborium_value.proofs.from_notation.levels.Levels.take_behind_item.Goals as goal
 
 pub returns-in_ok-push-in-Comma-2-clause-taken : goal.returns-in_ok-push-in-Comma-2-clause-taken
 returns-in_ok-push-in-Comma-2-clause-taken c = array_comma c.args.items.items c.args.value c.args.self.now.levels.items
-    c.push-in-Comma.new.self.items c.push.new.self
-    c.args.token (search rules) (search rules) (search rules)
+    c.push-in-Comma.new.self.items c.push.new.self c.args.token (search rules) (search rules) (search rules)
 
 pub returns-in_ok-push-in-EndArray-clause-taken : goal.returns-in_ok-push-in-EndArray-clause-taken
 returns-in_ok-push-in-EndArray-clause-taken c =

@@ -1,7 +1,6 @@
 use Rattle.std.proofs.Common.{rules}
 use Rattle.ciborium_value.specs.inner.ReadTokens.{token_read}
-use Rattle.ciborium_value.proofs.Denoting.Steps.{other-behind-value}
-use Rattle.ciborium_value.proofs.Denoting.BegunLevels.{map_end, value_comma}
+use Rattle.ciborium_value.proofs.{Denoting.Steps.other-behind-value, Denoting.BegunLevels.{map_end, value_comma}}
 use Rattle.ciborium_value.proofs.from_notation.levels.Levels.take_behind_value.Goals as goal
 
 pub returns-in_ok-push-in-Comma-2-clause-taken : goal.returns-in_ok-push-in-Comma-2-clause-taken

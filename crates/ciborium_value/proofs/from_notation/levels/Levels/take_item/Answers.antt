@@ -1,8 +1,7 @@
 use Rattle.std.proofs.Common.{rules}
 use Rattle.ciborium_value.specs.inner.ReadTokens.{token_read}
 use Rattle.ciborium_value.proofs.Denoting.BegunLevels.{array_begun, leaf_read, map_begun, no_item_begun, tag_begun}
-use Rattle.ciborium_value.proofs.Denoting.BegunLevels.{too_deep}
-use Rattle.ciborium_value.proofs.Denoting.Steps.{begun}
+use Rattle.ciborium_value.proofs.{Denoting.BegunLevels.too_deep, Denoting.Steps.begun}
 use Rattle.ciborium_value.proofs.from_notation.levels.Levels.take_item.Goals as goal
 
 pub returns-in-Leaf-clause-taken : goal.returns-in-Leaf-clause-taken
@@ -10,8 +9,7 @@ returns-in-Leaf-clause-taken c = leaf_read _ _ c.args.token (search rules)
 
 pub returns-in_ok-push-in-BeginTag-clause-taken : goal.returns-in_ok-push-in-BeginTag-clause-taken
 returns-in_ok-push-in-BeginTag-clause-taken c = tag_begun c.args.self.now.levels.items c.push.new.self.items
-    c.in-BeginTag.tag c.args.token
-    (search rules) (search rules)
+    c.in-BeginTag.tag c.args.token (search rules) (search rules)
 
 pub returns-in-BeginArray-clause-taken : goal.returns-in-BeginArray-clause-taken
 returns-in-BeginArray-clause-taken c = array_begun _ c.args.token (search rules)

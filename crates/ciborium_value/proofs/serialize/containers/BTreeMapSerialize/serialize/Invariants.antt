@@ -1,7 +1,5 @@
 use Rattle.std.proofs.Common.{Some, length}
-use Rattle.ciborium_value.specs.Places.{dictionary}
-use Rattle.ciborium_value.specs.Sinks.{in_turn}
-use Rattle.ciborium_value.specs.Progress.{Owes}
+use Rattle.ciborium_value.specs.{Places.dictionary, Sinks.in_turn, Progress.Owes}
 use Rattle.ciborium_value.proofs.serialize.containers.BTreeMapSerialize.serialize.Given as goal
 
 -- the entries that the iterator has not yielded are left

@@ -1,9 +1,6 @@
 -- A list is written item by item.
-use Rattle.std.proofs.Common.{Some, ap, map, length, subst, rules}
-use Rattle.std.proofs.lemmas.Result.{on_ok_weaker, on_err_weaker}
-use Rattle.ciborium_value.specs.Places.{sequence}
-use Rattle.ciborium_value.specs.Sinks.{AddsNamed, BreaksNamed, IsOwed, container_of}
-use Rattle.ciborium_value.specs.Progress.{Owes}
+use Rattle.std.proofs.{Common.{Some, ap, map, length, subst, rules}, lemmas.Result.{on_ok_weaker, on_err_weaker}}
+use Rattle.ciborium_value.specs.{Places.sequence, Sinks.{AddsNamed, BreaksNamed, IsOwed, container_of}, Progress.Owes}
 use Rattle.ciborium_value.proofs.Writing.Progress.{exits, on_err, owes_begin, owes_broken_begin, owes_ready, owes_more}
 use Rattle.ciborium_value.proofs.Writing.Progress.{owes_broken, owes_owed, owes_can_end, owes_ends, owes_broken_end}
 use Rattle.ciborium_value.proofs.Writing.Progress.{length-map, next_part, no_part}

@@ -1,6 +1,5 @@
 use Rattle.std.proofs.Common.{Some, map, drop, length}
-use Rattle.ciborium_value.specs.Places.{sequence}
-use Rattle.ciborium_value.specs.Progress.{Owes}
+use Rattle.ciborium_value.specs.{Places.sequence, Progress.Owes}
 use Rattle.ciborium_value.proofs.serialize.containers.VecSerialize.serialize.Given as goal
 
 -- the items from here on are left

@@ -1,6 +1,5 @@
 -- A value is written level by level.
-use Rattle.std.proofs.Common.{IfErr, subst}
-use Rattle.std.proofs.lemmas.Result.{on_ok_weaker, on_err_weaker}
+use Rattle.std.proofs.{Common.{IfErr, subst}, lemmas.Result.{on_ok_weaker, on_err_weaker}}
 use Rattle.ciborium_value.specs.Sinks.{AddsNamed, BreaksNamed, IsOwed, named_value, tag_of}
 use Rattle.ciborium_value.proofs.Writing.WrittenValues.{named-Tag, named-Array, named-Map}
 use Rattle.ciborium_value.proofs.serialize.values.ValueSerialize.+serialize.Goals as goal

@@ -1,17 +1,52 @@
-use Rattle.ciborium.proofs.Containers.EnteredContainers.{enters-map}
-use Rattle.ciborium_value.specs.Given.{given_pairs}
-use Rattle.ciborium.specs.inner.ByteSources.{fault_at}
-use Rattle.ciborium.proofs.Containers.ByteItems.{refuses-denied}
+use Rattle.std.proofs.{Common.{arith, Some, false, sym, subst, ◌∙◌}, lemmas.Result.err_from_is_err_and}
+use Rattle.ciborium_value.specs.{Given.{given_pairs, give}, Ahead.takes_level}
+use Rattle.ciborium.specs.{inner.ByteSources.IsUnread, inner.Skips.TakesBare}
+use Rattle.ciborium.proofs.Containers.EnteredContainers.{IsEntered, entered-kept, map-entered, map-nests, map-other}
+use Rattle.ciborium.proofs.{Containers.EnteredContainers.{pairs-given, pairs-stand}, Containers.ByteItems.head-refuses}
+use Rattle.ciborium.proofs.Containers.ByteItems.{nested-refuses, other-refuses}
+use Rattle.ciborium_ll.specs.declared.header.Header.TheVariants as header
 use Rattle.ciborium.proofs.de.byte_source.source.ByteSourceSource.begin_map.Goals as goal
-use Rattle.std.proofs.lemmas.Result.{IfErr-weaker}
 
-pub returns-clause-ok : goal.returns-clause-ok
-returns-clause-ok g c =
-    enters-map g.A.Access.remaining c.args.self.now c.begin_map.new.self
-    (c.begin_map.ensures.keeps.same_reader, c.begin_map.ensures.keeps.only) _ c.begin_map.result
-    c.begin_map.ensures.levels c.begin_map.ensures.keeps.pending c.begin_map.ensures.fewer c.begin_map.ensures.ok
+pub returns-in_err-header-clause-refused : goal.returns-in_err-header-clause-refused
+returns-in_err-header-clause-refused g c =
+    let exit = err_from_is_err_and c.from_residual.result c.from_residual.ensures.1 in
+    rw (exit.1, exit.2) (head-refuses given_pairs c.in_err-header.ensures.reads c.in_err-header.ensures.denied)
 
-pub returns-clause-refused : goal.returns-clause-refused
-returns-clause-refused g c = IfErr-weaker c.begin_map.result _ _
-    (λ e h. refuses-denied g.A.Access.remaining c.args.self.now given_pairs
-    (fault_at g.A.Access.can_fail g.A.Access.remaining c.begin_map.new.self e) h) c.begin_map.ensures.denied
+pub returns-in_default-clause-refused : goal.returns-in_default-clause-refused
+returns-in_default-clause-refused g c =
+    other-refuses given_pairs c.in_ok-header.ensures.reads c.in_ok-header.ensures.head
+    (map-other (Some c.args.self.now.levels) c.in_ok-header.header
+    c.in_ok-header.ensures.reads.bare c.in_default.not-Map)
+
+pub returns-in_err-seq-clause-refused : goal.returns-in_err-seq-clause-refused
+returns-in_err-seq-clause-refused g c =
+    let exit = err_from_is_err_and c.from_residual-in_err-seq.result
+    c.from_residual-in_err-seq.ensures.1 in
+    rw (exit.1, exit.2) (nested-refuses given_pairs c.in_ok-header.ensures.reads c.in_ok-header.ensures.head
+    c.enter.new.self
+    (header.Map c.in-Map.count) c.in-Map.is c.in_err-seq.ensures.err (map-nests c.args.self.now.levels c.in-Map.count
+    (sym c.in_ok-header.ensures.reads.levels ∙ c.in_err-seq.ensures.none)))
+
+pub returns : goal.returns
+returns g c =
+    let old = c.args.self.now in
+    let mid = c.bare_head.new.self in
+    let new = c.enter.new.self in
+    let enter = c.in_ok-seq.ensures in
+    let reads = c.in_ok-header.ensures.reads in
+    let is : IsEntered mid new c.in-Map.count c.in_ok-seq.seq =
+    (enter.decoder, enter.pending, enter.some, enter.levels, enter.left) in
+    let (kept, none, fewer) = entered-kept new c.in-Map.count c.in_ok-seq.seq is reads in
+    let opens = map-entered g.A.Access.remaining old mid new c.in-Map.count c.in_ok-seq.seq reads.levels is given_pairs
+    (λ span ps. give (takes_level span, ps))
+    (subst (TakesBare (IsUnread g.A.Access.remaining) old mid false) c.in-Map.is c.in_ok-header.ensures.head)
+    (pairs-given old.levels (λ z. enter.some (reads.levels ∙ z)) c.in-Map.count) in record {
+      ok = pairs-stand g.A.Access.remaining old new c.in_ok-seq.seq kept (enter.back ∙ reads.levels) none
+          (omega (arith, fewer)) given_pairs (λ span ps. give (takes_level span, ps)) opens;
+      refused = tt;
+      memory = tt;
+      took = λ b u. let (w, un, owes, leads) = opens b u in (w, un, owes);
+      only = λ first t. kept.1 first.decoder t;
+      less = fewer;
+      no_more = tt;
+    }

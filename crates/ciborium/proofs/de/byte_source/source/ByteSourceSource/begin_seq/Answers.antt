@@ -1,17 +1,89 @@
-use Rattle.ciborium.proofs.Containers.EnteredContainers.{enters}
-use Rattle.ciborium_value.specs.Given.{given_seq}
-use Rattle.ciborium.specs.inner.ByteSources.{fault_at}
-use Rattle.ciborium.proofs.Containers.ByteItems.{refuses-denied}
+use Rattle.std.proofs.Common.{rules, arith, ◌+◌, ◌<◌, refl, Some, false, sym, subst, ◌∙◌}
+use Rattle.std.proofs.lemmas.Result.{err_from_is_err_and}
+use Rattle.std.specs.Vec.Iter.{into_iter_items}
+use Rattle.ciborium_ll.specs.StringRefusal.{of_bytes}
+use Rattle.ciborium_value.specs.{Given.{bare_seq, given_seq, give}, Ahead.takes_level}
+use Rattle.ciborium.specs.{inner.ByteSources.{IsUnread, seq_left, weight_left}, inner.Skips.TakesBare}
+use Rattle.ciborium.proofs.Containers.ByteItems.{head-refuses, nested-refuses, other-refuses, string-refuses}
+use Rattle.ciborium.proofs.Containers.EnteredContainers.{IsEntered, entered-kept, items-stand, array-entered}
+use Rattle.ciborium.proofs.Containers.EnteredContainers.{array-nests, bytes-entered, bytes-had, seq-given, seq-other}
+use Rattle.ciborium_ll.specs.declared.header.Header.TheVariants as header
 use Rattle.ciborium.proofs.de.byte_source.source.ByteSourceSource.begin_seq.Goals as goal
-use Rattle.std.proofs.lemmas.Result.{IfErr-weaker}
 
-pub returns-clause-ok : goal.returns-clause-ok
-returns-clause-ok g c =
-    enters g.A.Access.remaining c.args.self.now c.begin_seq.new.self
-    (c.begin_seq.ensures.keeps.same_reader, c.begin_seq.ensures.keeps.only) _ c.begin_seq.result
-    c.begin_seq.ensures.levels c.begin_seq.ensures.keeps.pending c.begin_seq.ensures.fewer c.begin_seq.ensures.ok
+pub returns-in_err-header-clause-refused : goal.returns-in_err-header-clause-refused
+returns-in_err-header-clause-refused g c =
+    let exit = err_from_is_err_and c.from_residual.result c.from_residual.ensures.1 in
+    rw (exit.1, exit.2) (head-refuses given_seq c.in_err-header.ensures.reads c.in_err-header.ensures.denied)
 
-pub returns-clause-refused : goal.returns-clause-refused
-returns-clause-refused g c = IfErr-weaker c.begin_seq.result _ _
-    (λ e h. refuses-denied g.A.Access.remaining c.args.self.now given_seq
-    (fault_at g.A.Access.can_fail g.A.Access.remaining c.begin_seq.new.self e) h) c.begin_seq.ensures.denied
+pub returns-in_ok-seq-in-Array : goal.returns-in_ok-seq-in-Array
+returns-in_ok-seq-in-Array g c =
+    let old = c.args.self.now in
+    let mid = c.bare_head.new.self in
+    let new = c.enter.new.self in
+    let q = c.in_ok-seq-in-Array.seq in
+    let enter = c.in_ok-seq-in-Array.ensures in
+    let reads = c.in_ok-header.ensures.reads in
+    let is : IsEntered mid new c.in-Array.count q =
+    (enter.decoder, enter.pending, enter.some, enter.levels, enter.left) in
+    let (kept, none, fewer) = entered-kept new c.in-Array.count q is reads in
+    let opens = array-entered g.A.Access.remaining old mid new c.in-Array.count q reads.levels is given_seq
+    (λ span is. give (takes_level span, is))
+    (subst (TakesBare (IsUnread g.A.Access.remaining) old mid false) c.in-Array.is c.in_ok-header.ensures.head)
+    (seq-given old.levels (λ z. enter.some (reads.levels ∙ z)) c.in-Array.count) in record {
+      ok = items-stand g.A.Access.remaining old new q kept (enter.back ∙ reads.levels) none (omega (arith, fewer))
+          given_seq (λ span is. give (takes_level span, is)) opens;
+      refused = tt;
+      took = λ b u. let (w, un, owes, leads) = opens b u in (w, un, owes);
+      only = λ first t. kept.1 first.decoder t;
+      less = fewer;
+      no_more = tt;
+    }
+
+pub returns-in_err-seq-in-Array-clause-refused : goal.returns-in_err-seq-in-Array-clause-refused
+returns-in_err-seq-in-Array-clause-refused g c =
+    let exit = err_from_is_err_and c.from_residual-in_err-seq-in-Array.result
+    c.from_residual-in_err-seq-in-Array.ensures.1 in
+    rw (exit.1, exit.2) (nested-refuses given_seq c.in_ok-header.ensures.reads c.in_ok-header.ensures.head
+    c.enter.new.self
+    (header.Array c.in-Array.count) c.in-Array.is c.in_err-seq-in-Array.ensures.err (array-nests bare_seq (λ o is. refl)
+    c.args.self.now.levels c.in-Array.count (sym c.in_ok-header.ensures.reads.levels ∙
+    c.in_err-seq-in-Array.ensures.none)))
+
+pub returns-in_ok-seq-in-Bytes : goal.returns-in_ok-seq-in-Bytes
+returns-in_ok-seq-in-Bytes g c =
+    let old = c.args.self.now in
+    let mid = c.bare_head.new.self in
+    let new = c.open_bytes.new.self in
+    let q = c.in_ok-seq-in-Bytes.seq in
+    let opened = c.in_ok-seq-in-Bytes.ensures in
+    let reads = c.in_ok-header.ensures.reads in
+    let fewer : weight_left new + seq_left q < weight_left old = search rules in
+    let (v, is, content) = bytes-had q.left _ opened.ok in
+    let opens = bytes-entered g.A.Access.remaining old mid new q v c.in-Bytes.len (into_iter_items v) is refl
+    (opened.levels ∙ reads.levels)
+    (subst (TakesBare (IsUnread g.A.Access.remaining) old mid false) c.in-Bytes.is c.in_ok-header.ensures.head)
+    content in record {
+      ok = items-stand g.A.Access.remaining old new q (
+        opened.same_reader ∙ reads.same_reader,
+        λ first t. opened.only first (reads.only first t),
+      )
+          (opened.back ∙ reads.levels) opened.pending (omega (arith, fewer)) given_seq
+          (λ span is. give (takes_level span, is)) opens;
+      refused = tt;
+      took = λ b u. let (w, un, owes, leads) = opens b u in (w, un, owes);
+      only = λ first t. opened.only first.decoder (reads.only first.decoder t);
+      less = fewer;
+      no_more = tt;
+    }
+
+pub returns-in_err-seq-in-Bytes-clause-refused : goal.returns-in_err-seq-in-Bytes-clause-refused
+returns-in_err-seq-in-Bytes-clause-refused g c =
+    let exit = err_from_is_err_and c.from_residual-in_err-seq-in-Bytes.result
+    c.from_residual-in_err-seq-in-Bytes.ensures.1 in
+    rw (exit.1, exit.2) (string-refuses given_seq c.in_ok-header.ensures.reads c.in_ok-header.ensures.head _ of_bytes
+    c.in-Bytes.len c.in-Bytes.is c.in_err-seq-in-Bytes.ensures.denied)
+
+pub returns-in_default-clause-refused : goal.returns-in_default-clause-refused
+returns-in_default-clause-refused g c = other-refuses given_seq c.in_ok-header.ensures.reads c.in_ok-header.ensures.head
+    (seq-other (Some c.args.self.now.levels) c.in_ok-header.header
+    c.in_ok-header.ensures.reads.bare c.in_default.not-Array c.in_default.not-Bytes)

@@ -1,25 +1,109 @@
-use Rattle.std.proofs.Common.{Some}
-use Rattle.ciborium_value.specs.Given.{given_outer_tag}
-use Rattle.ciborium.proofs.Containers.DueLevels.{completes-begun, holds-begun, ok-map-two, on-ok-so}
-use Rattle.ciborium.specs.inner.ByteSources.{fault_at}
-use Rattle.ciborium.proofs.Containers.ByteItems.{refuses-denied}
+use Rattle.std.proofs.Common.{None, ◌≡◌, ap, ◌∙◌, sym, Some, false, subst, arith, ◌++◌, refl}
+use Rattle.std.proofs.lemmas.Result.{err_from_is_err_and}
+use Rattle.ciborium_ll.specs.Header.{SpellsHeader}
+use Rattle.ciborium_value.specs.{Sources.of_kind, Given.given_outer_tag}
+use Rattle.ciborium.specs.inner.ByteSources.{IsUnread, IsUnreadBy, end_at, fault_at, pending_head_weight}
+use Rattle.ciborium.specs.inner.FrontItems.{TakesHead}
+use Rattle.ciborium.proofs.{Items.TakenOnly.kept-alone, Containers.EnteredContainers.same-unread}
+use Rattle.ciborium.proofs.{Containers.ByteItems.refuses-denied, Containers.DueLevels.{completes-begun, holds-begun}}
+use Rattle.ciborium.proofs.Containers.DueLevels.{none-begun, tag-begun, tag-refused}
+use Rattle.ciborium.proofs.{Containers.NextParts.aside-unread, Items.SkippedTags.{denies-item, denies-break}}
+use Rattle.ciborium.proofs.Items.SkippedTags.{denies-of-item, skips-none}
+use Rattle.ciborium_value.specs.declared.kind.Kind.TheVariants as kinds
 use Rattle.ciborium.proofs.de.byte_source.source.ByteSourceSource.begin_tag.Goals as goal
-use Rattle.std.proofs.lemmas.Result.{IfErr-weaker}
 
-pub returns-clause-ok : goal.returns-clause-ok
-returns-clause-ok g c =
-    ok-map-two c.begin_tag.result c.begin_tag.ensures.level
-    c.begin_tag.ensures.ok
-    (λ p level k. holds-begun g.A.Access.remaining c.args.self.now c.begin_tag.new.self given_outer_tag p.0 p.1
-    (c.begin_tag.ensures.same_reader, c.begin_tag.ensures.only) level k)
+pub returns-in_err-header-clause-refused : goal.returns-in_err-header-clause-refused
+returns-in_err-header-clause-refused g c =
+    let exit = err_from_is_err_and c.from_residual.result c.from_residual.ensures.1 in
+    let U = IsUnread g.A.Access.remaining in
+    let old = c.args.self.now in
+    let fault = fault_at g.A.Access.can_fail g.A.Access.remaining c.next_head.new.self c.in_err-header.field-0.0 in
+    rw (exit.1, exit.2) (refuses-denied g.A.Access.remaining old given_outer_tag fault
+    (denies-of-item U (end_at g.A.Access.remaining) (Some old.levels) given_outer_tag old fault
+    (denies-item U (end_at g.A.Access.remaining) old old false fault (λ b u. refl) (skips-none U old false)
+    c.in_err-header.ensures.denied)))
 
-pub returns-clause-took : goal.returns-clause-took
-returns-clause-took g c =
-    on-ok-so c.begin_tag.result c.begin_tag.ensures.ok
-    (λ p k. completes-begun g.A.Access.remaining c.args.self.now c.begin_tag.new.self (Some c.args.self.now.levels)
-    given_outer_tag p.0 k)
+pub returns-in-Break-clause-refused : goal.returns-in-Break-clause-refused
+returns-in-Break-clause-refused g c =
+    let U = IsUnread g.A.Access.remaining in
+    let old = c.args.self.now in
+    refuses-denied g.A.Access.remaining old given_outer_tag (of_kind kinds.Break)
+    (denies-of-item U (end_at g.A.Access.remaining) (Some old.levels) given_outer_tag old (of_kind kinds.Break)
+    (denies-break U (end_at g.A.Access.remaining) old old c.next_head.new.self false
+    (of_kind kinds.Break) (skips-none U old false)
+    (subst (TakesHead U old c.next_head.new.self) c.in-Break.is c.in_ok-header.ensures.head)))
 
-pub returns-clause-refused : goal.returns-clause-refused
-returns-clause-refused g c = IfErr-weaker c.begin_tag.result _ _
-    (λ e h. refuses-denied g.A.Access.remaining c.args.self.now given_outer_tag
-    (fault_at g.A.Access.can_fail g.A.Access.remaining c.begin_tag.new.self e) h) c.begin_tag.ensures.denied
+pub returns-in_ok-level-in-Tag : goal.returns-in_ok-level-in-Tag
+returns-in_ok-level-in-Tag g c =
+    let U = IsUnread g.A.Access.remaining in
+    let old = c.args.self.now in
+    let mid = c.next_head.new.self in
+    let new = c.take_level.new.self in
+    let head = c.in_ok-header.ensures in
+    let level = c.in_ok-level-in-Tag.ensures in
+    let less = level.some.1 in
+    let same = head.levels in
+    let fewer = head.fewer in
+    let count : new.decoder.counter.count ≡ mid.decoder.counter.count = ap (λ d. d.counter.count) level.decoder in
+    let none : pending_head_weight new.pending ≡ 0 = ap pending_head_weight (level.pending ∙ head.pending) in
+    let kept = kept-alone g.A.Access.remaining old mid new level.decoder (head.same_reader, head.only) in
+    let begun = tag-begun U old mid new old.levels (λ z. absurd (omega (arith, z, less, same))) c.in-Tag.tag
+    (subst (TakesHead U old mid) c.in-Tag.is head.head)
+    (same-unread g.A.Access.remaining mid new level.decoder level.pending) in record {
+      ok = holds-begun g.A.Access.remaining old new given_outer_tag (Some c.in-Tag.tag) c.in_ok-level-in-Tag.level kept
+          (level.some.0 ∙ same, sym same ∙ less) begun;
+      refused = tt;
+      memory = tt;
+      took = completes-begun g.A.Access.remaining old new (Some old.levels) given_outer_tag (Some c.in-Tag.tag) begun;
+      only = λ first t. kept.1 first.decoder t;
+      less = omega (arith, fewer, count, none);
+      no_more = tt;
+    }
+
+pub returns-in_err-level-in-Tag-clause-refused : goal.returns-in_err-level-in-Tag-clause-refused
+returns-in_err-level-in-Tag-clause-refused g c =
+    let exit = err_from_is_err_and c.from_residual-in_err-level-in-Tag.result
+    c.from_residual-in_err-level-in-Tag.ensures.1 in
+    rw (exit.1, exit.2) (tag-refused g.A.Access.can_fail g.A.Access.remaining c.args.self.now c.next_head.new.self
+    c.take_level.new.self c.in_err-level-in-Tag.field-0.0 c.in_ok-header.ensures.levels
+    c.in_err-level-in-Tag.ensures.none c.in_err-level-in-Tag.ensures.err)
+
+pub returns-in_err-level-in_default-clause-refused : goal.returns-in_err-level-in_default-clause-refused
+returns-in_err-level-in_default-clause-refused g c =
+    let exit = err_from_is_err_and c.from_residual-in_err-level-in_default.result
+    c.from_residual-in_err-level-in_default.ensures.1 in
+    rw (exit.1, exit.2) (tag-refused g.A.Access.can_fail g.A.Access.remaining c.args.self.now c.next_head.new.self
+    c.take_level-in_default.new.self c.in_err-level-in_default.field-0.0 c.in_ok-header.ensures.levels
+    c.in_err-level-in_default.ensures.none c.in_err-level-in_default.ensures.err)
+
+pub returns-in_ok-level-in_default : goal.returns-in_ok-level-in_default
+returns-in_ok-level-in_default g c =
+    let U = IsUnread g.A.Access.remaining in
+    let h = c.in_ok-header.header in
+    let old = c.args.self.now in
+    let mid = c.next_head.new.self in
+    let taken = c.take_level-in_default.new.self in
+    let new = record taken { pending = Some (h, c.in_ok-header.offset) } in
+    let head = c.in_ok-header.ensures in
+    let level = c.in_ok-level-in_default.ensures in
+    let less = level.some.1 in
+    let same = head.levels in
+    let aside : (b x y : _) → U old b → SpellsHeader x h → b ≡ x ++ y → U mid y →
+    IsUnreadBy g.A.Access.remaining taken.decoder (Some (h, c.in_ok-header.offset)) b
+    = λ b x y w hd e u. subst (λ d. IsUnreadBy g.A.Access.remaining d (Some (h, c.in_ok-header.offset)) b)
+    (sym level.decoder) (aside-unread g.A.Access.remaining mid.decoder mid.pending h c.in_ok-header.offset b x y
+    head.pending hd e (head.counted b x y w hd e) u) in
+    let fewer = head.fewer in
+    let count : taken.decoder.counter.count ≡ mid.decoder.counter.count = ap (λ d. d.counter.count) level.decoder in
+    let kept = kept-alone g.A.Access.remaining old mid new level.decoder (head.same_reader, head.only) in
+    let begun = none-begun U old mid new old.levels (λ z. absurd (omega (arith, z, less, same))) h
+    c.in_default.not-Tag head.head aside in record {
+      ok = holds-begun g.A.Access.remaining old new given_outer_tag None c.in_ok-level-in_default.level kept
+          (level.some.0 ∙ same, sym same ∙ less) begun;
+      refused = tt;
+      memory = tt;
+      took = completes-begun g.A.Access.remaining old new (Some old.levels) given_outer_tag None begun;
+      only = λ first t. kept.1 first.decoder t;
+      less = omega (arith, fewer, count);
+      no_more = tt;
+    }

@@ -1,24 +1,163 @@
-use Rattle.std.proofs.Common.{Some, string_bytes}
-use Rattle.ciborium_value.specs.Given.{given_variant}
-use Rattle.ciborium.proofs.Containers.DueLevels.{completes-begun, holds-begun, ok-map-two, on-ok-so}
-use Rattle.ciborium.specs.inner.ByteSources.{fault_at}
-use Rattle.ciborium.proofs.Containers.ByteItems.{refuses-denied}
+use Rattle.std.proofs.Common.{rules, ◌≡◌, ◌≢◌, ◌≤◌, ◌+◌, length, ap, ◌∙◌, sym, Some, false, subst, arith, string_bytes}
+use Rattle.std.proofs.lemmas.Result.{err_from_is_err_and}
+use Rattle.ciborium_ll.specs.StringRefusal.{of_text}
+use Rattle.ciborium_value.specs.Given.{deeper, given_name, given_variant}
+use Rattle.ciborium.specs.{inner.ByteSources.{IsUnread, end_at, reader_of, fault_at}, inner.FrontItems.{Denies, Reads}}
+use Rattle.ciborium.specs.inner.Skips.{TakesBare}
+use Rattle.ciborium.proofs.{Containers.EnteredContainers.{deeper-is, same-unread}, Containers.ByteItems.head-refuses}
+use Rattle.ciborium.proofs.Containers.ByteItems.{nested-refuses, other-refuses, refuses-denied}
+use Rattle.ciborium.proofs.{Containers.DueLevels.{completes-begun, holds-begun}, Containers.NamedVariants.key-denied}
+use Rattle.ciborium.proofs.Containers.NamedVariants.{map-no-text, map-not-one, null-unread, pair-nests, pair-begun}
+use Rattle.ciborium.proofs.Containers.NamedVariants.{text-nests, text-begun, variant-other}
+use Rattle.ciborium.proofs.{Items.SkippedTags.denies-of-item, Payloads.StringPayloads.denies-content}
+use Rattle.ciborium.proofs.Items.TakenOnly.{kept-alone, same-end}
+use Rattle.ciborium_ll.specs.declared.header.Header.TheVariants as header
 use Rattle.ciborium.proofs.de.byte_source.source.ByteSourceSource.begin_variant.Goals as goal
-use Rattle.std.proofs.lemmas.Result.{IfErr-weaker}
 
-pub returns-clause-ok : goal.returns-clause-ok
-returns-clause-ok g c =
-    ok-map-two c.begin_variant.result c.begin_variant.ensures.level c.begin_variant.ensures.ok
-    (λ p level k. holds-begun g.A.Access.remaining c.args.self.now c.begin_variant.new.self given_variant
-    (string_bytes p.0) p.1 (c.begin_variant.ensures.same_reader, c.begin_variant.ensures.only) level k)
+pub returns-in_err-header-clause-refused : goal.returns-in_err-header-clause-refused
+returns-in_err-header-clause-refused g c =
+    let exit = err_from_is_err_and c.from_residual.result c.from_residual.ensures.1 in
+    rw (exit.1, exit.2) (head-refuses given_variant c.in_err-header.ensures.reads c.in_err-header.ensures.denied)
 
-pub returns-clause-took : goal.returns-clause-took
-returns-clause-took g c =
-    on-ok-so c.begin_variant.result c.begin_variant.ensures.ok
-    (λ p k. completes-begun g.A.Access.remaining c.args.self.now c.begin_variant.new.self
-    (Some c.args.self.now.levels) given_variant (string_bytes p.0) k)
+pub returns-in_err-level-in-Text-clause-refused : goal.returns-in_err-level-in-Text-clause-refused
+returns-in_err-level-in-Text-clause-refused g c =
+    let exit = err_from_is_err_and c.from_residual-in_err-level-in-Text.result
+    c.from_residual-in_err-level-in-Text.ensures.1 in
+    rw (exit.1, exit.2) (nested-refuses given_variant c.in_ok-header.ensures.reads c.in_ok-header.ensures.head
+    c.take_level.new.self
+    (header.Text c.in-Text.len) c.in-Text.is c.in_err-level-in-Text.ensures.err (text-nests c.args.self.now.levels
+    c.in-Text.len (sym c.in_ok-header.ensures.reads.levels ∙ c.in_err-level-in-Text.ensures.none)))
 
-pub returns-clause-refused : goal.returns-clause-refused
-returns-clause-refused g c = IfErr-weaker c.begin_variant.result _ _
-    (λ e h. refuses-denied g.A.Access.remaining c.args.self.now given_variant
-    (fault_at g.A.Access.can_fail g.A.Access.remaining c.begin_variant.new.self e) h) c.begin_variant.ensures.denied
+pub returns-in_err-level-in-Map-clause-refused : goal.returns-in_err-level-in-Map-clause-refused
+returns-in_err-level-in-Map-clause-refused g c =
+    let exit = err_from_is_err_and c.from_residual-in_err-level-in-Map.result
+    c.from_residual-in_err-level-in-Map.ensures.1 in
+    rw (exit.1, exit.2) (nested-refuses given_variant c.in_ok-header.ensures.reads c.in_ok-header.ensures.head
+    c.take_level-in-Map.new.self
+    (header.Map (Some 1)) (c.in-Map.is ∙ ap header.Map c.if-not-is_one.ensures) c.in_err-level-in-Map.ensures.err
+    (pair-nests c.args.self.now.levels (sym c.in_ok-header.ensures.reads.levels ∙
+    c.in_err-level-in-Map.ensures.none)))
+
+pub returns-in_err-name-in-Text-clause-refused : goal.returns-in_err-name-in-Text-clause-refused
+returns-in_err-name-in-Text-clause-refused g c =
+    let exit = err_from_is_err_and c.from_residual-in_err-name-in-Text.result
+    c.from_residual-in_err-name-in-Text.ensures.1 in
+    let U = IsUnread g.A.Access.remaining in
+    let fault = fault_at g.A.Access.can_fail g.A.Access.remaining c.text_content.new.self
+    c.in_err-name-in-Text.field-0.0 in
+    let level = c.in_ok-level-in-Text.ensures in
+    rw (exit.1, exit.2) (refuses-denied g.A.Access.remaining c.args.self.now given_variant fault
+    (denies-of-item U (end_at g.A.Access.remaining) (Some c.args.self.now.levels) given_variant
+    c.args.self.now fault
+    (denies-content U (end_at g.A.Access.remaining) false c.args.self.now c.bare_head.new.self of_text c.in-Text.len
+    fault
+    (same-end g.A.Access.remaining c.args.self.now c.bare_head.new.self c.in_ok-header.ensures.reads.only)
+    (subst (TakesBare U c.args.self.now c.bare_head.new.self false) c.in-Text.is c.in_ok-header.ensures.head)
+    (λ y x s z payload end u hd sp e fits. c.in_err-name-in-Text.ensures.denied y x s z payload end
+    (same-unread g.A.Access.remaining c.bare_head.new.self c.take_level.new.self level.decoder level.pending y u) hd
+    sp e (subst (λ d. (reader_of g.A.Access.remaining d).1 ≤ end + length z) (sym level.decoder) fits)))))
+
+pub returns-in_ok-name-in-Text : goal.returns-in_ok-name-in-Text
+returns-in_ok-name-in-Text g c =
+    let U = IsUnread g.A.Access.remaining in
+    let old = c.args.self.now in
+    let mid = c.bare_head.new.self in
+    let taken = c.take_level.new.self in
+    let read = c.text_content.new.self in
+    let new = record read { pending = Some (header.Simple 22, c.in_ok-header.offset) } in
+    let name = string_bytes c.in_ok-name-in-Text.name in
+    let reads = c.in_ok-header.ensures.reads in
+    let level = c.in_ok-level-in-Text.ensures in
+    let content = c.in_ok-name-in-Text.ensures in
+    let less = level.some.1 in
+    let same = reads.levels in
+    let levels = content.levels in
+    let kept = kept-alone g.A.Access.remaining old mid taken level.decoder (reads.same_reader, reads.only) in
+    let begun = text-begun U old mid new old.levels (λ z. absurd (omega (arith, z, less, same))) c.in-Text.len name
+    (subst (TakesBare U old mid false) c.in-Text.is c.in_ok-header.ensures.head) (λ y u.
+    let (d, z, make, f, un) = content.ok y
+    (same-unread g.A.Access.remaining mid taken level.decoder level.pending y u) in (
+      d,
+      z,
+      make,
+      f,
+      null-unread g.A.Access.remaining read.decoder read.pending c.in_ok-header.offset z content.pending un,
+    )) in record {
+      ok = holds-begun g.A.Access.remaining old new given_variant name c.in_ok-level-in-Text.level
+          (content.same_reader ∙ kept.0, λ first t. content.only first (kept.1 first t))
+          (level.some.0 ∙ same, omega (arith, less, same, levels)) begun;
+      refused = tt;
+      took = completes-begun g.A.Access.remaining old new (Some old.levels) given_variant name begun;
+      only = λ first t. content.only first.decoder (kept.1 first.decoder t);
+      less = search rules;
+      no_more = tt;
+    }
+
+pub returns-in_ok-name-in-Map : goal.returns-in_ok-name-in-Map
+returns-in_ok-name-in-Map g c =
+    let U = IsUnread g.A.Access.remaining in
+    let old = c.args.self.now in
+    let mid = c.bare_head.new.self in
+    let taken = c.take_level-in-Map.new.self in
+    let new = c.name.new.self in
+    let name = string_bytes c.in_ok-name-in-Map.name in
+    let reads = c.in_ok-header.ensures.reads in
+    let level = c.in_ok-level-in-Map.ensures in
+    let keeps = c.in_ok-name-in-Map.ensures.keeps in
+    let less = level.some.1 in
+    let same = reads.levels in
+    let levels = keeps.levels in
+    let some : old.levels ≢ 0 = λ z. absurd (omega (arith, z, less, same)) in
+    let inner : Some taken.levels ≡ deeper (Some old.levels) =
+    ap Some (omega (arith, less, same)) ∙ sym (deeper-is old.levels some) in
+    let kept = kept-alone g.A.Access.remaining old mid taken level.decoder (reads.same_reader, reads.only) in
+    let begun = pair-begun U old mid taken new old.levels some
+    (same-unread g.A.Access.remaining mid taken level.decoder level.pending) name
+    (subst (TakesBare U old mid false) (c.in-Map.is ∙ ap header.Map c.if-not-is_one.ensures)
+    c.in_ok-header.ensures.head)
+    (subst (λ l. Reads U taken new l given_name name) inner c.in_ok-name-in-Map.ensures.answer) in record {
+      ok = holds-begun g.A.Access.remaining old new given_variant name c.in_ok-level-in-Map.level
+          (keeps.same_reader ∙ kept.0, λ first t. keeps.only first (kept.1 first t))
+          (level.some.0 ∙ same, omega (arith, less, same, levels)) begun;
+      refused = tt;
+      took = completes-begun g.A.Access.remaining old new (Some old.levels) given_variant name begun;
+      only = λ first t. keeps.only first.decoder (kept.1 first.decoder t);
+      less = search rules;
+      no_more = tt;
+    }
+
+pub returns-in_err-name-in-Map-clause-refused : goal.returns-in_err-name-in-Map-clause-refused
+returns-in_err-name-in-Map-clause-refused g c =
+    let exit = err_from_is_err_and c.from_residual-in_err-name-in-Map.result
+    c.from_residual-in_err-name-in-Map.ensures.1 in
+    let U = IsUnread g.A.Access.remaining in
+    let fault = fault_at g.A.Access.can_fail g.A.Access.remaining c.name.new.self c.in_err-name-in-Map.field-0.0 in
+    let level = c.in_ok-level-in-Map.ensures in
+    let less = level.some.1 in
+    let same = c.in_ok-header.ensures.reads.levels in
+    let some : c.args.self.now.levels ≢ 0 = λ z. absurd (omega (arith, z, less, same)) in
+    let inner : Some c.take_level-in-Map.new.self.levels ≡ deeper (Some c.args.self.now.levels) =
+    ap Some (omega (arith, less, same)) ∙ sym (deeper-is c.args.self.now.levels some) in
+    rw (exit.1, exit.2) (refuses-denied g.A.Access.remaining c.args.self.now given_variant fault
+    (key-denied U c.args.self.now c.bare_head.new.self c.take_level-in-Map.new.self
+    c.take_level-in-Map.new.self c.args.self.now.levels some
+    (same-unread g.A.Access.remaining c.bare_head.new.self c.take_level-in-Map.new.self level.decoder level.pending)
+    (end_at g.A.Access.remaining) fault (λ b u. ap (λ d. (reader_of g.A.Access.remaining d).1) level.decoder ∙
+    same-end g.A.Access.remaining c.args.self.now c.bare_head.new.self c.in_ok-header.ensures.reads.only b u)
+    (subst (TakesBare U c.args.self.now c.bare_head.new.self false)
+    (c.in-Map.is ∙ ap header.Map c.if-not-is_one.ensures) c.in_ok-header.ensures.head)
+    (subst (λ l. Denies U (end_at g.A.Access.remaining) c.take_level-in-Map.new.self l given_name fault) inner
+    c.in_err-name-in-Map.ensures.answer)))
+
+pub returns-then-not-is_one-clause-refused : goal.returns-then-not-is_one-clause-refused
+returns-then-not-is_one-clause-refused g c =
+    other-refuses given_variant c.in_ok-header.ensures.reads c.in_ok-header.ensures.head
+    (variant-other (Some c.args.self.now.levels) c.in_ok-header.header
+    c.in_ok-header.ensures.reads.bare (map-no-text c.in_ok-header.header c.in-Map.count c.in-Map.is) (map-not-one
+    c.in_ok-header.header c.in-Map.count c.in-Map.is c.if-not-is_one.ensures))
+
+pub returns-in_default-clause-refused : goal.returns-in_default-clause-refused
+returns-in_default-clause-refused g c =
+    other-refuses given_variant c.in_ok-header.ensures.reads c.in_ok-header.ensures.head
+    (variant-other (Some c.args.self.now.levels) c.in_ok-header.header
+    c.in_ok-header.ensures.reads.bare c.in_default.not-Text (c.in_default.not-Map (Some 1)))

@@ -1,8 +1,106 @@
-use Rattle.ciborium_value.specs.Given.{given_character}
-use Rattle.ciborium.proofs.Containers.ByteItems.{takes-one}
+use Rattle.std.proofs.Common.{rules, ◌≡◌, ◌≤◌, ℕ, [], ◌∷◌, ap, ◌∙◌, Some, false, subst, arith, length, take}
+use Rattle.std.proofs.{Common.{length-append, chars, ◌+◌}, lemmas.Grind.common_steps, lemmas.Result.err_from_is_err_and}
+use Rattle.ciborium_ll.specs.{Accesses.left_at_failure, StringRefusal.of_text}
+use Rattle.ciborium_value.specs.{Sources.of_kind, Given.{given_character, lone_character, settled}}
+use Rattle.ciborium_value.proofs.Sources.Sequences.{fault_outside}
+use Rattle.ciborium.specs.{inner.ByteSources.{IsUnread, end_at, fault_at}, inner.Skips.TakesBare}
+use Rattle.ciborium.proofs.Payloads.LoneCharacters.{character-given, character-open, character-other, long-denied}
+use Rattle.ciborium.proofs.Payloads.LoneCharacters.{payload-denied, payload-taken, text-denied}
+use Rattle.ciborium.proofs.{Items.SkippedTags.reads-bare, Items.TakenOnly.same-end}
+use Rattle.ciborium.proofs.{Payloads.StringPayloads.string-behind, Containers.ByteItems.{bare-refused, behind-given}}
+use Rattle.ciborium.proofs.Containers.ByteItems.{behind-refused, head-refused, other-refuses, refuses-denied}
+use Rattle.ciborium_ll.specs.declared.header.Header.TheVariants as header
+use Rattle.ciborium_value.specs.declared.kind.Kind.TheVariants as kinds
 use Rattle.ciborium.proofs.de.byte_source.source.ByteSourceSource.character.Goals as goal
 
-pub returns-clause-takes : goal.returns-clause-takes
-returns-clause-takes g c = takes-one g.A.Access.can_fail g.A.Access.remaining c.args.self.now c.character.new.self
-    given_character
-    (λ v. v) c.character.result c.character.ensures.keeps c.character.ensures.answer
+short : (n : ℕ) → n ≤ 4 → length {A = ℕ} (take n (0 ∷ 0 ∷ 0 ∷ 0 ∷ [])) ≡ n
+short n h = grind (arith, common_steps)
+
+pub returns-in_err-header-clause-takes : goal.returns-in_err-header-clause-takes
+returns-in_err-header-clause-takes g c =
+    let exit = err_from_is_err_and c.from_residual.result c.from_residual.ensures.1 in
+    rw (exit.1, exit.2) (head-refused c.in_err-header.ensures.reads c.in_err-header.ensures.denied)
+
+pub returns-then-n-gt-GREATEST_CHARACTER_SIZE-clause-takes : goal.returns-then-n-gt-GREATEST_CHARACTER_SIZE-clause-takes
+returns-then-n-gt-GREATEST_CHARACTER_SIZE-clause-takes g c =
+    let old = c.args.self.now in
+    let mid = c.bare_head.new.self in
+    bare-refused c.in_ok-header.ensures.reads (refuses-denied g.A.Access.remaining old given_character
+    (of_kind kinds.Char)
+    (long-denied (IsUnread g.A.Access.remaining) (end_at g.A.Access.remaining) (Some old.levels) old mid c.in-Some.n
+    (subst (TakesBare (IsUnread g.A.Access.remaining) old mid false) (c.in-Text.is ∙ ap header.Text c.in-Some.is)
+    c.in_ok-header.ensures.head) (same-end g.A.Access.remaining old mid c.in_ok-header.ensures.reads.only)
+    c.if-n-gt-GREATEST_CHARACTER_SIZE.true))
+
+pub returns-in_ok-character-in-Some-clause-takes : goal.returns-in_ok-character-in-Some-clause-takes
+returns-in_ok-character-in-Some-clause-takes g c =
+    let old = c.args.self.now in
+    let l = Some old.levels in
+    let n = c.in-Some.n in
+    let mid = c.bare_head.new.self in
+    let new = c.fill.new.self in
+    let payload = c.fill.new.buffer in
+    let size : length payload ≡ n = c.fill.auto.buffer ∙ short n c.if-n-gt-GREATEST_CHARACTER_SIZE.false in
+    let content = c.in_ok-fill-in-Some.ensures in
+    let found = c.in_ok-character-in-Some.character in
+    behind-given c.in_ok-header.ensures.reads (content.same_reader, content.only) content.levels content.pending
+    content.fewer (reads-bare (IsUnread g.A.Access.remaining) false (header.Text (Some n)) l given_character old mid new
+    found (subst (TakesBare (IsUnread g.A.Access.remaining) old mid false) (c.in-Text.is ∙ ap header.Text c.in-Some.is)
+    c.in_ok-header.ensures.head)
+    (string-behind (IsUnread g.A.Access.remaining) mid new of_text (Some n) l given_character payload found
+    (payload-taken (IsUnread g.A.Access.remaining mid) (IsUnread g.A.Access.remaining new) n payload size
+    c.in_ok-character-in-Some.ensures.utf8 content.ok)
+    (character-given l payload found c.in_ok-character-in-Some.ensures.ok)))
+
+pub returns-in_err-fill-in-Some-clause-takes : goal.returns-in_err-fill-in-Some-clause-takes
+returns-in_err-fill-in-Some-clause-takes g c =
+    let exit = err_from_is_err_and c.from_residual-in_err-fill-in-Some.result
+    c.from_residual-in_err-fill-in-Some.ensures.1 in
+    let old = c.args.self.now in
+    let mid = c.bare_head.new.self in
+    let n = c.in-Some.n in
+    let fault = fault_at g.A.Access.can_fail g.A.Access.remaining c.fill.new.self c.in_err-fill-in-Some.field-0.0 in
+    let room = short n c.if-n-gt-GREATEST_CHARACTER_SIZE.false in
+    let refusal = c.in_err-fill-in-Some.ensures in
+    rw (exit.1, exit.2) (behind-refused c.in_ok-header.ensures.reads refusal.only refusal.no_more
+    (refuses-denied g.A.Access.remaining old given_character fault
+    (text-denied (IsUnread g.A.Access.remaining) (end_at g.A.Access.remaining) (Some old.levels) old mid n
+    (subst (TakesBare (IsUnread g.A.Access.remaining) old mid false) (c.in-Text.is ∙ ap header.Text c.in-Some.is)
+    c.in_ok-header.ensures.head) fault (same-end g.A.Access.remaining old mid c.in_ok-header.ensures.reads.only)
+    (λ y z payload end un size utf8 e fits. let more : length y ≡ length payload + length z = ap length e ∙
+    length-append payload z in
+    fault_outside end fault (settled (lone_character (chars payload)))
+    (refusal.outside y (length z) end un (omega (arith, room, size, more)) fits)))))
+
+pub returns-in_err-character-in-Some-clause-takes : goal.returns-in_err-character-in-Some-clause-takes
+returns-in_err-character-in-Some-clause-takes g c =
+    let exit = err_from_is_err_and c.from_residual-in_err-character-in-Some.result
+    c.from_residual-in_err-character-in-Some.ensures.1 in
+    let old = c.args.self.now in
+    let n = c.in-Some.n in
+    let mid = c.bare_head.new.self in
+    let new = c.fill.new.self in
+    let payload = c.fill.new.buffer in
+    let size : length payload ≡ n = c.fill.auto.buffer ∙ short n c.if-n-gt-GREATEST_CHARACTER_SIZE.false in
+    let fault = fault_at g.A.Access.can_fail g.A.Access.remaining new c.in_err-character-in-Some.field-0.0 in
+    let content = c.in_ok-fill-in-Some.ensures in
+    rw (exit.1, exit.2) (behind-refused c.in_ok-header.ensures.reads content.only (search rules)
+    (refuses-denied g.A.Access.remaining old given_character fault
+    (text-denied (IsUnread g.A.Access.remaining) (end_at g.A.Access.remaining) (Some old.levels) old mid n
+    (subst (TakesBare (IsUnread g.A.Access.remaining) old mid false) (c.in-Text.is ∙ ap header.Text c.in-Some.is)
+    c.in_ok-header.ensures.head) fault (same-end g.A.Access.remaining old mid c.in_ok-header.ensures.reads.only)
+    (payload-denied (end_at g.A.Access.remaining mid) (IsUnread g.A.Access.remaining mid)
+    (IsUnread g.A.Access.remaining new) n payload fault size (c.in_err-character-in-Some.ensures.refused
+    (left_at_failure g.A.Access.can_fail (g.A.Access.remaining new.decoder.reader.now))) content.ok))))
+
+pub returns-in-None-clause-takes : goal.returns-in-None-clause-takes
+returns-in-None-clause-takes g c = bare-refused c.in_ok-header.ensures.reads
+    (other-refuses given_character c.in_ok-header.ensures.reads c.in_ok-header.ensures.head
+    (λ ts i all e. character-open (Some c.args.self.now.levels) ts i all
+    (e ∙ c.in-Text.is ∙ ap header.Text c.in-None.is)))
+
+pub returns-in_default-clause-takes : goal.returns-in_default-clause-takes
+returns-in_default-clause-takes g c = bare-refused c.in_ok-header.ensures.reads
+    (other-refuses given_character c.in_ok-header.ensures.reads c.in_ok-header.ensures.head
+    (character-other (Some c.args.self.now.levels) c.in_ok-header.header c.in_ok-header.ensures.reads.bare
+    c.in_default.not-Text))

@@ -1,19 +1,15 @@
 use Rattle.std.proofs.lemmas.Result.{err_from_is_err_and}
-use Rattle.ciborium_value.specs.Given.{given_integer}
 use Rattle.ciborium.proofs.Containers.ByteItems.{takes-denied, takes-given}
 use Rattle.ciborium.proofs.de.byte_source.source.ByteSourceSource.integer.Goals as goal
 
 pub returns-clause-takes : goal.returns-clause-takes
 returns-clause-takes g c =
     let read = c.in_ok-number.ensures in
-    takes-given g.A.Access.can_fail g.A.Access.remaining c.args.self.now c.read_integer.new.self given_integer
-    (λ v. v) c.in_ok-number.number
-    (read.keeps.same_reader, read.keeps.only) read.keeps.levels read.keeps.pending read.keeps.fewer read.answer
+    takes-given _ _ (read.keeps.same_reader, read.keeps.only) read.keeps.levels read.keeps.pending read.keeps.fewer
+    read.answer
 
 pub returns-in_err-number-clause-takes : goal.returns-in_err-number-clause-takes
 returns-in_err-number-clause-takes g c =
     let exit = err_from_is_err_and c.from_residual.result c.from_residual.ensures.1 in
     let read = c.in_err-number.ensures in
-    rw (exit.1, exit.2) (takes-denied g.A.Access.can_fail g.A.Access.remaining c.args.self.now c.read_integer.new.self
-    given_integer
-    (λ v. v) c.in_err-number.field-0.0 read.keeps.only read.keeps.no_more read.answer)
+    rw (exit.1, exit.2) (takes-denied _ _ read.keeps.only read.keeps.no_more read.answer)

@@ -2,7 +2,7 @@ use Rattle.std.proofs.Common.{sym, subst, ◌∙◌}
 use Rattle.ciborium_value.proofs.Trees.Views.{tree_of-Integer, tree_of-Null}
 use Rattle.ciborium.specs.inner.ByteSources.{MeansTree}
 use Rattle.ciborium.proofs.Items.WholeValues.{portable-null, portable-number}
-use Rattle.ciborium.proofs.de.byte_source.values.portable_value.Goals as goal
+use Rattle.ciborium.proofs.de.byte_source.scalars.portable_value.Goals as goal
 
 pub returns-in-Positive : goal.returns-in-Positive
 returns-in-Positive c = subst (MeansTree c.args.header) (sym (tree_of-Integer c.from.result))

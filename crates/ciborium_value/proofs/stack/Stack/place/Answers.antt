@@ -1,12 +1,11 @@
 use Rattle.std.proofs.Common.{rules, sym, ◌∙◌, ap}
-use Rattle.ciborium_value.specs.inner.Stack.{filled_of, frame_of}
-use Rattle.ciborium_value.specs.View.{tree_of}
+use Rattle.ciborium_value.specs.{inner.Stack.{filled_of, frame_of}, View.tree_of}
 use Rattle.ciborium_value.proofs.Trees.Stacked.{still-placed}
-use Rattle.ciborium_value.proofs.stack.place.Goals as goal
+use Rattle.ciborium_value.proofs.stack.Stack.place.Goals as goal
 
 pub returns-in-None : goal.returns-in-None
 returns-in-None c =
-    still-placed c.loop-frame.frames.items _ c.in-Some.frame.now c.fill.new.frame (tree_of c.loop-frame.value)
+    still-placed c.loop-frame.self.frames.items _ c.in-Some.frame.now c.fill.new.frame (tree_of c.loop-frame.value)
     (search rules) (search rules) c.in-Some.ensures.value
     (ap (λ r. filled_of r (frame_of c.fill.new.frame)) (sym c.in-None.is) ∙ c.in_ok-fill.ensures) ∙
     c.loop-frame.invariant

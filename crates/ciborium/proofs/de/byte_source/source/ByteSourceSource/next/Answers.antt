@@ -1,16 +1,14 @@
 use Rattle.std.proofs.Common.{rules, length, Some, arith, ◌++◌, ◌-◌, ◌≡◌, ◌∷◌, refl, sym, ap, ◌∙◌, subst}
+use Rattle.std.proofs.{lemmas.List.nil_from_length, lemmas.Result.err_from_is_err_and}
 use Rattle.std.specs.Vec.Iter.{into_iter_items}
-use Rattle.std.proofs.lemmas.List.{nil_from_length}
-use Rattle.std.proofs.lemmas.Result.{err_from_is_err_and}
-use Rattle.ciborium_ll.specs.declared.header.Header.TheVariants as header
 use Rattle.ciborium_ll.specs.Header.{SpellsHeader}
-use Rattle.ciborium.specs.declared.de.byte_source.Left.TheVariants as left
-use Rattle.ciborium.specs.inner.ByteSources.{IsUnread, IsUnreadBy, fault_at}
-use Rattle.ciborium.specs.inner.FrontItems.{TakesHead}
+use Rattle.ciborium.specs.{inner.ByteSources.{IsUnread, IsUnreadBy, fault_at}, inner.FrontItems.TakesHead}
 use Rattle.ciborium.proofs.Containers.NextParts.{aside-unread, goes-bytes, goes-counted, goes-open, leaves-counted}
 use Rattle.ciborium.proofs.Containers.NextParts.{leaves-open, less-bytes, less-counted, less-open, is-none, no-next}
 use Rattle.ciborium.proofs.Containers.NextParts.{nothing-allowed, nothing-open, wide, wide-head, leaves-bytes}
-use Rattle.ciborium.proofs.de.byte_source.ByteSource.next_part.Goals as goal
+use Rattle.ciborium_ll.specs.declared.header.Header.TheVariants as header
+use Rattle.ciborium.specs.declared.de.byte_source.Left.TheVariants as left
+use Rattle.ciborium.proofs.de.byte_source.source.ByteSourceSource.next.Goals as goal
 
 pub returns-then-n-eq0-clause-ok : goal.returns-then-n-eq0-clause-ok
 returns-then-n-eq0-clause-ok g c =
@@ -69,9 +67,6 @@ returns-in_default g c =
     (Some (h, c.in_ok-header-in-Open.offset)) b
     = λ b x y w hd e u. aside-unread g.A.Access.remaining mid.decoder mid.pending h c.in_ok-header-in-Open.offset b x y
     none hd e (c.in_ok-header-in-Open.ensures.counted b x y w hd e) u in record {
-      same_reader = c.in_ok-header-in-Open.ensures.same_reader;
-      only = c.in_ok-header-in-Open.ensures.only;
-      no_more = tt;
       ok = goes-open g.A.Access.remaining c.args.self.now mid
           (record mid { pending = Some (h, c.in_ok-header-in-Open.offset) }) c.args.seq.now c.args.seq.now h
           c.in-Open.is c.in-Open.is refl (
@@ -84,7 +79,9 @@ returns-in_default g c =
           (IsUnreadBy g.A.Access.remaining mid.decoder (Some (h, c.in_ok-header-in-Open.offset))) c.args.seq.now
           c.args.seq.now c.in-Open.is c.in-Open.is
           (λ b u. let (x, y, hd, e, un) = c.in_ok-header-in-Open.ensures.head b u in aside b x y u hd e un);
-      fewer = omega (arith, c.in_ok-header-in-Open.ensures.fewer);
+      only = λ first. c.in_ok-header-in-Open.ensures.only first.decoder;
+      less = omega (arith, c.in_ok-header-in-Open.ensures.fewer);
+      no_more = tt;
     }
 
 pub returns-in-Some-clause-ok : goal.returns-in-Some-clause-ok

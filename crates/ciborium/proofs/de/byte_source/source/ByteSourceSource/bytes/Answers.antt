@@ -1,0 +1,104 @@
+use Rattle.std.proofs.{Common.{Some, ap, arith, refl, rules, sym, ◌∙◌}, lemmas.Result.err_from_is_err_and}
+use Rattle.ciborium_ll.specs.StringRefusal.{of_bytes}
+use Rattle.ciborium_value.specs.Given.{bare_bytes, given_bytes, outcome}
+use Rattle.ciborium.specs.{inner.ByteSources.fault_at, inner.StringContents.string_item}
+use Rattle.ciborium.proofs.Containers.ByteItems.{array-begun, array-refuses, array-takes, array-took, bytes-other}
+use Rattle.ciborium.proofs.Containers.ByteItems.{bare-refused, behind-refused, head-refused, nested-refuses}
+use Rattle.ciborium.proofs.Containers.ByteItems.{other-refuses, string-given, string-refuses}
+use Rattle.ciborium.proofs.{Containers.EnteredContainers.array-nests, Items.SkippedTags.untagged-under}
+use Rattle.ciborium_ll.specs.declared.header.Header.TheVariants as header
+use Rattle.ciborium.proofs.de.byte_source.source.ByteSourceSource.bytes.Goals as goal
+
+pub returns-in_err-header : goal.returns-in_err-header
+returns-in_err-header g c =
+    let exit = err_from_is_err_and c.from_residual.result c.from_residual.ensures.1 in
+    rw (exit.1, exit.2) (record { takes = head-refused c.in_err-header.ensures.reads c.in_err-header.ensures.denied })
+
+-- ---- a byte string
+
+pub returns-in_ok-bytes-in-Bytes : goal.returns-in_ok-bytes-in-Bytes
+returns-in_ok-bytes-in-Bytes g c =
+    let payload = c.in_ok-bytes-in-Bytes.bytes.items in
+    let content = c.in_ok-bytes-in-Bytes.ensures in
+    let fewer = content.fewer in record {
+      takes = string-given c.in_ok-header.ensures.reads c.in_ok-header.ensures.head of_bytes c.in-Bytes.len
+          c.in-Bytes.is (content.same_reader, content.only) content.levels content.pending (omega (arith, fewer))
+          payload content.ok (λ ts all. ap (λ j. outcome (Some c.args.self.now.levels) (bare_bytes j))
+          (untagged-under ts (string_item of_bytes c.in-Bytes.len payload)));
+    }
+
+pub returns-in_err-bytes-in-Bytes : goal.returns-in_err-bytes-in-Bytes
+returns-in_err-bytes-in-Bytes g c =
+    let exit = err_from_is_err_and c.from_residual-in_err-bytes-in-Bytes.result
+    c.from_residual-in_err-bytes-in-Bytes.ensures.1 in
+    let refusal = c.in_err-bytes-in-Bytes.ensures in
+    rw (exit.1, exit.2) (record {
+      takes = behind-refused c.in_ok-header.ensures.reads refusal.only refusal.no_more
+          (string-refuses given_bytes c.in_ok-header.ensures.reads c.in_ok-header.ensures.head _ of_bytes c.in-Bytes.len
+          c.in-Bytes.is refusal.denied);
+    })
+
+-- ---- an array
+
+pub returns-in_err-seq-in-Array : goal.returns-in_err-seq-in-Array
+returns-in_err-seq-in-Array g c =
+    let exit = err_from_is_err_and c.from_residual-in_err-seq-in-Array.result
+    c.from_residual-in_err-seq-in-Array.ensures.1 in
+    let enter = c.in_err-seq-in-Array.ensures in
+    rw (exit.1, exit.2) (record {
+      takes = behind-refused c.in_ok-header.ensures.reads (search rules) (search rules)
+          (nested-refuses given_bytes c.in_ok-header.ensures.reads c.in_ok-header.ensures.head
+          c.enter.new.self
+          (header.Array c.in-Array.count) c.in-Array.is enter.err (array-nests bare_bytes (λ o is. refl)
+          c.args.self.now.levels c.in-Array.count (sym c.in_ok-header.ensures.reads.levels ∙ enter.none)));
+    })
+
+pub returns-in_ok-bytes-in-Array : goal.returns-in_ok-bytes-in-Array
+returns-in_ok-bytes-in-Array g c =
+    let enter = c.in_ok-seq-in-Array.ensures in
+    let opened = array-begun g.A.Access.can_fail g.A.Access.remaining c.args.self.now c.bare_head.new.self
+    c.enter.new.self c.in-Array.count
+    c.in_ok-seq-in-Array.seq c.in_ok-header.header c.in_ok-header.offset c.in-Array.is c.in_ok-header.ensures.head
+    c.in_ok-header.ensures.reads (enter.decoder, enter.pending, enter.some, enter.levels, enter.left) enter.back in
+    record {
+      takes = record {
+        ok = array-takes g.A.Access.remaining c.args.self.now c.enter.new.self c.in_ok-seq-in-Array.seq opened
+            c.read_byte_items.new.self c.in_ok-bytes-in-Array.bytes.items c.in_ok-bytes-in-Array.ensures.ok;
+        refused = tt;
+        took = array-took g.A.Access.remaining c.args.self.now c.enter.new.self c.in_ok-seq-in-Array.seq opened
+            c.read_byte_items.new.self c.in_ok-bytes-in-Array.ensures.took;
+        only = λ first t. c.read_byte_items.ensures.only first (opened.kept.1 first.decoder t);
+        less = search rules;
+        no_more = tt;
+      };
+    }
+
+pub returns-in_err-bytes-in-Array : goal.returns-in_err-bytes-in-Array
+returns-in_err-bytes-in-Array g c =
+    let exit = err_from_is_err_and c.from_residual-in_err-bytes-in-Array.result
+    c.from_residual-in_err-bytes-in-Array.ensures.1 in
+    let enter = c.in_ok-seq-in-Array.ensures in
+    let opened = array-begun g.A.Access.can_fail g.A.Access.remaining c.args.self.now c.bare_head.new.self
+    c.enter.new.self c.in-Array.count
+    c.in_ok-seq-in-Array.seq c.in_ok-header.header c.in_ok-header.offset c.in-Array.is c.in_ok-header.ensures.head
+    c.in_ok-header.ensures.reads (enter.decoder, enter.pending, enter.some, enter.levels, enter.left) enter.back in
+    rw (exit.1, exit.2) (record {
+      takes = record {
+        ok = tt;
+        refused = array-refuses g.A.Access.remaining c.args.self.now c.enter.new.self c.in_ok-seq-in-Array.seq
+            opened (fault_at g.A.Access.can_fail g.A.Access.remaining c.read_byte_items.new.self
+            c.in_err-bytes-in-Array.field-0.0) c.in_err-bytes-in-Array.ensures.refused;
+        took = tt;
+        only = λ first t. c.read_byte_items.ensures.only first (opened.kept.1 first.decoder t);
+        less = tt;
+        no_more = search rules;
+      };
+    })
+
+pub returns-in_default : goal.returns-in_default
+returns-in_default g c = record {
+  takes = bare-refused c.in_ok-header.ensures.reads
+      (other-refuses given_bytes c.in_ok-header.ensures.reads c.in_ok-header.ensures.head
+      (bytes-other (Some c.args.self.now.levels) c.in_ok-header.header c.in_ok-header.ensures.reads.bare
+      c.in_default.not-Array c.in_default.not-Bytes));
+}
