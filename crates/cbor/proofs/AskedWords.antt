@@ -2,15 +2,14 @@
 use Rattle.std.proofs.Common.{◌≡◌, ◌≢◌, ℕ, ◌<◌, ◌≤◌, ◌-◌, ◌==◌, Bool, true, false, List, [], ◌∷◌, get_or, map, sum}
 use Rattle.std.proofs.Common.{length, take, drop, if◌then◌else◌, Option, Some, None, MatchOption, refl, IsSome, ◌⊎◌}
 use Rattle.std.proofs.Common.{inl, inr, codes, sym, subst, ◌∙◌, ap, ap₂, arith, nat_le, ◌&&◌}
-use Rattle.std.proofs.{lemmas.Bool.Decides.nat_tests, lemmas.List.take_all}
-use Rattle.std.specs.{List.list_all, Bool.MatchBool, Char.digit_value}
+use Rattle.std.{proofs.lemmas.{Bool.Decides.nat_tests, List.take_all}, specs.{Bool.MatchBool, Char.digit_value}}
+use Rattle.std.specs.List.{list_all}
 use Rattle.ciborium_value.specs.declared.key_order.KeyOrder.TheVariants.{LengthFirst, Bytewise}
-use Rattle.cbor.specs.{declared.command.Command.Command, declared.command.Command.TheVariants.{Answer, Sort, Show}}
-use Rattle.cbor.specs.declared.command.Command.TheVariants.{ShowExactly, Dump, Encode, Tell}
-use Rattle.cbor.specs.{declared.command.Topic.TheVariants.{Help, Version}, declared.reading.Layout.TheVariants.OneLine}
-use Rattle.cbor.specs.{declared.reading.Layout.TheVariants.Indented, declared.reading.Showing.Showing}
-use Rattle.cbor.specs.{declared.reading.Spelling.TheVariants.{Any, Deterministic}, Words.{AreWordsFor, AskForNothing}}
-use Rattle.cbor.specs.Words.{AskFor, NameLimit, NameLimitBehind, command_limit, command_words}
+use Rattle.cbor.specs.Words.{AreWordsFor, AskForNothing, AskFor, NameLimit, NameLimitBehind, command_limit}
+use Rattle.cbor.specs.{Words.command_words, declared.command.Command.{Command, TheVariants.{Answer, Sort, Show}}}
+use Rattle.cbor.specs.declared.command.{Command.TheVariants.{ShowExactly, Dump, Encode, Tell}, Topic.TheVariants.Help}
+use Rattle.cbor.specs.declared.{command.Topic.TheVariants.Version, reading.Layout.TheVariants.{OneLine, Indented}}
+use Rattle.cbor.specs.declared.reading.{Showing.Showing, Spelling.TheVariants.{Any, Deterministic}}
 use Rattle.cbor.specs.declared.reading.Reading.TheVariants as readings
 use Rattle.cbor.specs.declared.reading.Showing.TheVariants as showings
 

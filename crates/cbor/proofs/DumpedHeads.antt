@@ -2,15 +2,13 @@
 use Rattle.std.proofs.Common.{◌≡◌, ℕ, zero, suc, ◌+◌, ◌<◌, ◌≤◌, List, [], ◌∷◌, ◌++◌, length, drop, Option, Some, None}
 use Rattle.std.proofs.Common.{Result, Ok, Err, OnOk, inl, if◌then◌else◌, is_ok, inr, refl, sym, ap, ◌∙◌, subst, arith}
 use Rattle.std.proofs.Common.{append-nil, append_assoc, length-append, take-append-drop, add-one}
-use Rattle.std.proofs.lemmas.List.{flat_map_more, length-drop}
-use Rattle.std.specs.List.{flat_map, repeat}
+use Rattle.std.{proofs.lemmas.List.{flat_map_more, length-drop}, specs.List.{flat_map, repeat}}
 use Rattle.hex.specs.Hex.{encode_lower, encode_with}
 use Rattle.ciborium_ll.specs.{Header.{IsCounted, SpellsHeader}, ItemHeads.{HasRead, IsHeadRead, open_in, unread}}
 use Rattle.ciborium_ll.specs.{ItemHeads.was_read, ItemLengths.IsNoItem, Levels.AreItem, declared.header.Header.Header}
-use Rattle.ciborium_ll.specs.{declared.item_heads.ItemHead.ItemHead, declared.item_heads.ItemHeads.ItemHeads}
-use Rattle.ciborium_ll.specs.{declared.item_heads.NoItem.NoItem, declared.item_heads.NoItem.TheVariants.Incomplete}
-use Rattle.ciborium_ll.specs.{declared.item_heads.NoItem.TheVariants.{Malformed, TooDeep}, declared.levels.Level.Level}
-use Rattle.ciborium_ll.specs.declared.levels.Level.TheVariants.{Items}
+use Rattle.ciborium_ll.specs.declared.item_heads.{ItemHead.ItemHead, ItemHeads.ItemHeads, NoItem.NoItem}
+use Rattle.ciborium_ll.specs.declared.item_heads.NoItem.TheVariants.{Incomplete, Malformed, TooDeep}
+use Rattle.ciborium_ll.specs.declared.levels.Level.{Level, TheVariants.Items}
 use Rattle.ciborium_value.proofs.Trees.Notations.{encode_lower-append}
 use Rattle.cbor.specs.Dumped.{AreHeads, AreHeadsAt, AreLinesOf, Entry, IsBrokenDump, IsEntryAt, ShowsAt, entry_bytes}
 use Rattle.cbor.specs.{Dumped.{entry_of, hex_column, line_of, reason_text}, Laws.{DumpKeepsBytes, DumpKeepsHex}}

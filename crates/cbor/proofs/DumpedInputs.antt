@@ -1,9 +1,7 @@
 -- An input is read block by block, and its dump is written.
 use Rattle.std.proofs.Common.{◌≡◌, ℕ, Bool, List, [], ◌++◌, take, Option, Some, None, refl, sym, ap, ◌∙◌, append-nil}
-use Rattle.std.proofs.lemmas.List.{append_assoc}
-use Rattle.std.specs.Io.KnownBytes.{Consumes, IsAtEnd, Keeps}
-use Rattle.cbor.specs.Streams.{IsDumpedBehind, dump_lines}
-use Rattle.cbor.proofs.AnsweredLines.{still}
+use Rattle.std.{proofs.lemmas.List.append_assoc, specs.Io.KnownBytes.{Consumes, IsAtEnd, Keeps}}
+use Rattle.cbor.{proofs.AnsweredLines.still, specs.Streams.{IsDumpedBehind, dump_lines}}
 
 -- of b these bytes were read, and the others are left
 abbrev pub AreReadOf : List ℕ → List ℕ → Option (List ℕ) → Type 0

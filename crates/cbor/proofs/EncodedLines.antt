@@ -1,15 +1,13 @@
 -- One more line of notation is read, and its encoding is written.
 use Rattle.std.proofs.Common.{◌≡◌, ℕ, ◌+◌, List, [], ◌∷◌, ◌++◌, length, Bool, true, false, Option, Some, refl, sym, ap}
 use Rattle.std.proofs.Common.{Result, Ok, Err, IfOk, subst, ◌∙◌, ◌≢◌, append-nil, arith, inl}
-use Rattle.std.proofs.lemmas.List.{flat_map_more, length_push}
-use Rattle.std.specs.{Io.BufRead.drop_through, List.flat_map}
-use Rattle.ciborium_value.specs.{Denotes.DenotesWithin, Encoding.encoding, Tree.Tree}
-use Rattle.ciborium_value.specs.RefusalMessages.{notation_error_message}
-use Rattle.ciborium_value.specs.declared.from_notation.error.NotationError.{NotationError}
-use Rattle.ciborium_value.specs.declared.from_notation.error.NotationError.TheVariants.{At, Memory}
-use Rattle.cbor.specs.{Encoded.{RefusesLine, TellsNoTree}, EncodedLines.{AreAllEncoded, AreEncoded, AreEncodedUpTo}}
+use Rattle.std.{proofs.lemmas.List.{flat_map_more, length_push}, specs.{Io.BufRead.drop_through, List.flat_map}}
+use Rattle.ciborium_value.specs.{Denotes.DenotesWithin, Encoding.encoding, RefusalMessages.notation_error_message}
+use Rattle.ciborium_value.specs.{Tree.Tree, declared.from_notation.error.NotationError.{NotationError, TheVariants.At}}
+use Rattle.ciborium_value.specs.declared.from_notation.error.NotationError.TheVariants.{Memory}
+use Rattle.cbor.{proofs.AnsweredLines.{IsHeld, LineIsRead, line-ahead, none-ahead}, specs.Encoded.RefusesLine}
+use Rattle.cbor.specs.{Encoded.TellsNoTree, EncodedLines.{AreAllEncoded, AreEncoded, AreEncodedUpTo}}
 use Rattle.cbor.specs.{EncodedLines.IsEncodedUpToRefused, Lines.{AreLines, text_line}, SortedLines.refused_line_text}
-use Rattle.cbor.proofs.AnsweredLines.{IsHeld, LineIsRead, line-ahead, none-ahead}
 use Rattle.cbor.specs.Lines as lines
 
 -- the lines of b so far are encoded behind w, the rest is left, and its first line has this number

@@ -4,8 +4,7 @@ use Rattle.std.proofs.Common.{Some, None, option_map, if◌then◌else◌, refl,
 use Rattle.std.proofs.lemmas.Bool.Decides.{eqb_tells}
 use Rattle.ciborium_ll.specs.{ItemHeads.{HasRead, IsHeadRead, open_in}, Levels.{behind_break, behind_bytes}}
 use Rattle.ciborium_ll.specs.{Levels.{behind_head, behind_item, behind_text, incomplete}, declared.header.Header.Header}
-use Rattle.ciborium_ll.specs.{declared.item_heads.ItemHead.ItemHead, declared.item_heads.ItemHeads.ItemHeads}
-use Rattle.ciborium_ll.specs.declared.levels.Level.{Level}
+use Rattle.ciborium_ll.specs.declared.{item_heads.{ItemHead.ItemHead, ItemHeads.ItemHeads}, levels.Level.Level}
 use Rattle.cbor.specs.Exact.{IsBegun, behind_begun, chunk_level, kind_of, open_level, string_header}
 use Rattle.ciborium_ll.specs.declared.header.Header.TheVariants as header
 use Rattle.ciborium_ll.specs.declared.levels.Level.TheVariants as level

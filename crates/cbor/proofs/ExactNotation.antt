@@ -2,17 +2,16 @@
 use Rattle.std.proofs.Common.{◌≡◌, ℕ, ◌+◌, ◌==◌, Bool, true, false, List, [], ◌∷◌, ◌++◌, length, codes, if◌then◌else◌}
 use Rattle.std.proofs.Common.{inl, inr, refl, sym, ap, ◌∙◌, subst, arith, append-nil, append_assoc, drop, add-one}
 use Rattle.std.proofs.Common.{decimal, OnOk, Result, Ok, Err, is_ok, ◌<◌, ◌≤◌, length-append, take-append-drop}
-use Rattle.std.proofs.{lemmas.List.append_cancel_right, lemmas.Bool.eqb-true, lemmas.Bool.Decides.eqb_tells}
+use Rattle.std.proofs.lemmas.{Bool.{eqb-true, Decides.eqb_tells}, List.append_cancel_right}
 use Rattle.hex.specs.Hex.{encode_lower}
 use Rattle.ciborium_ll.specs.{Head.{IsFloat, IsHead, break_byte, open_byte}, Header.{IsFloatOf, SpellsHeader}}
 use Rattle.ciborium_ll.specs.{ItemHeads.{HasRead, IsHeadRead, open_in, unread, was_read}, Levels.{AreItem, EndAll}}
 use Rattle.ciborium_ll.specs.{Levels.IsPayloadOf, StringRefusal.{IsAllowed, StringKind, of_bytes, of_text}}
-use Rattle.ciborium_ll.specs.{StringRefusal.string_major, declared.item_heads.ItemHead.ItemHead}
-use Rattle.ciborium_ll.specs.declared.item_heads.ItemHeads.{ItemHeads}
-use Rattle.cbor.specs.Exact.{AreChunksExactly, AreExactly, AreOpenChunks, AreOpenParts, HasPassed, IsExactly}
-use Rattle.cbor.specs.Exact.{IsItemPushed, IsPushed, IsStringExactly, empty_text, head_bytes, lead, mark, open_text}
-use Rattle.cbor.specs.{Exact.{IsFrontPushed, TellsNoItem, kind_of, payload_text, string_header}, Line.trailing_text}
-use Rattle.cbor.proofs.DumpedHeads.{less-unread}
+use Rattle.ciborium_ll.specs.{StringRefusal.string_major, declared.item_heads.{ItemHead.ItemHead, ItemHeads.ItemHeads}}
+use Rattle.cbor.{proofs.DumpedHeads.less-unread, specs.Exact.{AreChunksExactly, AreExactly, AreOpenChunks}}
+use Rattle.cbor.specs.Exact.{AreOpenParts, HasPassed, IsExactly, IsItemPushed, IsPushed, IsStringExactly, empty_text}
+use Rattle.cbor.specs.Exact.{head_bytes, lead, mark, open_text, IsFrontPushed, TellsNoItem, kind_of, payload_text}
+use Rattle.cbor.specs.{Exact.string_header, Line.trailing_text}
 use Rattle.ciborium_ll.specs.declared.header.Header.TheVariants as header
 
 -- ---- bytes that were read

@@ -2,12 +2,11 @@
 use Rattle.std.proofs.Common.{◌≡◌, ℕ, ◌<◌, ◌+◌, ◌-◌, Bool, true, false, List, [], ◌++◌, length, take, drop, Option}
 use Rattle.std.proofs.Common.{Some, arith, ap, append_assoc, append-nil, length-append, length-take-le, sym, subst}
 use Rattle.std.proofs.{Common.{take-append-drop, ◌∙◌}, lemmas.List.{drop_at, take_at}}
-use Rattle.ciborium_ll.specs.{ItemLengths.IsNoItem, Levels.AreItem, declared.item_heads.NoItem.NoItem}
-use Rattle.ciborium_ll.proofs.UniqueSpelling.{none_begins_another}
-use Rattle.cbor.specs.{Dumped.reason_text, Exact.{IsExactly, IsFrontPushed}, ExactStreams.AreExactLines}
-use Rattle.cbor.specs.ExactStreams.{IsFrontExactly, IsShownExactly, ended, no_item, reason_behind, shown}
+use Rattle.ciborium_ll.{proofs.UniqueSpelling.none_begins_another, specs.{ItemLengths.IsNoItem, Levels.AreItem}}
+use Rattle.ciborium_ll.specs.declared.item_heads.NoItem.{NoItem}
+use Rattle.cbor.{proofs.StreamedItems.IsKept, specs.{Dumped.reason_text, Exact.{IsExactly, IsFrontPushed}}}
+use Rattle.cbor.specs.ExactStreams.{AreExactLines, IsFrontExactly, IsShownExactly, ended, no_item, reason_behind, shown}
 use Rattle.cbor.specs.{Lines.text_line, Streams.refused_line}
-use Rattle.cbor.proofs.StreamedItems.{IsKept}
 
 -- ---- one item
 

@@ -1,12 +1,11 @@
 -- One more item of a sequence is read, and its hex is put behind the text.
 use Rattle.std.proofs.Common.{◌≡◌, ℕ, ◌+◌, List, [], ◌∷◌, ◌++◌, length, false, ◌==◌, refl, sym, subst, ap, ◌∙◌, arith}
-use Rattle.std.proofs.{Common.{length-append, codes}, lemmas.List.flat_map_more, lemmas.Bool.Decides.nat_tests}
+use Rattle.std.proofs.{Common.{length-append, codes}, lemmas.{Bool.Decides.nat_tests, List.flat_map_more}}
 use Rattle.ciborium_value.specs.Tree.{Tree}
-use Rattle.cbor.specs.{declared.reading.Spelling.Spelling, declared.reading.Spelling.TheVariants.Any}
-use Rattle.cbor.specs.{declared.answer.LineRefusal.LineRefusal, Answer.{IsFrontRefused, refused_text, wants_memory}}
+use Rattle.cbor.{proofs.JudgedAnswers.item-refused, specs.Answer.{IsFrontRefused, refused_text, wants_memory}}
 use Rattle.cbor.specs.Sequence.{AreItemsBefore, AreNoSequence, AreSequence, item_text, refused_item_text, sequence_text}
-use Rattle.cbor.specs.Spellings.{HasItemBefore}
-use Rattle.cbor.proofs.JudgedAnswers.{item-refused}
+use Rattle.cbor.specs.{Spellings.HasItemBefore, declared.{answer.LineRefusal.LineRefusal, reading.Spelling.Spelling}}
+use Rattle.cbor.specs.declared.reading.Spelling.TheVariants.{Any}
 
 -- of b the rest is left: the items before it mean some trees, their hex is the text, and the next item has this number
 abbrev pub IsSoFar : List ℕ → List ℕ → List ℕ → ℕ → Type 0

@@ -1,18 +1,16 @@
 -- What the text of a line says of it.
 use Rattle.std.proofs.Common.{◌≡◌, ℕ, ◌+◌, ◌<◌, List, length, Bool, true, false, Result, Ok, Err, MatchResult, inl, inr}
-use Rattle.std.proofs.Common.{refl, sym, ap, ◌∙◌, subst}
-use Rattle.std.specs.Bool.{MatchBool}
+use Rattle.std.{proofs.Common.{refl, sym, ap, ◌∙◌, subst}, specs.Bool.MatchBool}
 use Rattle.hex.specs.{Hex.decode_of, declared.error.FromHexError.FromHexError}
 use Rattle.ciborium_ll.specs.Refusal.{io, syntax, too_long, semantic, recursion_limit_exceeded}
 use Rattle.ciborium_value.specs.Tree.{Tree}
-use Rattle.cbor.specs.{declared.answer.LineRefusal.LineRefusal, declared.answer.LineRefusal.TheVariants.{Hex, Trailing}}
-use Rattle.cbor.specs.declared.answer.LineRefusal.TheVariants.{Io, Syntax, Semantic, Nesting, TooLong, Memory}
-use Rattle.cbor.specs.{declared.reading.Reading.TheVariants.{Item, Sequence}, declared.reading.Spelling.Spelling}
-use Rattle.cbor.specs.{declared.reading.Spelling.TheVariants.Any, Answer.{IsFrontRefused, kind_of_reason, refused_text}}
-use Rattle.cbor.specs.{Answer.wants_memory, Line.{IsLineAnswer, hex_text, refusal_text}, Lines.AnswersLine}
-use Rattle.cbor.specs.Sequence.{AreItemsBefore, AreNoSequence, AreSequence, HasSequenceAnswer, IsSequenceAnswer}
-use Rattle.cbor.specs.{Sequence.refused_item_text, Spellings.RefusesItem}
-use Rattle.cbor.proofs.JudgedLines.{item-answer, refusal_is_answered}
+use Rattle.cbor.{proofs.JudgedLines.{item-answer, refusal_is_answered}, specs.Answer.{IsFrontRefused, kind_of_reason}}
+use Rattle.cbor.specs.{Answer.{refused_text, wants_memory}, Line.{IsLineAnswer, hex_text, refusal_text}}
+use Rattle.cbor.specs.{Lines.AnswersLine, Sequence.{AreItemsBefore, AreNoSequence, AreSequence, HasSequenceAnswer}}
+use Rattle.cbor.specs.{Sequence.{IsSequenceAnswer, refused_item_text}, Spellings.RefusesItem}
+use Rattle.cbor.specs.declared.answer.LineRefusal.{LineRefusal, TheVariants.{Hex, Trailing, Io, Syntax, Semantic}}
+use Rattle.cbor.specs.declared.answer.LineRefusal.TheVariants.{Nesting, TooLong, Memory}
+use Rattle.cbor.specs.declared.reading.{Reading.TheVariants.{Item, Sequence}, Spelling.{Spelling, TheVariants.Any}}
 use Rattle.ciborium_ll.specs.Refusal as faults
 
 pub not-memory : (e : LineRefusal) → wants_memory e ≡ false → e ≡ Memory → ⊥

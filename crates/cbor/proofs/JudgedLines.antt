@@ -4,13 +4,12 @@ use Rattle.std.proofs.Common.{arith}
 use Rattle.hex.specs.{Hex.decode_of, declared.error.FromHexError.FromHexError}
 use Rattle.ciborium_ll.specs.Refusal.{io, syntax, too_long, semantic, recursion_limit_exceeded}
 use Rattle.ciborium_value.specs.Tree.{Tree}
-use Rattle.cbor.specs.{declared.answer.LineRefusal.LineRefusal, declared.answer.LineRefusal.TheVariants.{Hex, Trailing}}
-use Rattle.cbor.specs.declared.answer.LineRefusal.TheVariants.{Io, Syntax, Semantic, Nesting, TooLong, Memory}
-use Rattle.cbor.specs.{declared.reading.Spelling.Spelling, Answer.{AreRefused, IsFrontRefused, IsRefused}}
-use Rattle.cbor.specs.{Answer.{kind_of_reason, refused_text}, Laws.{ItemIsAnswered, RefusalIsAnswered}}
-use Rattle.cbor.specs.{Laws.RefusedMeansNothing, Line.{HasAnswer, IsLineAnswer, good, hex_text, refused, trailing}}
-use Rattle.cbor.specs.{Line.{trailing_text, tree_text}, Spellings.IsItem}
-use Rattle.cbor.proofs.OneLineAnswer.{one_answer}
+use Rattle.cbor.{proofs.OneLineAnswer.one_answer, specs.Answer.{AreRefused, IsFrontRefused, IsRefused, kind_of_reason}}
+use Rattle.cbor.specs.{Answer.refused_text, Laws.{ItemIsAnswered, RefusalIsAnswered, RefusedMeansNothing}}
+use Rattle.cbor.specs.Line.{HasAnswer, IsLineAnswer, good, hex_text, refused, trailing, trailing_text, tree_text}
+use Rattle.cbor.specs.{Spellings.IsItem, declared.answer.LineRefusal.{LineRefusal, TheVariants.{Hex, Trailing, Io}}}
+use Rattle.cbor.specs.declared.answer.LineRefusal.TheVariants.{Syntax, Semantic, Nesting, TooLong, Memory}
+use Rattle.cbor.specs.declared.reading.Spelling.{Spelling}
 
 -- what refuses the front of some bytes refuses them
 pub front-refused : (spelling : Spelling) (b : List ℕ) (limit : ℕ) (e : LineRefusal) →

@@ -1,14 +1,13 @@
 -- One more line is read, and what it means is kept.
 use Rattle.std.proofs.Common.{◌≡◌, ℕ, ◌+◌, List, [], ◌∷◌, ◌++◌, length, map, flat_map, Bool, true, false, Option, Some}
 use Rattle.std.proofs.Common.{Result, Ok, Err, is_err, is_ok, refl, ap, subst, sym, ◌∙◌, arith}
-use Rattle.std.proofs.lemmas.List.{length_push, map_push}
-use Rattle.std.specs.{Bool.if◌then◌else◌, Io.BufRead.drop_through, Io.KnownBytes.Keeps}
-use Rattle.ciborium_value.specs.{Tree.Tree, View.tree_of, declared.key_order.KeyOrder.KeyOrder}
-use Rattle.ciborium_value.specs.declared.tree.Value.{Value}
-use Rattle.cbor.specs.{declared.answer.LineRefusal.LineRefusal, declared.reading.Spelling.TheVariants.Any}
-use Rattle.cbor.specs.{Answer.{IsMeant, IsRefused, refused_text}, Lines.{AreMeant, text_line}}
-use Rattle.cbor.specs.SortedLines.{AreSortedOrRefused, IsFirstRefused, hex_line, refused_line_text}
-use Rattle.cbor.proofs.AnsweredLines.{LineIsRead, line-ahead, none-ahead, still}
+use Rattle.std.{proofs.lemmas.List.{length_push, map_push}, specs.{Bool.if◌then◌else◌, Io.BufRead.drop_through}}
+use Rattle.std.specs.Io.KnownBytes.{Keeps}
+use Rattle.ciborium_value.specs.{Tree.Tree, View.tree_of, declared.{key_order.KeyOrder.KeyOrder, tree.Value.Value}}
+use Rattle.cbor.{proofs.AnsweredLines.{LineIsRead, line-ahead, none-ahead, still}, specs.Answer.{IsMeant, IsRefused}}
+use Rattle.cbor.specs.{Answer.refused_text, Lines.{AreMeant, text_line}, SortedLines.AreSortedOrRefused}
+use Rattle.cbor.specs.SortedLines.{IsFirstRefused, hex_line, refused_line_text}
+use Rattle.cbor.specs.declared.{answer.LineRefusal.LineRefusal, reading.Spelling.TheVariants.Any}
 use Rattle.cbor.specs.Lines as lines
 
 -- the rest of b is left, the lines before it mean these trees, and the next line has this number

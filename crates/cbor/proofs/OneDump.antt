@@ -1,11 +1,9 @@
 -- The heads of an item are one list, so that an item has one dump.
 use Rattle.std.proofs.Common.{◌≡◌, ℕ, ◌+◌, List, [], ◌∷◌, ◌++◌, length, Some, None, refl, sym, ap, ap₂, ◌∙◌, subst}
-use Rattle.std.proofs.Common.{arith, append_assoc}
-use Rattle.std.specs.List.{flat_map}
-use Rattle.ciborium_ll.specs.{Header.announced_length, Levels.{IsPayloadOf, behind_head, incomplete}}
-use Rattle.ciborium_ll.specs.{declared.header.Header.Header, declared.levels.Level.Level}
+use Rattle.std.{proofs.Common.{arith, append_assoc}, specs.List.flat_map}
+use Rattle.ciborium_ll.{proofs.OneHeader.one_header_at_front, specs.{Header.announced_length, Levels.IsPayloadOf}}
+use Rattle.ciborium_ll.specs.{Levels.{behind_head, incomplete}, declared.{header.Header.Header, levels.Level.Level}}
 use Rattle.ciborium_ll.specs.declared.levels.Level.TheVariants.{Items}
-use Rattle.ciborium_ll.proofs.OneHeader.{one_header_at_front}
 use Rattle.cbor.specs.{Dumped.{AreHeadsAt, Entry, IsEntryAt, entry_bytes, line_of}, Laws.OneDumpOfItem}
 use Rattle.ciborium_ll.specs.declared.header.Header.TheVariants as header
 

@@ -1,14 +1,13 @@
 -- Each line has one answer.
 use Rattle.std.proofs.Common.{◌≡◌, ℕ, ◌<◌, List, [], ◌∷◌, length, inl, inr, Result, Ok, Err, MatchResult, refl, sym, ap}
 use Rattle.std.proofs.{Common.{◌∙◌, subst, arith, append-nil}, lemmas.List.Elements.All-from_get_or}
-use Rattle.hex.specs.{Hex.decode_of, declared.error.FromHexError.FromHexError}
-use Rattle.hex.proofs.HexLemmas.{decode_of-ok}
+use Rattle.hex.{proofs.HexLemmas.decode_of-ok, specs.{Hex.decode_of, declared.error.FromHexError.FromHexError}}
 use Rattle.ciborium_ll.specs.Bytes.{AreBytes}
 use Rattle.ciborium_value.specs.Tree.{Tree}
-use Rattle.cbor.specs.{declared.reading.Spelling.Spelling, Laws.{IsAnswered, OneAnswerToLine}, Line.{HasAnswer, good}}
-use Rattle.cbor.specs.Line.{trailing, refused, tree_text, trailing_text, refusal_text, hex_text}
-use Rattle.cbor.specs.Spellings.{HasItemBefore, IsItem}
-use Rattle.cbor.proofs.SpelledItems.{HasItem, item-or-refused, not-both, one-refusal, one-tree}
+use Rattle.cbor.{proofs.SpelledItems.{HasItem, item-or-refused, not-both, one-refusal, one-tree}, specs.Laws.IsAnswered}
+use Rattle.cbor.specs.{Laws.OneAnswerToLine, Line.{HasAnswer, good, trailing, refused, tree_text, trailing_text}}
+use Rattle.cbor.specs.{Line.{refusal_text, hex_text}, Spellings.{HasItemBefore, IsItem}}
+use Rattle.cbor.specs.declared.reading.Spelling.{Spelling}
 
 -- hex stands for bytes
 pub decoded-bytes : (line b : List ℕ) → decode_of line ≡ Ok b → AreBytes b

@@ -1,11 +1,9 @@
 -- What a sort by one of the two orders ensures.
 use Rattle.std.proofs.Common.{◌≡◌, ◌<◌, List, [], ◌∷◌, length, get_or, map, Bool, Greater, is_lt, true, false, sym, ap}
-use Rattle.std.proofs.{Common.{◌∙◌, arith}, lemmas.List.{get_or-map, length-map}, lemmas.List.Sorted.ranks_by}
-use Rattle.std.proofs.lemmas.List.Sorted.{sorted_far}
+use Rattle.std.proofs.{Common.{◌∙◌, arith}, lemmas.List.{get_or-map, length-map, Sorted.{ranks_by, sorted_far}}}
 use Rattle.std.specs.{Cmp.IsStrictWeakOrder, List.Sorted.IsSortedBy, Ordering.ordering_reverse}
-use Rattle.ciborium_value.specs.{Canonical.key_order, Tree.Tree, View.tree_of, declared.key_order.KeyOrder.KeyOrder}
-use Rattle.ciborium_value.specs.declared.tree.Value.{Value}
-use Rattle.ciborium_value.proofs.Orders.TotalOrders.{key_order_total}
+use Rattle.ciborium_value.{proofs.Orders.TotalOrders.key_order_total, specs.{Canonical.key_order, Tree.Tree}}
+use Rattle.ciborium_value.specs.{View.tree_of, declared.{key_order.KeyOrder.KeyOrder, tree.Value.Value}}
 use Rattle.cbor.specs.Sorted.{AreSorted}
 
 -- the test by which values are sorted

@@ -2,20 +2,17 @@
 use Rattle.std.proofs.Common.{◌≡◌, ℕ, ◌<◌, ◌+◌, ◌==◌, Bool, ◌&&◌, true, false, List, [], ◌++◌, length, take, drop}
 use Rattle.std.proofs.Common.{arith, Option, Some, None, Result, Ok, Err, IfErr, IfOk, OnOk, inl, refl, ap}
 use Rattle.std.proofs.Common.{append_assoc, append-nil, length-append, length-take-le, sym, subst, take-append-drop}
-use Rattle.std.proofs.{Common.◌∙◌, lemmas.List.{drop_at, take_at}}
-use Rattle.std.specs.Io.KnownBytes.{Consumes, prepend_known}
-use Rattle.ciborium_ll.specs.Levels.{AreItem}
-use Rattle.ciborium_ll.proofs.UniqueSpelling.{none_begins_another}
+use Rattle.std.{proofs.{Common.◌∙◌, lemmas.List.{drop_at, take_at}}, specs.Io.KnownBytes.{Consumes, prepend_known}}
+use Rattle.ciborium_ll.{proofs.UniqueSpelling.none_begins_another, specs.Levels.AreItem}
 use Rattle.ciborium.specs.NextItems.{TakesTo}
 use Rattle.ciborium_value.specs.{Tree.Tree, View.tree_of, declared.tree.Value.Value}
-use Rattle.cbor.specs.{declared.answer.LineRefusal.LineRefusal, declared.answer.LineRefusal.TheVariants.Memory}
-use Rattle.cbor.specs.{declared.reading.Showing.Showing, declared.reading.Spelling.Spelling}
-use Rattle.cbor.specs.{declared.streams.Next.TheVariants.{Item, NoItem as NoNext}, Answer.IsFrontRefused}
-use Rattle.cbor.specs.{Answer.{refusal_behind, refused_text, wants_memory}, Lines.text_line, Sequence.refused_item_text}
+use Rattle.cbor.{proofs.{AnsweredLines.and-true, ReadBytes.nothing-left}, specs.Answer.{IsFrontRefused, refusal_behind}}
+use Rattle.cbor.specs.{Answer.{refused_text, wants_memory}, Lines.text_line, Sequence.refused_item_text}
 use Rattle.cbor.specs.{Shown.shown_spelling, Spellings.{HasItemBefore, IsItem}, Streams.{AreItemsShown, IsFront}}
 use Rattle.cbor.specs.Streams.{IsItemLine, IsJudged, IsStreamShown, IsTaken, ended, no_item, refused, refused_line}
-use Rattle.cbor.specs.Streams.{shown}
-use Rattle.cbor.proofs.{AnsweredLines.and-true, ReadBytes.nothing-left}
+use Rattle.cbor.specs.{Streams.shown, declared.answer.LineRefusal.{LineRefusal, TheVariants.Memory}}
+use Rattle.cbor.specs.declared.{reading.{Showing.Showing, Spelling.Spelling}, streams.Next.TheVariants.Item}
+use Rattle.cbor.specs.declared.streams.Next.TheVariants.{NoItem as NoNext}
 
 -- ---- one item
 

@@ -4,8 +4,7 @@ use Rattle.std.specs.{Prelude.{◌≡◌, ◌⊎◌, ℕ, List, ◌++◌, codes,
 use Rattle.hex.specs.Hex.{encode_lower}
 use Rattle.ciborium_value.specs.{Denotes.{DenotesWithin, MayRefuse}, Encoding.encoding}
 use Rattle.ciborium_value.specs.{RefusalMessages.notation_error_message, Tree.Tree}
-use Rattle.ciborium_value.specs.declared.from_notation.error.NotationError.{NotationError}
-use Rattle.ciborium_value.specs.declared.from_notation.error.NotationError.TheVariants.{At}
+use Rattle.ciborium_value.specs.declared.from_notation.error.NotationError.{NotationError, TheVariants.At}
 use Rattle.ciborium_value.specs.declared.from_notation.error.NotationFault.{NotationFault}
 
 -- a line denotes a tree within so many levels, and the text is its encoding in lower-case hex

@@ -1,13 +1,12 @@
 -- What holds of the answers to lines.
-use Rattle.std.specs.{Prelude.{◌≡◌, ◌≢◌, ℕ, List, [], ◌++◌}, List.flat_map}
+use Rattle.std.specs.{List.flat_map, Prelude.{◌≡◌, ◌≢◌, ℕ, List, [], ◌++◌}}
 use Rattle.hex.specs.Hex.{encode_lower}
 use Rattle.ciborium_ll.specs.declared.levels.Level.{Level}
 use Rattle.ciborium_value.specs.{Tree.Tree, declared.key_order.KeyOrder.KeyOrder}
-use Rattle.cbor.specs.{declared.answer.LineRefusal.LineRefusal, declared.answer.LineRefusal.TheVariants.Memory}
-use Rattle.cbor.specs.{declared.reading.Layout.Layout, declared.reading.Spelling.Spelling, Answer.{IsRefused, IsMeant}}
-use Rattle.cbor.specs.{Answer.refused_text, Dumped.{AreHeads, Entry, IsWholeDump, entry_bytes, hex_column}}
-use Rattle.cbor.specs.{Forms.IsFormAnswer, Line.{IsLineAnswer, tree_text}, Sequence.IsSequenceAnswer}
-use Rattle.cbor.specs.Shown.{IsNotationAnswer}
+use Rattle.cbor.specs.{Answer.{IsRefused, IsMeant, refused_text}, Dumped.{AreHeads, Entry, IsWholeDump, entry_bytes}}
+use Rattle.cbor.specs.{Dumped.hex_column, Forms.IsFormAnswer, Line.{IsLineAnswer, tree_text}, Sequence.IsSequenceAnswer}
+use Rattle.cbor.specs.{Shown.IsNotationAnswer, declared.answer.LineRefusal.{LineRefusal, TheVariants.Memory}}
+use Rattle.cbor.specs.declared.reading.{Layout.Layout, Spelling.Spelling}
 
 -- each line has an answer, however items may be spelled, within any number of levels
 abbrev pub IsAnswered : Type 0

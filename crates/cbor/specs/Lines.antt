@@ -1,15 +1,14 @@
 -- Lines of the input, and what is written where each is an item, a sequence, or an item that has a
 -- form.
-use Rattle.std.specs.Prelude.{◌≡◌, ◌⊎◌, ℕ, ◌<◌, ◌==◌, Bool, false, List, [], ◌∷◌, ◌++◌, length, codes, Option, Some}
-use Rattle.std.specs.{Bool.MatchBool, List.{flat_map, list_all, list_any}, Io.BufRead.{first_piece, drop_through}}
-use Rattle.std.specs.Io.BufRead.{strip_last}
+use Rattle.std.specs.{Bool.MatchBool, Io.BufRead.{first_piece, drop_through, strip_last}, List.{flat_map, list_all}}
+use Rattle.std.specs.{List.list_any, Prelude.{◌≡◌, ◌⊎◌, ℕ, ◌<◌, ◌==◌, Bool, false, List, [], ◌∷◌, ◌++◌, length, codes}}
+use Rattle.std.specs.Prelude.{Option, Some}
 use Rattle.ciborium_value.specs.Tree.{Tree}
-use Rattle.cbor.specs.{declared.reading.Reading.Reading, declared.reading.Reading.TheVariants.{Item, Sequence, Form}}
-use Rattle.cbor.specs.declared.reading.Reading.TheVariants.{Notation, Dump, Encode, Exact}
-use Rattle.cbor.specs.{declared.reading.Spelling.Spelling, declared.reading.Spelling.TheVariants.Any, Answer.IsMeant}
-use Rattle.cbor.specs.{Answer.TellsRefusal, Dumped.{IsDumpText, TellsNoDump}, Encoded.{IsEncodingText, TellsNoTree}}
-use Rattle.cbor.specs.{Exact.{IsExactText, TellsNotExact}, Forms.{IsFormText, TellsNoForm}, Line.tree_text}
-use Rattle.cbor.specs.{Sequence.{IsSequenceText, TellsNoSequence}, Shown.IsNotationText}
+use Rattle.cbor.specs.{Answer.{IsMeant, TellsRefusal}, Dumped.{IsDumpText, TellsNoDump}, Encoded.IsEncodingText}
+use Rattle.cbor.specs.{Encoded.TellsNoTree, Exact.{IsExactText, TellsNotExact}, Forms.{IsFormText, TellsNoForm}}
+use Rattle.cbor.specs.{Line.tree_text, Sequence.{IsSequenceText, TellsNoSequence}, Shown.IsNotationText}
+use Rattle.cbor.specs.declared.reading.Reading.{Reading, TheVariants.{Item, Sequence, Form, Notation, Dump, Encode}}
+use Rattle.cbor.specs.declared.reading.{Reading.TheVariants.Exact, Spelling.{Spelling, TheVariants.Any}}
 
 -- the first line of b: what stands before the first line feed, or all of b, without one carriage
 -- return at its end

@@ -1,12 +1,11 @@
 -- How items are shown. Texts are lists of bytes.
 use Rattle.std.specs.Prelude.{◌≡◌, ◌⊎◌, ℕ, List}
 use Rattle.hex.specs.Hex.{encode_lower}
-use Rattle.ciborium_value.specs.{DeterministicForms.deterministic_form, Encoding.encoding, Notation.indented_notation}
-use Rattle.ciborium_value.specs.{Notation.notation, Given.{Outcome, gives}, Tree.Tree}
-use Rattle.cbor.specs.{declared.reading.Layout.Layout, declared.reading.Layout.TheVariants.{OneLine, Indented}}
-use Rattle.cbor.specs.{declared.reading.Showing.Showing, declared.reading.Showing.TheVariants.{Encoding, Form}}
-use Rattle.cbor.specs.{declared.reading.Showing.TheVariants.Notation, declared.reading.Spelling.Spelling}
-use Rattle.cbor.specs.{declared.reading.Spelling.TheVariants.Any, Answer.{IsMeant, TellsRefusal}}
+use Rattle.ciborium_value.specs.{DeterministicForms.deterministic_form, Encoding.encoding, Given.{Outcome, gives}}
+use Rattle.ciborium_value.specs.{Notation.{indented_notation, notation}, Tree.Tree}
+use Rattle.cbor.specs.{Answer.{IsMeant, TellsRefusal}, declared.reading.Layout.{Layout, TheVariants.OneLine}}
+use Rattle.cbor.specs.declared.reading.{Layout.TheVariants.Indented, Showing.{Showing, TheVariants.{Encoding, Form}}}
+use Rattle.cbor.specs.declared.reading.{Showing.TheVariants.Notation, Spelling.{Spelling, TheVariants.Any}}
 
 -- the diagnostic notation of a tree, laid out so (RFC 8949, section 8)
 abbrev pub notation_text : Layout → Tree → List ℕ

@@ -1,7 +1,6 @@
 -- What the program tells of itself and of faults, by its bytes.
 use Rattle.std.specs.Prelude.{ℕ, List, ◌++◌, codes}
-use Rattle.cbor.specs.{declared.fault.Fault.Fault, declared.command.Topic.Topic}
-use Rattle.cbor.specs.declared.command.Topic.TheVariants.{Help, Version}
+use Rattle.cbor.specs.declared.{command.Topic.{Topic, TheVariants.{Help, Version}}, fault.Fault.Fault}
 use Rattle.cbor.specs.declared.fault.Fault.TheVariants as faults
 
 abbrev pub topic_text : Topic → List ℕ

@@ -1,13 +1,11 @@
 -- Which words the program is run with, and what they ask for.
-use Rattle.std.specs.Prelude.{◌≡◌, ◌⊎◌, ℕ, ◌^◌, ◌<◌, List, [], ◌∷◌, Option, Some, None, MatchOption, Bool, true, false}
-use Rattle.std.specs.Prelude.{IsTrue, zero, suc, ◌-◌, ◌==◌, ◌&&◌, codes, get_or, if◌then◌else◌, length, nat_le, take}
-use Rattle.std.specs.{Char.is_ascii_digit, List.list_all, Str.Parse.{IsNumeral, digits_value}}
-use Rattle.ciborium_value.specs.declared.key_order.KeyOrder.{KeyOrder}
-use Rattle.ciborium_value.specs.declared.key_order.KeyOrder.TheVariants.{LengthFirst, Bytewise}
-use Rattle.cbor.specs.{declared.command.Command.Command, declared.command.Command.TheVariants.{Answer, Sort, Show}}
-use Rattle.cbor.specs.declared.command.Command.TheVariants.{ShowExactly, Dump, Encode, Tell}
-use Rattle.cbor.specs.{declared.command.Topic.TheVariants.{Help, Version}, declared.reading.Layout.Layout}
-use Rattle.cbor.specs.{declared.reading.Layout.TheVariants.{OneLine, Indented}, declared.reading.Spelling.Spelling}
+use Rattle.std.specs.{Char.is_ascii_digit, List.list_all, Prelude.{◌≡◌, ◌⊎◌, ℕ, ◌^◌, ◌<◌, List, [], ◌∷◌, Option, Some}}
+use Rattle.std.specs.Prelude.{None, MatchOption, Bool, true, false, IsTrue, zero, suc, ◌-◌, ◌==◌, ◌&&◌, codes, get_or}
+use Rattle.std.specs.{Prelude.{if◌then◌else◌, length, nat_le, take}, Str.Parse.{IsNumeral, digits_value}}
+use Rattle.ciborium_value.specs.declared.key_order.KeyOrder.{KeyOrder, TheVariants.{LengthFirst, Bytewise}}
+use Rattle.cbor.specs.declared.command.Command.{Command, TheVariants.{Answer, Sort, Show, ShowExactly, Dump, Encode}}
+use Rattle.cbor.specs.declared.command.{Command.TheVariants.Tell, Topic.TheVariants.{Help, Version}}
+use Rattle.cbor.specs.declared.reading.{Layout.{Layout, TheVariants.{OneLine, Indented}}, Spelling.Spelling}
 use Rattle.cbor.specs.declared.reading.Spelling.TheVariants.{Any, Deterministic}
 use Rattle.cbor.specs.declared.reading.Reading.TheVariants as readings
 use Rattle.cbor.specs.declared.reading.Showing.TheVariants as showings

@@ -38,6 +38,7 @@ pub use Rattle.ciborium_ll.specs.ReaderSteps
 pub use Rattle.ciborium_ll.specs.Levels
 pub use Rattle.ciborium_ll.specs.ItemLengths
 pub use Rattle.ciborium_ll.specs.ItemHeads
+pub use Rattle.ciborium_ll.specs.ItemBytes
 pub use Rattle.ciborium_value.specs.Tree
 pub use Rattle.ciborium_value.specs.Meaning
 pub use Rattle.ciborium_value.specs.Number

@@ -1,13 +1,12 @@
 -- What loading promises: all of the bytes are the one deterministic encoding of what they give (RFC
 -- 8949, section 4.2), or they are refused, and why. This is this library's own.
 use Rattle.std.specs.Prelude.{◌≡◌, ◌≢◌, ℕ, suc, ◌⊎◌, List, take, Some, None, Result, Ok, Err, IfErr, IfOk}
-use Rattle.ciborium_value.specs.{Encoding.encoding, Readings.Reading, Refuses.Refuses, Sinks.Named}
-use Rattle.ciborium_value.specs.{Spelling.deterministic, Given.{gives, refuses}, Tree.Tree}
-use Rattle.ciborium_value.specs.{declared.key_order.KeyOrder.KeyOrder, declared.kind.Kind.Kind}
-use Rattle.ciborium_value.specs.declared.kind.Kind.TheVariants.{NotDeterministic}
+use Rattle.ciborium_value.specs.{Encoding.encoding, Given.{gives, refuses}, Readings.Reading, Refuses.Refuses}
+use Rattle.ciborium_value.specs.{Sinks.Named, Spelling.deterministic, Tree.Tree, declared.key_order.KeyOrder.KeyOrder}
+use Rattle.ciborium_value.specs.declared.kind.Kind.{Kind, TheVariants.NotDeterministic}
 use Rattle.ciborium.specs.{DeterministicWrites.{HasForm, named_form}, SliceAnswers.ReadsAll}
-use Rattle.ciborium.specs.{ValueAnswers.refusal_kind_of, declared.de.error.Error.Error}
-use Rattle.ciborium.specs.declared.de.error.Error.TheVariants.{Memory, Semantic}
+use Rattle.ciborium.specs.{ValueAnswers.refusal_kind_of, declared.de.error.Error.{Error, TheVariants.Memory}}
+use Rattle.ciborium.specs.declared.de.error.Error.TheVariants.{Semantic}
 use Rattle.ciborium_ll.specs.Refusal as refusal
 
 -- the bytes are the encoding of the deterministic form of what a value names

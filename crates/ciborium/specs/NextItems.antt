@@ -1,16 +1,15 @@
 -- Reading the items of a sequence one after the other (RFC 8742, section 2): the next item, or the
 -- end where none follows.
-use Rattle.std.specs.Prelude.{◌≡◌, ◌<◌, ℕ, ◌+◌, Bool, true, List, [], length, Option, Some, None, Result, Ok, Err}
-use Rattle.std.specs.{Prelude.{IfErr, IfOk, IfSome, OnOk}, Io.KnownBytes.{Consumes, IsAtEnd}}
-use Rattle.ciborium_ll.specs.{declared.header.Header.Header, Accesses.left_at_failure, Bytes.greatest_offset}
+use Rattle.std.specs.{Io.KnownBytes.{Consumes, IsAtEnd}, Prelude.{◌≡◌, ◌<◌, ℕ, ◌+◌, Bool, true, List, [], length}}
+use Rattle.std.specs.Prelude.{Option, Some, None, Result, Ok, Err, IfErr, IfOk, IfSome, OnOk}
+use Rattle.ciborium_ll.specs.{Accesses.left_at_failure, Bytes.greatest_offset, declared.header.Header.Header}
 use Rattle.ciborium_value.specs.{Readings.Reading, Sources.{IsGrantedFault, RefusesAhead, TakesAhead, TakesItem}}
-use Rattle.ciborium_value.specs.{Sources.TakesOnly, Tree.Tree, View.read_as, Spelling.any}
-use Rattle.ciborium.specs.{declared.de.byte_source.ByteSource.ByteSource, declared.de.error.Error.Error}
-use Rattle.ciborium.specs.declared.de.error.Error.TheVariants.{Io, Syntax, Semantic, RecursionLimitExceeded, Memory}
-use Rattle.ciborium.specs.{declared.de.error.Error.TheVariants.TooLong, inner.ByteSources.{HasTakenSince, IsUnread}}
-use Rattle.ciborium.specs.{inner.ByteSources.{ReadsValue, StandsBefore, fault_at}, Errors.fault_of}
-use Rattle.ciborium.specs.{TypedAnswers.{RefusesGiven, TakesBeginning, TakesGiven}, ValueAnswers.TakesBytes}
-use Rattle.ciborium.specs.ValueClauses.{ReadsWhole}
+use Rattle.ciborium_value.specs.{Sources.TakesOnly, Spelling.any, Tree.Tree, View.read_as}
+use Rattle.ciborium.specs.{Errors.fault_of, TypedAnswers.{RefusesGiven, TakesBeginning, TakesGiven}}
+use Rattle.ciborium.specs.{ValueAnswers.TakesBytes, ValueClauses.ReadsWhole}
+use Rattle.ciborium.specs.declared.de.{byte_source.ByteSource.ByteSource, error.Error.{Error, TheVariants.{Io, Syntax}}}
+use Rattle.ciborium.specs.declared.de.error.Error.TheVariants.{Semantic, RecursionLimitExceeded, Memory, TooLong}
+use Rattle.ciborium.specs.inner.ByteSources.{HasTakenSince, IsUnread, ReadsValue, StandsBefore, fault_at}
 
 -- ---- the clauses of a call that reads the next item: what the reader held before it, what it is
 -- left with, and the answer

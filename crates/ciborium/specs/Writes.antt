@@ -1,11 +1,10 @@
 -- What writing answers, and where the sink over a writer stands.
-use Rattle.std.specs.{Prelude.{◌≡◌, ℕ, List, Option, Some, None, Result, Ok, Err, IsErr}, Borrow.GName}
+use Rattle.std.specs.{Borrow.GName, Prelude.{◌≡◌, ℕ, List, Option, Some, None, Result, Ok, Err, IsErr}}
 use Rattle.ciborium_ll.specs.Writing.{Writes}
 use Rattle.ciborium_value.specs.{Encoding.written_bytes, Places.{Place, Out, IsOutAt, IsWrittenPlace}, Sinks.Named}
 use Rattle.ciborium_value.specs.{Sinks.{Cause, value, memory, device}, WrittenItems.IsWritten}
-use Rattle.ciborium.specs.{declared.ser.error.Error.Error, declared.ser.error.Error.TheVariants.{Io, Value, Memory}}
-use Rattle.ciborium.specs.declared.ser.byte_sink.ByteSink.{ByteSink}
-use Rattle.ciborium.specs.declared.ser.byte_sink.BareWriteError.{BareWriteError}
+use Rattle.ciborium.specs.declared.ser.{byte_sink.{BareWriteError.BareWriteError, ByteSink.ByteSink}, error.Error.Error}
+use Rattle.ciborium.specs.declared.ser.error.Error.TheVariants.{Io, Value, Memory}
 use Rattle.ciborium.specs.declared.ser.byte_sink.BareWriteError.TheVariants as refusal
 
 -- the error is `Io`; of which error it holds nothing is said

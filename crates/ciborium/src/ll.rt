@@ -2,5 +2,6 @@
 
 pub use ciborium_ll::{
     Access, Answered, Buffered, Decoder, Encoder, Error, Failed, Header, ItemHead, ItemHeads, Keep,
-    NoItem, NotCopied, Plain, Slice, copy_item, is_well_formed, item_len, simple, tag,
+    NoItem, NotCopied, Plain, Slice, Visitor, copy_item, head_size, is_well_formed, item_len,
+    simple, tag,
 };

@@ -1,8 +1,7 @@
 -- Two values that are written in a row are a sequence of their items.
 use Rattle.std.proofs.Common.{◌≡◌, ℕ, List, [], ◌++◌, Option, Ok, Err, refl, sym, subst, append-nil}
-use Rattle.std.proofs.KnownBytes.{Appends-trans}
-use Rattle.std.specs.Io.KnownBytes.{Appends}
-use Rattle.ciborium.specs.{Item.Item, Sinks.Named, Encoding.written_bytes, ItemSequences.IsSequence}
+use Rattle.std.{proofs.KnownBytes.Appends-trans, specs.Io.KnownBytes.Appends}
+use Rattle.ciborium.specs.{Encoding.written_bytes, Item.Item, ItemSequences.IsSequence, Sinks.Named}
 use Rattle.ciborium.specs.Writes.{IsNamedWritten, WritesNamed}
 use Rattle.ciborium_value.proofs.Writing.ReadBack.{written_spells_item}
 use Rattle.ciborium.specs.Item as items

@@ -4,8 +4,7 @@ use Rattle.ciborium.specs.{Labels.fields_of, OwnTypes.label, Readings.below, Rea
 use Rattle.ciborium.specs.{Sinks.{named_text, number_item}, VariantReadings.{Variant, data_variant, given_enum}}
 use Rattle.ciborium.specs.{VariantReadings.unit_variant, lemmas.ReadsBackNumbers.u8_back}
 use Rattle.ciborium.specs.lemmas.ReadsBackVariants.{data_variant_back, unit_variant_back}
-use Rattle.ciborium_callers.specs.{declared.variant_types.Letter.Letter, declared.variant_types.Letter.TheVariants.A}
-use Rattle.ciborium_callers.specs.declared.variant_types.Letter.TheVariants.{B}
+use Rattle.ciborium_callers.specs.declared.variant_types.Letter.{Letter, TheVariants.{A, B}}
 
 -- what is written of a letter
 abbrev pub letter_named : Letter → Named

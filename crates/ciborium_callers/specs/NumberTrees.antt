@@ -1,16 +1,15 @@
 -- A type that holds itself: what its values are as trees, and which trees they are.
-use Rattle.std.proofs.Common.{ap, ◌∙◌}
-use Rattle.std.specs.Prelude.{◌≡◌, pos, negsuc, Bool, true, false, ◌&&◌, nat_lt, Some, option_map, refl}
+use Rattle.std.{proofs.Common.{ap, ◌∙◌}, specs.Prelude.{◌≡◌, pos, negsuc, Bool, true, false, ◌&&◌, nat_lt, Some}}
+use Rattle.std.specs.Prelude.{option_map, refl}
 use Rattle.ciborium.specs.{DeterministicForms.{deterministic_form, deterministic_forms, one_more}, Encoding.item_of}
 use Rattle.ciborium.specs.{Encoding.{items_of, written_tree, written_trees}, Folded.{folded, trees_folded}}
-use Rattle.ciborium.specs.{Meaning.trees_more, Number.number_tree, Given.{chosen, give, given_value, gives}}
-use Rattle.ciborium.specs.{Given.{outcome_map, refuse}, GivenParts.given_then, Nesting.nesting, ReadsBack.IsNameRead}
-use Rattle.ciborium.specs.{ReadsBack.{Way, met-itself, named}, Tree.{Tree, Trees}, View.trees_from}
-use Rattle.ciborium.specs.{lemmas.Descriptions.both, lemmas.ItemsOfTrees.tree_is_written_as_itself}
-use Rattle.ciborium.specs.{lemmas.ReadsBackParts.such_that_back, lemmas.ReadsBackValues.value-back}
-use Rattle.ciborium_value.specs.{declared.key_order.KeyOrder.KeyOrder, declared.kind.Kind.TheVariants.Other}
-use Rattle.ciborium_callers.specs.declared.tree_types.NumberTree.{NumberTree, fold-NumberTree}
-use Rattle.ciborium_callers.specs.declared.tree_types.NumberTree.TheOpen.{NumberTree-F}
+use Rattle.ciborium.specs.{Given.{chosen, give, given_value, gives, outcome_map, refuse}, GivenParts.given_then}
+use Rattle.ciborium.specs.{Meaning.trees_more, Nesting.nesting, Number.number_tree, ReadsBack.{IsNameRead, Way}}
+use Rattle.ciborium.specs.{ReadsBack.{met-itself, named}, Tree.{Tree, Trees}, View.trees_from, lemmas.Descriptions.both}
+use Rattle.ciborium.specs.lemmas.{ItemsOfTrees.tree_is_written_as_itself, ReadsBackParts.such_that_back}
+use Rattle.ciborium.specs.lemmas.ReadsBackValues.{value-back}
+use Rattle.ciborium_value.specs.declared.{key_order.KeyOrder.KeyOrder, kind.Kind.TheVariants.Other}
+use Rattle.ciborium_callers.specs.declared.tree_types.NumberTree.{NumberTree, fold-NumberTree, TheOpen.NumberTree-F}
 use Rattle.ciborium.specs.Tree as trees
 
 -- one level, where each value inside is its tree already

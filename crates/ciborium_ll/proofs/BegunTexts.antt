@@ -2,13 +2,12 @@
 use Rattle.std.proofs.Common.{◌≡◌, ℕ, zero, suc, ◌+◌, ◌-◌, ◌*◌, ◌<◌, ◌≤◌, cond, Bool, true, false, List, [], ◌∷◌, ◌++◌}
 use Rattle.std.proofs.Common.{length, get_or, take, drop, Some, None, refl, sym, ap, ◌∙◌, subst, arith, inl, inr, ◌⊎◌}
 use Rattle.std.proofs.Common.{IsUtf8, Option, length-append, length-drop, take-append-drop, get_or-drop, replicate}
-use Rattle.std.proofs.{Common.append_assoc, lemmas.Bool.Decides.nat_tests, iter.FirstChar.{wide, after_text}}
-use Rattle.std.proofs.{str.Lossy.utf8_error_len_some, lemmas.Str.{IsUtf8-append, IsUtf8-nil}}
+use Rattle.std.proofs.{Common.append_assoc, iter.FirstChar.{wide, after_text}, lemmas.Bool.Decides.nat_tests}
 use Rattle.std.proofs.lemmas.List.{take-append-le, drop-append-le, get_or_append_left, length-replicate}
-use Rattle.std.proofs.{lemmas.List.Elements.All-replicate, str.Faults.{Ranged, no_char}, str.Laws.{Follows, order}}
-use Rattle.std.proofs.{str.Laws.both, str.Valid.{of_one, of_two, of_three, of_four, longer}}
-use Rattle.std.specs.{Int.is_in_range, Str.{continuation_len, IsValidUpTo}, Str.Lossy.error_len_of_some}
-use Rattle.std.specs.Str.Lossy.{utf8_error_len, second_byte_min, second_byte_max}
+use Rattle.std.proofs.{lemmas.{List.Elements.All-replicate, Str.{IsUtf8-append, IsUtf8-nil}}, str.Faults.Ranged}
+use Rattle.std.proofs.str.{Faults.no_char, Laws.{Follows, order, both}, Lossy.utf8_error_len_some, Valid.of_one}
+use Rattle.std.{proofs.str.Valid.{of_two, of_three, of_four, longer}, specs.{Int.is_in_range, Str.continuation_len}}
+use Rattle.std.specs.Str.{IsValidUpTo, Lossy.{error_len_of_some, utf8_error_len, second_byte_min, second_byte_max}}
 use Rattle.ciborium_ll.specs.{Bytes.AreBytes, ItemLengths.BeginText}
 use lib.Utf8.{scalar, scalars, encodes}
 

@@ -2,12 +2,11 @@
 use Rattle.std.proofs.Common.{◌≡◌, ℕ, ◌-◌, ◌≤◌, List, [], ◌++◌, length, take, drop, Option, Some, None, IfSome, Result}
 use Rattle.std.proofs.Common.{append_assoc, arith, ap, length-append, sym, subst, take-append-drop, ◌∙◌, refl}
 use Rattle.std.proofs.{Math.Seq.take-append-add, lemmas.List.{length-take, nil_from_length}}
-use Rattle.std.specs.{Prelude.IsUtf8, Io.KnownBytes.Consumes}
-use Rattle.ciborium_ll.specs.{declared.item_bytes.NotCopied.NotCopied, declared.item_heads.NoItem.TheVariants.Malformed}
-use Rattle.ciborium_ll.specs.{declared.item_heads.NoItem.TheVariants.TooDeep, declared.levels.Level.Level}
-use Rattle.ciborium_ll.specs.{ItemBytes.{HasEnded, IsCopyOf}, ItemLengths.{BeginText, IsNoItem, Misfits, StandsOpen}}
-use Rattle.ciborium_ll.specs.ItemLengths.{ill_formed, misplaced, no_chunk, no_text}
-use Rattle.ciborium_ll.proofs.LevelMisfits.{ill-more}
+use Rattle.std.specs.{Io.KnownBytes.Consumes, Prelude.IsUtf8}
+use Rattle.ciborium_ll.{proofs.LevelMisfits.ill-more, specs.{ItemBytes.{HasEnded, IsCopyOf}, ItemLengths.BeginText}}
+use Rattle.ciborium_ll.specs.ItemLengths.{IsNoItem, Misfits, StandsOpen, ill_formed, misplaced, no_chunk, no_text}
+use Rattle.ciborium_ll.specs.declared.{item_bytes.NotCopied.NotCopied, item_heads.NoItem.TheVariants.Malformed}
+use Rattle.ciborium_ll.specs.declared.{item_heads.NoItem.TheVariants.TooDeep, levels.Level.Level}
 
 -- ---- what was copied
 

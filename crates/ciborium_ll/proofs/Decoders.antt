@@ -1,9 +1,8 @@
 -- What is left in the reader of a decoder, and what was taken from one that has begun.
 use Rattle.std.proofs.Common.{◌≡◌, ℕ, List, Option, Some, None, Result, IfNone, refl, ap, subst}
 use Rattle.std.specs.Io.KnownBytes.{Consumes}
-use Rattle.ciborium_ll.specs.{declared.header.Header.Header, declared.header.Error.Error}
-use Rattle.ciborium_ll.specs.{declared.decoder.Decoder.Decoder, Decoding.{HasBegun, ReadsNothing, Takes, left_of}}
-use Rattle.ciborium_ll.specs.{Decoding.with_left, ReaderSteps.IsHeadTaken}
+use Rattle.ciborium_ll.specs.{Decoding.{HasBegun, ReadsNothing, Takes, left_of, with_left}, ReaderSteps.IsHeadTaken}
+use Rattle.ciborium_ll.specs.declared.{decoder.Decoder.Decoder, header.{Error.Error, Header.Header}}
 
 -- where nothing was read, what is left is what was
 pub unread-left : {S W : Type 0} (remaining : S → Option (List ℕ)) (d e : Decoder S W) → ReadsNothing d e →

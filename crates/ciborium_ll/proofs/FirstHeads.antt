@@ -1,14 +1,12 @@
 -- The first head of a reader, from its first read on.
 use Rattle.std.proofs.Common.{◌≡◌, ℕ, zero, suc, ◌<◌, ◌≤◌, List, [], ◌∷◌, ◌++◌, length, take, cond, Option, Some, None}
 use Rattle.std.proofs.Common.{Result, Ok, Err, IfOk, IfNone, refl, sym, ap, ◌∙◌, subst, arith, lt-ltb}
-use Rattle.std.proofs.KnownBytes.{Consumes-kept, Consumes-nil}
-use Rattle.std.specs.Io.KnownBytes.{IsAtEnd, Keeps}
-use Rattle.ciborium_ll.specs.{declared.header.Header.Header, declared.header.Error.Error}
-use Rattle.ciborium_ll.specs.{declared.header.Error.TheVariants.{Io, Syntax, TooLong, Memory}, Bytes.greatest_offset}
-use Rattle.ciborium_ll.specs.{FirstHeads.{IsEndOrFault, IsFirstTaken, IsHeadIo, PullsFirstTo}, ReaderSteps.Advances}
-use Rattle.ciborium_ll.specs.{ReaderSteps.IsHeadTaken, Refusal.{Refusal, io, syntax, too_long, HeadRefuses}}
-use Rattle.ciborium_ll.specs.Refusal.{head_refusal}
+use Rattle.std.{proofs.KnownBytes.{Consumes-kept, Consumes-nil}, specs.Io.KnownBytes.{IsAtEnd, Keeps}}
 use Rattle.ciborium_ll.proofs.{Advancing.{Advances-map, Filled}, Unread.{pulls-head, rest-of}}
+use Rattle.ciborium_ll.specs.{Bytes.greatest_offset, FirstHeads.{IsEndOrFault, IsFirstTaken, IsHeadIo, PullsFirstTo}}
+use Rattle.ciborium_ll.specs.{ReaderSteps.{Advances, IsHeadTaken}, Refusal.{Refusal, io, syntax, too_long, HeadRefuses}}
+use Rattle.ciborium_ll.specs.{Refusal.head_refusal, declared.header.Error.{Error, TheVariants.{Io, Syntax, TooLong}}}
+use Rattle.ciborium_ll.specs.declared.header.{Error.TheVariants.Memory, Header.Header}
 
 none-refused : (p : ℕ) → p < greatest_offset → HeadRefuses [] p io
 none-refused p h = ap (λ t. cond t (Some io) (Some too_long)) (lt-ltb p greatest_offset h)

@@ -3,17 +3,16 @@ use Rattle.std.proofs.Common.{◌≡◌, ℕ, zero, suc, ◌+◌, ◌/◌, ◌%�
 use Rattle.std.proofs.Common.{List, [], ◌∷◌, length, take, Some, None, Ok, Err, IsTrue, refl, sym, ap, ◌∙◌, subst}
 use Rattle.std.proofs.{Common.{arith, inl, inr, ◌⊎◌, lt-ltb, le-ltb, ne_eqb, append-nil}, lemmas.Bool.Decides.nat_tests}
 use Rattle.std.proofs.lemmas.Nat.{div-mul-add, mod-mul-add}
-use Rattle.ciborium_ll.specs.{declared.header.Header.Header, declared.header.Header.TheVariants.{Positive, Negative}}
-use Rattle.ciborium_ll.specs.declared.header.Header.TheVariants.{Bytes, Text, Array, Map, Tag, Simple, Float, Break}
-use Rattle.ciborium_ll.specs.{declared.header.Error.Error, declared.header.Error.TheVariants.{Io, Syntax, TooLong}}
-use Rattle.ciborium_ll.specs.{Bytes.greatest_offset, Head.{Width, capacity, information, argument_bytes, initial_byte}}
-use Rattle.ciborium_ll.specs.{Head.IsHead, Header.{SpellsHeader, announced_length}, ReaderSteps.IsFillTaken}
-use Rattle.ciborium_ll.specs.{ReaderSteps.{IsHeadTaken, NoneIsSpare}, Refusal.{Refusal, io, syntax, too_long}}
-use Rattle.ciborium_ll.specs.Refusal.{argument_length, is_reserved, is_low_simple, is_ill_formed, payload_length}
-use Rattle.ciborium_ll.specs.Refusal.{initial_refusal, head_refusal, HeadRefuses, IsUsable}
-use Rattle.ciborium_ll.proofs.UsableHeads.{pass, low, unreserved, not_low, and_false, information-below}
-use Rattle.ciborium_ll.proofs.UsableHeads.{argument-information, argument_length-information, HeadFits, usable-fits}
-use Rattle.ciborium_ll.proofs.ReadHeads.{payload_length-is}
+use Rattle.ciborium_ll.proofs.{ReadHeads.payload_length-is, UsableHeads.{pass, low, unreserved, not_low, and_false}}
+use Rattle.ciborium_ll.proofs.UsableHeads.{information-below, argument-information, argument_length-information}
+use Rattle.ciborium_ll.{proofs.UsableHeads.{HeadFits, usable-fits}, specs.{Bytes.greatest_offset, Head.Width}}
+use Rattle.ciborium_ll.specs.{Head.{capacity, information, argument_bytes, initial_byte, IsHead}, Header.SpellsHeader}
+use Rattle.ciborium_ll.specs.{Header.announced_length, ReaderSteps.{IsFillTaken, IsHeadTaken, NoneIsSpare}}
+use Rattle.ciborium_ll.specs.Refusal.{Refusal, io, syntax, too_long, argument_length, is_reserved, is_low_simple}
+use Rattle.ciborium_ll.specs.Refusal.{is_ill_formed, payload_length, initial_refusal, head_refusal, HeadRefuses}
+use Rattle.ciborium_ll.specs.{Refusal.IsUsable, declared.header.Error.{Error, TheVariants.{Io, Syntax, TooLong}}}
+use Rattle.ciborium_ll.specs.declared.header.Header.{Header, TheVariants.{Positive, Negative, Bytes, Text, Array, Map}}
+use Rattle.ciborium_ll.specs.declared.header.Header.TheVariants.{Tag, Simple, Float, Break}
 
 hold : {A : Type 0} (t : Bool) (x y : A) → t ≡ true → cond t x y ≡ x
 hold t x y e = ap (λ u. cond u x y) e

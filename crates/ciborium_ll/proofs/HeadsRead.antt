@@ -2,21 +2,19 @@
 use Rattle.std.proofs.Common.{◌≡◌, ℕ, ◌+◌, ◌-◌, ◌<◌, ◌≤◌, List, [], ◌∷◌, ◌++◌, length, take, drop, Some, None, Err}
 use Rattle.std.proofs.Common.{Bool, true, false, IsTrue, refl, sym, ap, subst, eqb, ◌∙◌, ◌%◌, inl, inr, arith}
 use Rattle.std.proofs.{Common.{append_assoc, drop-drop, take-append-drop, length-take-le}, Math.Seq.take-add}
-use Rattle.std.proofs.{lemmas.Bool.eqb-false, lemmas.List.{length-drop, take_rest}}
-use Rattle.ciborium_ll.specs.{declared.header.Header.Header, declared.header.Header.TheVariants.{Bytes, Text}}
-use Rattle.ciborium_ll.specs.{declared.item_heads.ItemHeads.ItemHeads, declared.item_heads.NoItem.NoItem}
-use Rattle.ciborium_ll.specs.declared.item_heads.NoItem.TheVariants.{Incomplete, Malformed, TooDeep}
-use Rattle.ciborium_ll.specs.{declared.levels.Level.Level, declared.levels.Level.TheVariants.Items}
-use Rattle.ciborium_ll.specs.{declared.levels.Levels.Levels, declared.levels.Misfit.Misfit, Bytes.AreBytes}
-use Rattle.ciborium_ll.specs.{Head.break_byte, Header.SpellsHeader, Refusal.argument_length, ItemHeads.HasRead}
-use Rattle.ciborium_ll.specs.{ItemHeads.{open_in, unread, was_read}, ItemLengths.{BeginNoItem, BeginText, EndInside}}
-use Rattle.ciborium_ll.specs.{ItemLengths.{IsNoItem, Misfits, OpensTooMany, StandsOpen}, Levels.{AreItem, EndAll}}
-use Rattle.ciborium_ll.specs.{Levels.{IsOpenBehind, IsPayloadOf, behind_head, incomplete}, inner.Fronts.IsCut}
-use Rattle.ciborium_ll.specs.{inner.Fronts.{IsCutPayload, IsNoChunk, MayBeChunk}, inner.KeptLevels.IsPassed}
-use Rattle.ciborium_ll.specs.{inner.KeptLevels.levels_in, Spells.Spells}
-use Rattle.ciborium_ll.proofs.{UniqueSpelling.none_begins_another, CutHeads.{cut-head, cut-string, long-no-break}}
-use Rattle.ciborium_ll.proofs.LevelEnds.{incomplete-again, open-end, open-incomplete, open-start}
-use Rattle.ciborium_ll.proofs.{LevelFronts.open-behind, LevelMisfits.no-item}
+use Rattle.std.proofs.lemmas.{Bool.eqb-false, List.{length-drop, take_rest}}
+use Rattle.ciborium_ll.proofs.{CutHeads.{cut-head, cut-string, long-no-break}, LevelEnds.{incomplete-again, open-end}}
+use Rattle.ciborium_ll.proofs.{LevelEnds.{open-incomplete, open-start}, LevelFronts.open-behind, LevelMisfits.no-item}
+use Rattle.ciborium_ll.{proofs.UniqueSpelling.none_begins_another, specs.{Bytes.AreBytes, Head.break_byte}}
+use Rattle.ciborium_ll.specs.{Header.SpellsHeader, ItemHeads.{HasRead, open_in, unread, was_read}}
+use Rattle.ciborium_ll.specs.ItemLengths.{BeginNoItem, BeginText, EndInside, IsNoItem, Misfits, OpensTooMany}
+use Rattle.ciborium_ll.specs.{ItemLengths.StandsOpen, Levels.{AreItem, EndAll, IsOpenBehind, IsPayloadOf, behind_head}}
+use Rattle.ciborium_ll.specs.{Levels.incomplete, Refusal.argument_length, Spells.Spells, declared.header.Header.Header}
+use Rattle.ciborium_ll.specs.declared.{header.Header.TheVariants.{Bytes, Text}, item_heads.ItemHeads.ItemHeads}
+use Rattle.ciborium_ll.specs.declared.item_heads.NoItem.{NoItem, TheVariants.{Incomplete, Malformed, TooDeep}}
+use Rattle.ciborium_ll.specs.declared.levels.{Level.{Level, TheVariants.Items}, Levels.Levels, Misfit.Misfit}
+use Rattle.ciborium_ll.specs.inner.{Fronts.{IsCut, IsCutPayload, IsNoChunk, MayBeChunk}, KeptLevels.IsPassed}
+use Rattle.ciborium_ll.specs.inner.KeptLevels.{levels_in}
 use Rattle.ciborium_ll.specs.declared.levels.Misfit.TheVariants as misfit
 
 -- ---- the beginning, and the end

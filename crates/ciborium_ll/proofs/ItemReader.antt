@@ -2,14 +2,12 @@
 use Rattle.std.proofs.Common.{◌≡◌, ℕ, zero, suc, ◌+◌, ◌-◌, ◌*◌, ◌<◌, ◌≤◌, cond, eqb, Bool, true, false, List, [], ◌∷◌}
 use Rattle.std.proofs.Common.{◌++◌, length, take, drop, Option, Some, None, option_map, option_and_then, refl, sym, ap}
 use Rattle.std.proofs.{Common.{◌∙◌, arith, inl, inr, append_assoc, length-append}, Math.Seq.take-append_seam}
-use Rattle.std.proofs.Math.Seq.{drop-append_seam}
-use Rattle.std.specs.Prelude.{IsUtf8}
-use Rattle.ciborium_ll.specs.{Head.{IsHead, IsSimple, IsFloat}, Item.{Item, unsigned, negative, bytes, text, array}}
-use Rattle.ciborium_ll.specs.Item.{map, tag, simple, float, Items, no_items, item, Pairs, no_pairs, pair, items_count}
-use Rattle.ciborium_ll.specs.{Item.pairs_count, Bytes.AreBytes, Spells.{AreChunks, joined, IsString, Spells}}
-use Rattle.ciborium_ll.specs.Spells.{SpellsItems, SpellsPairs}
+use Rattle.std.{proofs.Math.Seq.drop-append_seam, specs.Prelude.IsUtf8}
 use Rattle.ciborium_ll.proofs.FrontHeads.{Front, nothing, counted, opened, plain, raw, front, front_open, front-head}
-use Rattle.ciborium_ll.proofs.FrontHeads.{front-simple, head-length}
+use Rattle.ciborium_ll.{proofs.FrontHeads.{front-simple, head-length}, specs.{Bytes.AreBytes, Head.{IsHead, IsSimple}}}
+use Rattle.ciborium_ll.specs.{Head.IsFloat, Item.{Item, unsigned, negative, bytes, text, array, map, tag, simple}}
+use Rattle.ciborium_ll.specs.Item.{float, Items, no_items, item, Pairs, no_pairs, pair, items_count, pairs_count}
+use Rattle.ciborium_ll.specs.Spells.{AreChunks, joined, IsString, Spells, SpellsItems, SpellsPairs}
 
 abbrev pub Parse : Type 0 → Type 0
 Parse A = List ℕ → Option (A × List ℕ)

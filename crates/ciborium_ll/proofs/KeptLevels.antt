@@ -1,10 +1,9 @@
 -- The levels that are kept: those of a room from a place on.
 use Rattle.std.proofs.Common.{◌≡◌, ℕ, zero, suc, ◌+◌, ◌-◌, ◌<◌, List, [], ◌∷◌, length, Some, refl, sym, ap, ◌∙◌, arith}
 use Rattle.std.proofs.{Common.{drop, set}, lemmas.List.{drop-set, length-drop, length-set}}
-use Rattle.ciborium_ll.specs.{declared.header.Header.Header, declared.levels.Step.Step}
-use Rattle.ciborium_ll.specs.{declared.levels.Step.TheVariants.{Within, Opens}, declared.levels.Level.Level}
-use Rattle.ciborium_ll.specs.{declared.levels.Level.TheVariants.Items, Levels.{behind_head, incomplete, levels_by}}
-use Rattle.ciborium_ll.specs.inner.KeptLevels.{top_of}
+use Rattle.ciborium_ll.specs.{Levels.{behind_head, incomplete, levels_by}, declared.header.Header.Header}
+use Rattle.ciborium_ll.specs.declared.levels.{Level.{Level, TheVariants.Items}, Step.{Step, TheVariants.Within}}
+use Rattle.ciborium_ll.specs.{declared.levels.Step.TheVariants.Opens, inner.KeptLevels.top_of}
 
 -- the innermost level stands before the others
 pub top-first : (k : ℕ) (room : List Level) (level : Level) → top_of (drop k room) ≡ Some level →

@@ -1,17 +1,15 @@
 -- What ends levels begins with a head, and what ends the levels behind that head follows it.
 use Rattle.std.proofs.Common.{◌≡◌, ℕ, zero, suc, ◌+◌, ◌≤◌, List, [], ◌∷◌, ◌++◌, length, drop, Some, None, true, false}
 use Rattle.std.proofs.{Common.{option_map, refl, sym, ap, ◌∙◌, subst, arith, append_assoc}, Math.Seq.drop-append_seam}
-use Rattle.ciborium_ll.specs.{declared.header.Header.Header, declared.levels.Level.Level}
-use Rattle.ciborium_ll.specs.declared.levels.Level.TheVariants.{Items, OpenItems, OpenKeys, OpenValues, ByteChunks}
-use Rattle.ciborium_ll.specs.{declared.levels.Level.TheVariants.TextChunks, Head.{IsHead, open_byte}}
-use Rattle.ciborium_ll.specs.{Header.SpellsHeader, Item.{Item, unsigned, negative, bytes, text, array, map, tag}}
-use Rattle.ciborium_ll.specs.{Item.{simple, float, items_count, pairs_count}, Levels.{EndAll, IsPayloadOf}}
-use Rattle.ciborium_ll.specs.Levels.{IsOpenBehind, AreItem, opened, behind_item, behind_bytes, behind_text}
-use Rattle.ciborium_ll.specs.{Levels.{behind_break, behind_head, incomplete}, Spells.Spells, StringRefusal.IsAllowed}
-use Rattle.ciborium_ll.specs.StringRefusal.{StringKind, of_bytes, of_text, string_major}
 use Rattle.ciborium_ll.proofs.{LevelEnds.{anywhere, end-to, to-end}, LevelHeads.to-behind, LevelsTo.{Standing, ItemTo}}
 use Rattle.ciborium_ll.proofs.LevelsTo.{ItemsTo, LevelTo, LevelsTo, around, behind-around, items-to, pairs-to}
-use Rattle.ciborium_ll.proofs.OneHeader.{one_header_at_front}
+use Rattle.ciborium_ll.{proofs.OneHeader.one_header_at_front, specs.{Head.{IsHead, open_byte}, Header.SpellsHeader}}
+use Rattle.ciborium_ll.specs.Item.{Item, unsigned, negative, bytes, text, array, map, tag, simple, float, items_count}
+use Rattle.ciborium_ll.specs.{Item.pairs_count, Levels.{EndAll, IsPayloadOf, IsOpenBehind, AreItem, opened}}
+use Rattle.ciborium_ll.specs.Levels.{behind_item, behind_bytes, behind_text, behind_break, behind_head, incomplete}
+use Rattle.ciborium_ll.specs.{Spells.Spells, StringRefusal.{IsAllowed, StringKind, of_bytes, of_text, string_major}}
+use Rattle.ciborium_ll.specs.declared.{header.Header.Header, levels.Level.{Level, TheVariants.{Items, OpenItems}}}
+use Rattle.ciborium_ll.specs.declared.levels.Level.TheVariants.{OpenKeys, OpenValues, ByteChunks, TextChunks}
 use Rattle.ciborium_ll.specs.declared.header.Header.TheVariants as heads
 
 -- ---- levels of which something is still to come

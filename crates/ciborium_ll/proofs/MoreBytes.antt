@@ -2,12 +2,10 @@
 use Rattle.std.proofs.Common.{◌≡◌, ℕ, ◌+◌, ◌/◌, ◌%◌, ◌<◌, ◌≤◌, cond, ltb, eqb, Bool, true, false, ◌&&◌, ◌||◌, List, []}
 use Rattle.std.proofs.Common.{◌∷◌, ◌++◌, length, get_or, Option, Some, None, refl, sym, ap, ◌∙◌, arith, le-ltb}
 use Rattle.std.proofs.{Common.{ltb-false, ltb-true, eqb-true, length-append}, lemmas.Bool.eqb-false}
-use Rattle.std.proofs.lemmas.List.{take-append-le}
-use Rattle.std.specs.Int.{from_be_bytes, w16, w32, w64}
-use Rattle.ciborium_ll.specs.{Bytes.greatest_offset, Refusal.{Refusal, io, syntax, too_long, argument_length}}
-use Rattle.ciborium_ll.specs.Refusal.{is_reserved, is_low_simple, argument, payload_length, initial_refusal}
-use Rattle.ciborium_ll.specs.Refusal.{head_refusal}
-use Rattle.ciborium_ll.proofs.UsableHeads.{pass}
+use Rattle.std.{proofs.lemmas.List.take-append-le, specs.Int.{from_be_bytes, w16, w32, w64}}
+use Rattle.ciborium_ll.{proofs.UsableHeads.pass, specs.{Bytes.greatest_offset, Refusal.{Refusal, io, syntax, too_long}}}
+use Rattle.ciborium_ll.specs.Refusal.{argument_length, is_reserved, is_low_simple, argument, payload_length}
+use Rattle.ciborium_ll.specs.Refusal.{initial_refusal, head_refusal}
 
 cond-same : {A : Type 0} (t : Bool) (x y z w : A) → (t ≡ true → x ≡ z) → (t ≡ false → y ≡ w) → cond t x y ≡ cond t z w
 cond-same true x y z w f g = f refl

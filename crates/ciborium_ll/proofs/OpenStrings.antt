@@ -2,14 +2,13 @@
 use Rattle.std.proofs.Common.{◌≡◌, ℕ, ◌+◌, ◌<◌, ◌≤◌, List, [], ◌∷◌, ◌++◌, length, Option, Ok, Err, refl, sym, ap, ◌∙◌}
 use Rattle.std.proofs.Common.{subst, arith, append_assoc, append-nil, length-append, inl, inr}
 use Rattle.std.proofs.KnownBytes.{Consumes-nil}
-use Rattle.ciborium_ll.specs.{declared.header.Header.Header, declared.header.Error.Error}
-use Rattle.ciborium_ll.specs.declared.header.Error.TheVariants.{Syntax, TooLong}
-use Rattle.ciborium_ll.specs.{declared.strings.Chunk.TheVariants.Other, Bytes.greatest_offset, Head.IsHead}
-use Rattle.ciborium_ll.specs.{Head.break_byte, Header.{SpellsHeader, announced_length}, ReaderSteps.Advances}
-use Rattle.ciborium_ll.specs.{ReaderSteps.IsHeadTaken, Spells.{IsDefiniteString, AreChunks, joined}}
+use Rattle.ciborium_ll.proofs.{Advancing.Advances-then, HeadAnswers.header-fits, UsableHeads.usable-fits}
+use Rattle.ciborium_ll.specs.{Bytes.greatest_offset, Head.{IsHead, break_byte}, Header.{SpellsHeader, announced_length}}
+use Rattle.ciborium_ll.specs.{ReaderSteps.{Advances, IsHeadTaken}, Spells.{IsDefiniteString, AreChunks, joined}}
 use Rattle.ciborium_ll.specs.StringRefusal.{StringKind, of_bytes, of_text, string_major, IsAllowed}
 use Rattle.ciborium_ll.specs.Strings.{string_header, IsChunk, IsPayloadTaken, IsChunkTaken, AreChunksTaken}
-use Rattle.ciborium_ll.proofs.{Advancing.Advances-then, UsableHeads.usable-fits, HeadAnswers.header-fits}
+use Rattle.ciborium_ll.specs.declared.header.{Error.{Error, TheVariants.{Syntax, TooLong}}, Header.Header}
+use Rattle.ciborium_ll.specs.declared.strings.Chunk.TheVariants.{Other}
 use Rattle.ciborium_ll.specs.declared.header.Header.TheVariants as header
 
 -- ---- one part more at the end

@@ -1,12 +1,11 @@
 -- Payloads that are appended piece by piece.
 use Rattle.std.proofs.Common.{◌≡◌, ℕ, ◌+◌, ◌-◌, List, [], ◌++◌, append-nil, subst, length, take, drop, Option, Ok, Err}
-use Rattle.std.proofs.{Common.{refl, sym, ap, ◌∙◌, arith, append_assoc, length-append}, lemmas.List.take_all}
-use Rattle.std.proofs.Math.Seq.{take-append_seam, drop-append_seam}
-use Rattle.ciborium_ll.specs.{declared.header.Error.Error, declared.header.Error.TheVariants.{Io, Syntax, TooLong}}
-use Rattle.ciborium_ll.specs.{declared.header.Error.TheVariants.Memory, ReaderSteps.Advances, StringRefusal.IsAllowed}
-use Rattle.ciborium_ll.specs.{StringRefusal.StringKind, Strings.{Extends, Grows, IsPayloadTaken, IsPiecesTaken}}
-use Rattle.ciborium_ll.specs.Strings.{IsSomeTaken}
-use Rattle.ciborium_ll.proofs.Advancing.{Advances-map, Advances-then}
+use Rattle.std.proofs.{Common.{refl, sym, ap, ◌∙◌, arith, append_assoc, length-append}, Math.Seq.take-append_seam}
+use Rattle.std.proofs.{Math.Seq.drop-append_seam, lemmas.List.take_all}
+use Rattle.ciborium_ll.{proofs.Advancing.{Advances-map, Advances-then}, specs.ReaderSteps.Advances}
+use Rattle.ciborium_ll.specs.{StringRefusal.{IsAllowed, StringKind}, Strings.{Extends, Grows, IsPayloadTaken}}
+use Rattle.ciborium_ll.specs.{Strings.{IsPiecesTaken, IsSomeTaken}, declared.header.Error.{Error, TheVariants.Io}}
+use Rattle.ciborium_ll.specs.declared.header.Error.TheVariants.{Syntax, TooLong, Memory}
 
 -- ---- piece after piece
 

@@ -2,17 +2,15 @@
 use Rattle.std.proofs.Common.{◌≡◌, ◌≢◌, ℕ, suc, ◌+◌, ◌*◌, ◌/◌, ◌%◌, ◌<◌, ◌≤◌, cond, ltb, eqb, Bool, true, false, ◌&&◌}
 use Rattle.std.proofs.Common.{List, [], ◌∷◌, ◌++◌, length, get_or, take, drop, Some, None, refl, sym, ap, ◌∙◌, subst}
 use Rattle.std.proofs.Common.{arith, inl, inr, ltb-true, ltb-false, lt-ltb, eqb-true, eq-eqb, take-append-drop}
-use Rattle.std.proofs.{Common.div-add-mod', lemmas.Bool.{cond_both, eqb-false, cond-true}}
-use Rattle.std.proofs.{lemmas.Bool.Decides.nat_tests, lemmas.List.length-take-le, lemmas.Nat.{be_bytes_2, be_bytes_4}}
-use Rattle.std.proofs.lemmas.Nat.{be_bytes_8}
-use Rattle.std.specs.Int.{from_be_bytes, w16, w32, w64}
-use Rattle.ciborium_ll.specs.Head.{Width, within, one_byte, two_bytes, four_bytes, eight_bytes, information}
-use Rattle.ciborium_ll.specs.{Head.{argument_bytes, head_in, IsSimple, capacity}, Refusal.{io, too_long}}
-use Rattle.ciborium_ll.specs.Refusal.{argument_length, is_reserved, argument, payload_length, IsUsable, HasHead}
-use Rattle.ciborium_ll.specs.Bytes.{greatest_offset}
+use Rattle.std.proofs.{Common.div-add-mod', lemmas.Bool.{cond_both, eqb-false, cond-true, Decides.nat_tests}}
+use Rattle.std.{proofs.lemmas.{List.length-take-le, Nat.{be_bytes_2, be_bytes_4, be_bytes_8}}, specs.Int.from_be_bytes}
+use Rattle.std.specs.Int.{w16, w32, w64}
 use Rattle.ciborium_ll.proofs.FrontHeads.{Front, nothing, counted, opened, plain, raw, front_number, front_other}
 use Rattle.ciborium_ll.proofs.{FrontHeads.{front_in, front}, UsableHeads.{EachIsByte, byte_at, take_bytes, usable-fits}}
 use Rattle.ciborium_ll.proofs.UsableHeads.{HeadFits, low, IsStringMajor, argument_length-information}
+use Rattle.ciborium_ll.specs.{Bytes.greatest_offset, Head.{Width, within, one_byte, two_bytes, four_bytes, eight_bytes}}
+use Rattle.ciborium_ll.specs.{Head.{information, argument_bytes, head_in, IsSimple, capacity}, Refusal.{io, too_long}}
+use Rattle.ciborium_ll.specs.Refusal.{argument_length, is_reserved, argument, payload_length, IsUsable, HasHead}
 
 -- what is known of the bytes where this head was read
 abbrev pub Face : List ℕ → ℕ → Front → Type 0

@@ -1,17 +1,15 @@
 -- What calls answer, said of all that is unread.
 use Rattle.std.proofs.Common.{◌≡◌, ℕ, ◌+◌, ◌<◌, List, [], ◌∷◌, ◌++◌, length, Option, Some, None, Result, Ok, Err, IfErr}
 use Rattle.std.proofs.{Common.{refl, sym, ap, ◌∙◌, subst, append_assoc, append-nil, inl, inr}, lemmas.Str.IsUtf8-append}
-use Rattle.std.proofs.lemmas.Str.{IsUtf8-nil}
-use Rattle.std.specs.{Io.KnownBytes.Consumes, Prelude.IsUtf8}
-use Rattle.ciborium_ll.specs.{declared.header.Header.Header, declared.header.Error.Error}
-use Rattle.ciborium_ll.specs.{declared.header.Error.TheVariants.{Io, Syntax, TooLong, Memory}, Head.break_byte}
-use Rattle.ciborium_ll.specs.{Header.SpellsHeader, Decoding.PullsTo, ReaderSteps.{Advances, IsRefusalOf, IsHeadTaken}}
+use Rattle.std.{proofs.lemmas.Str.IsUtf8-nil, specs.{Io.KnownBytes.Consumes, Prelude.IsUtf8}}
+use Rattle.ciborium_ll.{proofs.{MoreBytes.refusal-more, OneHeader.one_header_at_front}, specs.Decoding.PullsTo}
+use Rattle.ciborium_ll.specs.{Head.break_byte, Header.SpellsHeader, ReaderSteps.{Advances, IsRefusalOf, IsHeadTaken}}
 use Rattle.ciborium_ll.specs.Refusal.{Refusal, io, syntax, too_long, HeadRefuses, IsUsable, HasHead, IsAtFront}
 use Rattle.ciborium_ll.specs.{Spells.{AreChunks, joined}, StringRefusal.{StringKind, of_bytes, of_text, string_major}}
 use Rattle.ciborium_ll.specs.StringRefusal.{IsAllowed, PayloadRefuses, HasStringHead, ChunkRefuses, ChunksRefuse}
 use Rattle.ciborium_ll.specs.{StringRefusal.ContentRefuses, Strings.{string_header, IsPayloadTaken, IsChunkTaken}}
-use Rattle.ciborium_ll.specs.Strings.{AreChunksTaken, IsStringTaken}
-use Rattle.ciborium_ll.proofs.{MoreBytes.refusal-more, OneHeader.one_header_at_front}
+use Rattle.ciborium_ll.specs.{Strings.{AreChunksTaken, IsStringTaken}, declared.header.Error.{Error, TheVariants.Io}}
+use Rattle.ciborium_ll.specs.declared.header.{Error.TheVariants.{Syntax, TooLong, Memory}, Header.Header}
 use Rattle.ciborium_ll.specs.declared.header.Header.TheVariants as header
 
 -- what known bytes have left behind those that were taken

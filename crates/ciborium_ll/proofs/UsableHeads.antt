@@ -2,15 +2,14 @@
 use Rattle.std.proofs.Common.{◌≡◌, ℕ, zero, suc, ◌+◌, ◌*◌, ◌/◌, ◌%◌, ◌<◌, ◌≤◌, cond, ltb, eqb, Bool, true, false, ◌&&◌}
 use Rattle.std.proofs.Common.{◌||◌, List, [], ◌∷◌, ◌++◌, length, get_or, take, Option, Some, None, refl, sym, ap, ◌∙◌}
 use Rattle.std.proofs.Common.{subst, arith, inl, inr, ◌⊎◌, ltb-true, ltb-false, lt-ltb, le-ltb, eqb-true, ne_eqb}
-use Rattle.std.proofs.{Common.length-append, lemmas.Bool.cond_both, lemmas.Bool.Decides.nat_tests}
-use Rattle.std.proofs.lemmas.Nat.{div-mul-add, mod-mul-add, from_be_bytes-to_be_bytes_2, from_be_bytes-to_be_bytes_4}
-use Rattle.std.proofs.lemmas.Nat.{from_be_bytes-to_be_bytes_8}
-use Rattle.std.specs.Int.{from_be_bytes, w16, w32, w64}
-use Rattle.ciborium_ll.specs.Head.{Width, within, one_byte, two_bytes, four_bytes, eight_bytes, information}
-use Rattle.ciborium_ll.specs.{Head.{argument_bytes, head_in, capacity}, Refusal.{Refusal, syntax, too_long}}
-use Rattle.ciborium_ll.specs.Refusal.{argument_length, is_reserved, is_low_simple, argument, payload_length}
-use Rattle.ciborium_ll.specs.{Refusal.{initial_refusal, IsUsable, HasHead}, Bytes.greatest_offset}
-use Rattle.ciborium_ll.proofs.FrontHeads.{counted, front, front-head}
+use Rattle.std.proofs.{Common.length-append, lemmas.{Bool.{cond_both, Decides.nat_tests}, Nat.div-mul-add}}
+use Rattle.std.proofs.lemmas.Nat.{mod-mul-add, from_be_bytes-to_be_bytes_2, from_be_bytes-to_be_bytes_4}
+use Rattle.std.{proofs.lemmas.Nat.from_be_bytes-to_be_bytes_8, specs.Int.{from_be_bytes, w16, w32, w64}}
+use Rattle.ciborium_ll.{proofs.FrontHeads.{counted, front, front-head}, specs.{Bytes.greatest_offset, Head.Width}}
+use Rattle.ciborium_ll.specs.Head.{within, one_byte, two_bytes, four_bytes, eight_bytes, information, argument_bytes}
+use Rattle.ciborium_ll.specs.{Head.{head_in, capacity}, Refusal.{Refusal, syntax, too_long, argument_length}}
+use Rattle.ciborium_ll.specs.Refusal.{is_reserved, is_low_simple, argument, payload_length, initial_refusal, IsUsable}
+use Rattle.ciborium_ll.specs.Refusal.{HasHead}
 
 abbrev pub EachIsByte : List ℕ → Type 0
 EachIsByte [] = Unit {0}

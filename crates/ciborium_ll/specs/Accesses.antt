@@ -1,9 +1,8 @@
 -- What is taken of a reader that may hand out the bytes that it holds.
-use Rattle.std.specs.Prelude.{◌≡◌, ℕ, ◌<◌, ◌≤◌, Bool, true, false, List, [], ◌++◌, length, Option, Some, None, Result}
-use Rattle.std.specs.{Prelude.{Ok, Err, IfErr}, Io.KnownBytes.{Consumes, Keeps}}
-use Rattle.ciborium_ll.specs.{declared.header.Header.Header, declared.header.Error.Error}
-use Rattle.ciborium_ll.specs.{declared.header.Error.TheVariants.{Io, Syntax, TooLong, Memory}, Bytes.AreBytes}
-use Rattle.ciborium_ll.specs.ReaderSteps.{IsHeadTaken}
+use Rattle.std.specs.{Io.KnownBytes.{Consumes, Keeps}, Prelude.{◌≡◌, ℕ, ◌<◌, ◌≤◌, Bool, true, false, List, [], ◌++◌}}
+use Rattle.std.specs.Prelude.{length, Option, Some, None, Result, Ok, Err, IfErr}
+use Rattle.ciborium_ll.specs.{Bytes.AreBytes, ReaderSteps.IsHeadTaken, declared.header.Error.{Error, TheVariants.Io}}
+use Rattle.ciborium_ll.specs.declared.header.{Error.TheVariants.{Syntax, TooLong, Memory}, Header.Header}
 
 -- what may be left where a call could not be given more: nothing of a reader that cannot fail
 -- before its end

@@ -1,9 +1,8 @@
 -- The first head of a reader that may have none: what reading it answers, and how it tells the end
 -- from a cut (RFC 8742, section 2).
 use Rattle.std.specs.Prelude.{◌≡◌, ℕ, ◌+◌, List, [], Option, Some, None, Result, Ok, Err}
-use Rattle.ciborium_ll.specs.{declared.header.Header.Header, declared.header.Error.Error}
-use Rattle.ciborium_ll.specs.declared.header.Error.TheVariants.{Io, Syntax, TooLong, Memory}
-use Rattle.ciborium_ll.specs.{declared.decoder.Decoder.Decoder, Decoding.{PullsTo, left_of}, ReaderSteps.IsHeadTaken}
+use Rattle.ciborium_ll.specs.{Decoding.{PullsTo, left_of}, ReaderSteps.IsHeadTaken, declared.decoder.Decoder.Decoder}
+use Rattle.ciborium_ll.specs.declared.header.{Error.{Error, TheVariants.{Io, Syntax, TooLong, Memory}}, Header.Header}
 
 -- `Io` is the only error
 abbrev pub IsHeadIo : {E : Type 0} → Error E → Type 0

@@ -1,7 +1,6 @@
 -- What `{}` prints of an error.
-use Rattle.std.specs.{Prelude.{ℕ, List, ◌++◌, Option, Some, codes, decimal}, Fmt.◌++?◌}
-use Rattle.ciborium_ll.specs.{declared.header.Error.Error, declared.header.Error.TheVariants.{Io, Syntax, TooLong}}
-use Rattle.ciborium_ll.specs.declared.header.Error.TheVariants.{Memory}
+use Rattle.std.specs.{Fmt.◌++?◌, Prelude.{ℕ, List, ◌++◌, Option, Some, codes, decimal}}
+use Rattle.ciborium_ll.specs.declared.header.Error.{Error, TheVariants.{Io, Syntax, TooLong, Memory}}
 
 -- where something stands, and what is said of it
 abbrev pub at_byte : ℕ → List ℕ → List ℕ

@@ -1,9 +1,8 @@
 -- The heads that a `Header` stands for (RFC 8949, section 3).
 use Rattle.std.specs.Prelude.{◌≡◌, ℕ, ◌<◌, ◌≤◌, ◌⊎◌, List, [], ◌∷◌, length, Option, Some, None}
-use Rattle.ciborium_ll.specs.{declared.header.Header.Header, declared.header.Header.TheVariants.{Positive, Negative}}
-use Rattle.ciborium_ll.specs.declared.header.Header.TheVariants.{Bytes, Text, Array, Map, Tag, Simple, Float, Break}
 use Rattle.ciborium_ll.specs.Head.{IsHead, shortest_head, open_byte, break_byte, IsSimple, simple_bytes, IsFloat}
-use Rattle.ciborium_ll.specs.ProperItems.{IsArgument}
+use Rattle.ciborium_ll.specs.{ProperItems.IsArgument, declared.header.Header.{Header, TheVariants.{Positive, Negative}}}
+use Rattle.ciborium_ll.specs.declared.header.Header.TheVariants.{Bytes, Text, Array, Map, Tag, Simple, Float, Break}
 
 -- b is a head of the major type with this length or count, or the initial byte of an open item
 abbrev pub IsCounted : List ℕ → ℕ → Option ℕ → Type 0

@@ -1,8 +1,7 @@
 -- The bytes of an item that are copied out of a reader (RFC 8949, section 5.3.1).
-use Rattle.std.specs.{Prelude.{◌≡◌, List, [], ◌++◌, ℕ, Option, Some, Result, Ok, Err}, Io.KnownBytes.Consumes}
-use Rattle.ciborium_ll.specs.{declared.item_bytes.NotCopied.NotCopied, declared.item_bytes.NotCopied.TheVariants.NoItem}
-use Rattle.ciborium_ll.specs.{declared.item_bytes.NotCopied.TheVariants.{Io, Memory}, ItemLengths.IsNoItem}
-use Rattle.ciborium_ll.specs.Levels.{AreItem}
+use Rattle.std.specs.{Io.KnownBytes.Consumes, Prelude.{◌≡◌, List, [], ◌++◌, ℕ, Option, Some, Result, Ok, Err}}
+use Rattle.ciborium_ll.specs.{ItemLengths.IsNoItem, Levels.AreItem, declared.item_bytes.NotCopied.NotCopied}
+use Rattle.ciborium_ll.specs.declared.item_bytes.NotCopied.TheVariants.{NoItem, Io, Memory}
 
 -- bytes that a reader began with were taken, and stand behind what a list held: P holds of them
 abbrev pub HasCopied : Option (List ℕ) → Option (List ℕ) → List ℕ → List ℕ → (List ℕ → Type 0) → Type 0

@@ -2,12 +2,11 @@
 -- section 5.3.1, and appendix C).
 use Rattle.std.specs.Prelude.{◌≡◌, ℕ, ◌/◌, ◌%◌, ◌<◌, ◌≤◌, true, false, List, [], ◌∷◌, ◌++◌, length, IsUtf8, Option}
 use Rattle.std.specs.Prelude.{Some, None, take, Result, Ok, Err}
-use Rattle.ciborium_ll.specs.{declared.header.Header.Header, declared.header.Header.TheVariants.Text}
-use Rattle.ciborium_ll.specs.{declared.item_heads.NoItem.NoItem, declared.item_heads.NoItem.TheVariants.Incomplete}
-use Rattle.ciborium_ll.specs.{declared.item_heads.NoItem.TheVariants.{Malformed, TooDeep}, declared.levels.Level.Level}
-use Rattle.ciborium_ll.specs.{declared.levels.Level.TheVariants.{ByteChunks, TextChunks}, Head.break_byte}
-use Rattle.ciborium_ll.specs.{Header.{SpellsHeader, announced_length}, Levels.{AreItem, IsOpenBehind, behind_head}}
-use Rattle.ciborium_ll.specs.Refusal.{argument_length, is_ill_formed}
+use Rattle.ciborium_ll.specs.{Head.break_byte, Header.{SpellsHeader, announced_length}, Levels.{AreItem, IsOpenBehind}}
+use Rattle.ciborium_ll.specs.{Levels.behind_head, Refusal.{argument_length, is_ill_formed}}
+use Rattle.ciborium_ll.specs.declared.{header.Header.{Header, TheVariants.Text}, item_heads.NoItem.NoItem}
+use Rattle.ciborium_ll.specs.declared.item_heads.NoItem.TheVariants.{Incomplete, Malformed, TooDeep}
+use Rattle.ciborium_ll.specs.declared.levels.Level.{Level, TheVariants.{ByteChunks, TextChunks}}
 
 -- the bytes are the beginning of a text of n bytes, or all of it
 abbrev pub BeginText : ℕ → List ℕ → Type 0

@@ -1,10 +1,9 @@
 -- What a call takes from a reader, where the reader's bytes are known, and how offsets count it.
-use Rattle.std.specs.Prelude.{◌≡◌, ℕ, ◌+◌, ◌<◌, ◌≤◌, List, [], length, take, Option, Some, MatchOption, IsTrue, Result}
-use Rattle.std.specs.{Prelude.{Ok, Err}, Io.KnownBytes.Consumes}
-use Rattle.ciborium_ll.specs.{declared.header.Header.Header, declared.header.Error.Error}
-use Rattle.ciborium_ll.specs.{declared.header.Error.TheVariants.{Io, Syntax, TooLong, Memory}, Bytes.AreBytes}
-use Rattle.ciborium_ll.specs.{Bytes.greatest_offset, Header.SpellsHeader, Refusal.{Refusal, is_ill_formed, io, syntax}}
-use Rattle.ciborium_ll.specs.Refusal.{too_long, HeadRefuses, IsUsable}
+use Rattle.std.specs.{Io.KnownBytes.Consumes, Prelude.{◌≡◌, ℕ, ◌+◌, ◌<◌, ◌≤◌, List, [], length, take, Option, Some}}
+use Rattle.std.specs.Prelude.{MatchOption, IsTrue, Result, Ok, Err}
+use Rattle.ciborium_ll.specs.{Bytes.{AreBytes, greatest_offset}, Header.SpellsHeader, Refusal.{Refusal, is_ill_formed}}
+use Rattle.ciborium_ll.specs.{Refusal.{io, syntax, too_long, HeadRefuses, IsUsable}, declared.header.Error.Error}
+use Rattle.ciborium_ll.specs.declared.header.{Error.TheVariants.{Io, Syntax, TooLong, Memory}, Header.Header}
 
 -- some bytes are taken between the offsets p and q, and nothing else, and P holds of them; each is
 -- below 256

@@ -2,12 +2,10 @@
 -- and 3.2.3).
 use Rattle.std.specs.Prelude.{◌≡◌, ◌≢◌, ℕ, ◌+◌, ◌<◌, ◌≤◌, ◌⊎◌, List, [], ◌∷◌, ◌++◌, length, Option, Some, None, Result}
 use Rattle.std.specs.Prelude.{Ok, Err}
-use Rattle.ciborium_ll.specs.{declared.header.Header.Header, declared.header.Error.Error}
-use Rattle.ciborium_ll.specs.declared.header.Error.TheVariants.{Io, Syntax, TooLong, Memory}
-use Rattle.ciborium_ll.specs.{declared.strings.StringType.StringType, declared.strings.Chunk.Chunk}
-use Rattle.ciborium_ll.specs.{declared.strings.Chunk.TheVariants.{End, Definite, Other}, Bytes.greatest_offset}
-use Rattle.ciborium_ll.specs.{Head.break_byte, ReaderSteps.IsHeadTaken, Spells.{AreChunks, joined}}
-use Rattle.ciborium_ll.specs.StringRefusal.{StringKind, of_bytes, of_text, string_major, IsAllowed}
+use Rattle.ciborium_ll.specs.{Bytes.greatest_offset, Head.break_byte, ReaderSteps.IsHeadTaken, Spells.AreChunks}
+use Rattle.ciborium_ll.specs.{Spells.joined, StringRefusal.{StringKind, of_bytes, of_text, string_major, IsAllowed}}
+use Rattle.ciborium_ll.specs.declared.header.{Error.{Error, TheVariants.{Io, Syntax, TooLong, Memory}}, Header.Header}
+use Rattle.ciborium_ll.specs.declared.strings.{Chunk.{Chunk, TheVariants.{End, Definite, Other}}, StringType.StringType}
 use Rattle.ciborium_ll.specs.declared.header.Header.TheVariants as header
 use Rattle.ciborium_ll.specs.declared.strings.StringType.TheVariants as kind
 

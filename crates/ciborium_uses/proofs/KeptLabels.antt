@@ -2,15 +2,14 @@
 use Rattle.std.proofs.Common.{◌≡◌, ◌≤◌, ◌&&◌, inl, refl, sym, ap, subst, ◌∙◌, arith, IsTrue, ℕ, List, [], ◌∷◌, Bool, Ok}
 use Rattle.std.proofs.{Common.{Option, Some, None, length, option_map, ◌==◌}, lemmas.Bool.Decides.nat_tests}
 use Rattle.ciborium_ll.proofs.UniqueSpelling.{none_begins_another, one_item}
-use Rattle.ciborium.proofs.ReadBack.RoundTrips.{one-content}
-use Rattle.ciborium.specs.{Encoding.item_of, Folded.{folded, tree_pairs_folded}, Given.{Outcome, given_value, gives}}
-use Rattle.ciborium.specs.{Given.{of_meaning, outcome}, Item.Item, Meaning.tree_pairs_more, Nesting.nesting}
-use Rattle.ciborium.specs.{Spells.Spells, Tree.{Tree, TreePairs}, TreeAnswers.IsErrorOf, View.tree_pairs_of}
-use Rattle.ciborium.specs.Writes.{IsWrittenAs}
-use Rattle.ciborium_value.proofs.{FoldedTrees.FoldedCopies.given-folded, FoldedTrees.Folding.folds_once}
-use Rattle.ciborium_value.proofs.Writing.ReadBack.{written_spells_item}
-use Rattle.ciborium_value.specs.{ReadsBack.by_bytes, declared.error.Error.Error, declared.tree.Value.Value}
-use Rattle.ciborium_value.specs.{lemmas.GivenOutcomes.meaning_given, lemmas.ReadsBackValues.value-back}
+use Rattle.ciborium.{proofs.ReadBack.RoundTrips.one-content, specs.{Encoding.item_of, Folded.folded}}
+use Rattle.ciborium.specs.{Folded.tree_pairs_folded, Given.{Outcome, given_value, gives, of_meaning, outcome}}
+use Rattle.ciborium.specs.{Item.Item, Meaning.tree_pairs_more, Nesting.nesting, Spells.Spells, Tree.{Tree, TreePairs}}
+use Rattle.ciborium.specs.{TreeAnswers.IsErrorOf, View.tree_pairs_of, Writes.IsWrittenAs}
+use Rattle.ciborium_value.proofs.FoldedTrees.{FoldedCopies.given-folded, Folding.folds_once}
+use Rattle.ciborium_value.{proofs.Writing.ReadBack.written_spells_item, specs.ReadsBack.by_bytes}
+use Rattle.ciborium_value.specs.{declared.{error.Error.Error, tree.Value.Value}, lemmas.GivenOutcomes.meaning_given}
+use Rattle.ciborium_value.specs.lemmas.ReadsBackValues.{value-back}
 use Rattle.ciborium_uses.specs.Envelopes.{AreLabelBytes, AreLabels, IsAllOf, IsHeader, IsKept, are_labels, is_label}
 use Rattle.ciborium_uses.specs.Envelopes.{is_empty, is_label_map}
 use Rattle.ciborium.specs.Item as item

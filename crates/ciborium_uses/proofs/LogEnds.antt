@@ -4,11 +4,10 @@ use Rattle.std.proofs.{Common.{length-append, subst, sym, ◌∙◌}, KnownBytes
 use Rattle.std.specs.{Io.KnownBytes.{Consumes, IsAtEnd}, declared.io.Error.Error as IoError}
 use Rattle.ciborium_ll.proofs.Unread.{rest-of}
 use Rattle.ciborium_value.proofs.GoodItems.Spelled.{spells-pos}
-use Rattle.ciborium.specs.{CutItems.IsEndError, NextItems.TakesTo, Given.Given, TypedAnswers.RefusesGiven}
-use Rattle.ciborium.specs.{TypedAnswers.{TakesBeginning, TakesGiven}, declared.de.error.Error.Error}
-use Rattle.ciborium.specs.declared.de.error.Error.TheVariants.{Io, Syntax, Semantic, RecursionLimitExceeded, Memory}
-use Rattle.ciborium.specs.declared.de.error.Error.TheVariants.{TooLong}
-use Rattle.ciborium.proofs.Readers.ReadSequences.{HasRead, none-read, one-more-read}
+use Rattle.ciborium.{proofs.Readers.ReadSequences.{HasRead, none-read, one-more-read}, specs.CutItems.IsEndError}
+use Rattle.ciborium.specs.{Given.Given, NextItems.TakesTo, TypedAnswers.{RefusesGiven, TakesBeginning, TakesGiven}}
+use Rattle.ciborium.specs.declared.de.error.Error.{Error, TheVariants.{Io, Syntax, Semantic, RecursionLimitExceeded}}
+use Rattle.ciborium.specs.declared.de.error.Error.TheVariants.{Memory, TooLong}
 use Rattle.ciborium_uses.specs.Logs.{BeginsNoItem, IsEndOfLog}
 
 -- what was taken of some known bytes

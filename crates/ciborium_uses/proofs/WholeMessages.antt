@@ -7,8 +7,7 @@ use Rattle.ciborium_uses.proofs.{KeptLabels.{kept, one-header, one-map, one-valu
 use Rattle.ciborium_uses.specs.Envelopes.{AreAlike, AreClaimBytes, AreHeaders, AreLabels, IsHeader, IsMessage, IsWhole}
 use Rattle.ciborium_uses.specs.Envelopes.{OneEnvelope, SpelledIsRead, message_of, message_tree, shortest_bytes}
 use Rattle.ciborium_uses.specs.{Envelopes.wrapped_tree, declared.envelopes.Envelope.Envelope}
-use Rattle.ciborium_uses.specs.declared.envelopes.wrapping.Wrapping.{Wrapping}
-use Rattle.ciborium_uses.specs.declared.envelopes.wrapping.Wrapping.TheVariants.{Bare, Signed, Token}
+use Rattle.ciborium_uses.specs.declared.envelopes.wrapping.Wrapping.{Wrapping, TheVariants.{Bare, Signed, Token}}
 
 -- ---- what was read
 

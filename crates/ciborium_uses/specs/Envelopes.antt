@@ -1,19 +1,17 @@
 -- Signed messages of COSE (RFC 9052) that hold a CBOR Web Token (RFC 8392): which bytes they are,
 -- and what their
 -- signatures sign.
-use Rattle.std.specs.Prelude.{◌≡◌, ◌≤◌, ℕ, ℤ, pos, List, [], ◌∷◌, codes, if◌then◌else◌, Bool, IsTrue, true, false, not}
-use Rattle.std.specs.Prelude.{nat_le, ◌&&◌, Option, Some, None, map, option_map, String, string_bytes}
-use Rattle.std.specs.{declared.alloc.Global.Global, BTreeMap.BTreeMap, List.list_all}
-use Rattle.ciborium.specs.{Item.Item, Spells.Spells, Encoding.{encoding, item_of}, Folded.folded, Nesting.nesting}
-use Rattle.ciborium.specs.{Order.tree_cmp, Given.{Outcome, gives, outcome, given_value}, GivenParts.has_key}
-use Rattle.ciborium.specs.{GivenParts.given_map, Labels.numbered, Lookups.tree_under, Tree.{Tree, TreePairs, Trees}}
+use Rattle.std.specs.{BTreeMap.BTreeMap, List.list_all, Prelude.{◌≡◌, ◌≤◌, ℕ, ℤ, pos, List, [], ◌∷◌, codes}}
+use Rattle.std.specs.Prelude.{if◌then◌else◌, Bool, IsTrue, true, false, not, nat_le, ◌&&◌, Option, Some, None, map}
+use Rattle.std.specs.{Prelude.{option_map, String, string_bytes}, declared.alloc.Global.Global}
+use Rattle.ciborium.specs.{Encoding.{encoding, item_of}, Folded.folded, Given.{Outcome, gives, outcome, given_value}}
+use Rattle.ciborium.specs.{GivenParts.{has_key, given_map}, Item.Item, Labels.numbered, Lookups.tree_under}
+use Rattle.ciborium.specs.{Nesting.nesting, Order.tree_cmp, Spells.Spells, Tree.{Tree, TreePairs, Trees}}
 use Rattle.ciborium.specs.View.{pair_trees, tree_of}
-use Rattle.ciborium_value.specs.{declared.byte_buf.ByteBuf.ByteBuf, declared.tree.Value.Value}
-use Rattle.ciborium_uses.specs.{declared.envelopes.Envelope.Envelope, declared.envelopes.claims.Claims.Claims}
-use Rattle.ciborium_uses.specs.declared.envelopes.error.EnvelopeError.{EnvelopeError}
-use Rattle.ciborium_uses.specs.declared.envelopes.error.Part.{Part}
-use Rattle.ciborium_uses.specs.declared.envelopes.wrapping.OtherMessage.{OtherMessage}
-use Rattle.ciborium_uses.specs.declared.envelopes.wrapping.Wrapping.{Wrapping}
+use Rattle.ciborium_value.specs.declared.{byte_buf.ByteBuf.ByteBuf, tree.Value.Value}
+use Rattle.ciborium_uses.specs.declared.envelopes.{Envelope.Envelope, claims.Claims.Claims}
+use Rattle.ciborium_uses.specs.declared.envelopes.error.{EnvelopeError.EnvelopeError, Part.Part}
+use Rattle.ciborium_uses.specs.declared.envelopes.wrapping.{OtherMessage.OtherMessage, Wrapping.Wrapping}
 use Rattle.ciborium_uses.specs.declared.envelopes.wrapping.Wrapping.TheVariants.{Bare, Signed, Token}
 use Rattle.ciborium.specs.Item as item
 use Rattle.ciborium.specs.Tree as trees

@@ -1,11 +1,10 @@
 -- Settings by their topics: what counts of them, and what is saved (RFC 8949, section 4.2).
-use Rattle.std.specs.{Prelude.{◌≡◌, ℕ, Bool, List, Result, Ok, Err, map}, BTreeMap.BTreeMap}
+use Rattle.std.specs.{BTreeMap.BTreeMap, Prelude.{◌≡◌, ℕ, Bool, List, Result, Ok, Err, map}}
 use Rattle.std.specs.declared.io.Error.{Error as IoError}
 use Rattle.ciborium.specs.{LoadedAnswers.LoadsAll, Readings.Reading, Sinks.Named, declared.de.error.Error.Error}
 use Rattle.ciborium_value.specs.declared.key_order.KeyOrder.TheVariants.{LengthFirst}
-use Rattle.ciborium_uses.specs.declared.settings.error.SettingsError.{SettingsError}
-use Rattle.ciborium_uses.specs.declared.settings.error.SettingsError.TheVariants.{Load}
-use Rattle.ciborium_uses.specs.{declared.settings.setting.Setting.Setting, declared.settings.topic.Topic.Topic}
+use Rattle.ciborium_uses.specs.declared.settings.error.SettingsError.{SettingsError, TheVariants.Load}
+use Rattle.ciborium_uses.specs.declared.settings.{setting.Setting.Setting, topic.Topic.Topic}
 
 -- what counts of a setting: its fields
 abbrev pub setting_content : Setting → Bool × ℕ

@@ -2,8 +2,7 @@
 use Rattle.std.specs.Prelude.{List, [], ◌∷◌, Ok, codes, false, refl}
 use Rattle.ciborium.specs.{Item.{Item, text}, ReadsBack.{IsReadBack, Way}, VariantReadings.{Variant, given_enum}}
 use Rattle.ciborium.specs.{VariantReadings.unit_variant, lemmas.ReadsBackVariants.unit_variant_back}
-use Rattle.ciborium_uses.specs.{declared.settings.topic.Topic.Topic, declared.settings.topic.Topic.TheVariants.Network}
-use Rattle.ciborium_uses.specs.declared.settings.topic.Topic.TheVariants.{Screen, Sound}
+use Rattle.ciborium_uses.specs.declared.settings.topic.Topic.{Topic, TheVariants.{Network, Screen, Sound}}
 
 -- the item of a topic
 abbrev pub topic_item : Topic → Item

@@ -2,10 +2,9 @@
 use Rattle.std.specs.{Int.complement_if, Ordering.int_eq, Prelude.{ℕ, ◌^◌, ℤ, pos, negsuc, Bool, true, false, List}}
 use Rattle.std.specs.Prelude.{Option, Some, None, Ok, Err, nat_lt, bytes_eq, codes, if◌then◌else◌}
 use Rattle.ciborium_ll.specs.Item.{Item, unsigned, negative, bytes, text, tag}
-use Rattle.ciborium_value.specs.{Meaning.is_bignum_tag, Places.dictionary, Sinks.{Named, container_of, in_turn}}
-use Rattle.ciborium_value.specs.{Sinks.{named_text, number_item}, Given.{Given, mapped, given_integer, given_place}}
-use Rattle.ciborium_value.specs.{Given.given_skip, declared.labels.LabelKind.LabelKind}
-use Rattle.ciborium_value.specs.declared.labels.LabelKind.TheVariants.{Name, Number, Other}
+use Rattle.ciborium_value.specs.{Given.{Given, mapped, given_integer, given_place, given_skip}, Meaning.is_bignum_tag}
+use Rattle.ciborium_value.specs.{Places.dictionary, Sinks.{Named, container_of, in_turn, named_text, number_item}}
+use Rattle.ciborium_value.specs.declared.labels.LabelKind.{LabelKind, TheVariants.{Name, Number, Other}}
 use Prim.Native.String.{String}
 use Rattle.ciborium_value.specs.declared.kind.Kind.TheVariants as kinds
 

@@ -1,7 +1,6 @@
 -- What a tag ends as, after writes through what `as_tag_mut` lends.
-use Rattle.std.specs.{Prelude.ℕ, Borrow.{LendsBothIf, MutBor, Fml, u64}, Box.with_value, declared.option.Option.Option}
-use Rattle.ciborium_value.specs.{declared.tree.Value.{Value, out-Value}, declared.tree.Value.TheOpen.Value-F}
-use Rattle.ciborium_value.specs.contracts.tree.Value.{the_row}
+use Rattle.std.specs.{Borrow.{LendsBothIf, MutBor, Fml, u64}, Box.with_value, Prelude.ℕ, declared.option.Option.Option}
+use Rattle.ciborium_value.specs.{contracts.tree.Value.the_row, declared.tree.Value.{Value, out-Value, TheOpen.Value-F}}
 use Rattle.ciborium_value.specs.declared.tree.Value as value
 
 -- a tag with the number t and the content w in its box, and v for any other value

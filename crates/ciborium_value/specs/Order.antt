@@ -1,8 +1,7 @@
 -- The order of values: by variant, in the order of its declaration, and then by content. Texts and
 -- bytes are ordered bytewise, lists by their first parts that differ.
-use Rattle.std.specs.{Prelude.ℕ, declared.cmp.Ordering.Ordering, declared.cmp.Ordering.TheVariants.{Less, Equal}}
-use Rattle.std.specs.{declared.cmp.Ordering.TheVariants.Greater, Ordering.{nat_cmp, int_cmp, bool_cmp, ordering_then}}
-use Rattle.std.specs.Cmp.Lexicographic.{slice_cmp}
+use Rattle.std.specs.{Cmp.Lexicographic.slice_cmp, Ordering.{nat_cmp, int_cmp, bool_cmp, ordering_then}, Prelude.ℕ}
+use Rattle.std.specs.declared.cmp.Ordering.{Ordering, TheVariants.{Less, Equal, Greater}}
 use Rattle.ciborium_value.specs.Tree.{Tree, integer, bytes, text, boolean, null, tag, array, map, Trees, no_trees, tree}
 use Rattle.ciborium_value.specs.Tree.{TreePairs, no_tree_pairs, tree_pair}
 

@@ -1,10 +1,9 @@
 -- What `{}` prints of why an item or a value is refused.
 use Rattle.std.specs.Prelude.{ℕ, List, ◌++◌, codes, decimal}
 use Rattle.ciborium_ll.specs.HeadMessages.{memory_message, range_message}
-use Rattle.ciborium_value.specs.{declared.kind.Kind.Kind, declared.error.Error.Error}
-use Rattle.ciborium_value.specs.declared.error.Error.TheVariants.{Custom, Memory}
-use Rattle.ciborium_value.specs.declared.from_notation.error.NotationError.{NotationError}
-use Rattle.ciborium_value.specs.declared.from_notation.error.NotationFault.{NotationFault}
+use Rattle.ciborium_value.specs.declared.error.Error.{Error, TheVariants.{Custom, Memory}}
+use Rattle.ciborium_value.specs.declared.from_notation.error.{NotationError.NotationError, NotationFault.NotationFault}
+use Rattle.ciborium_value.specs.declared.kind.Kind.{Kind}
 use Rattle.ciborium_value.specs.declared.kind.Kind.TheVariants as kinds
 use Rattle.ciborium_value.specs.declared.from_notation.error.NotationError.TheVariants as wrong
 use Rattle.ciborium_value.specs.declared.from_notation.error.NotationFault.TheVariants as faults

@@ -2,11 +2,10 @@
 use Rattle.std.specs.{Option.{is_some, unwrap_or}, Prelude.{Bool, false, List, [], ◌∷◌, Option, Some, None, Result, Ok}}
 use Rattle.std.specs.Prelude.{Err, ◌&&◌, if◌then◌else◌}
 use Rattle.ciborium_ll.specs.Item.{Item}
-use Rattle.ciborium_value.specs.{Labels.{Label, is_label, given_label}, Readings.{Reading, option_of, spacious}}
-use Rattle.ciborium_value.specs.{Readings.unordered, Given.{Steps, Given, chosen, decided, give, mapped, refuse}}
-use Rattle.ciborium_value.specs.{Given.{given_skip, then_read}, GivenParts.{after_pairs, given_then}}
-use Rattle.ciborium_value.specs.{declared.kind.Kind.Kind, declared.wanted.FieldPlace.FieldPlace}
-use Rattle.ciborium_value.specs.declared.wanted.FieldPlace.TheVariants.{First, Behind}
+use Rattle.ciborium_value.specs.Given.{Steps, Given, chosen, decided, give, mapped, refuse, given_skip, then_read}
+use Rattle.ciborium_value.specs.{GivenParts.{after_pairs, given_then}, Labels.{Label, is_label, given_label}}
+use Rattle.ciborium_value.specs.{Readings.{Reading, option_of, spacious, unordered}, declared.kind.Kind.Kind}
+use Rattle.ciborium_value.specs.declared.wanted.FieldPlace.{FieldPlace, TheVariants.{First, Behind}}
 use Rattle.ciborium_value.specs.declared.kind.Kind.TheVariants as kinds
 
 -- ---- fields by their labels

@@ -1,6 +1,5 @@
 -- How many visits a comparison makes: each is one entry of the walk at one node of one tree.
-use Rattle.std.specs.{Prelude.{◌≡◌, ℕ, ◌+◌, ◌-◌, ◌^◌, ◌≤◌, min}, declared.cmp.Ordering.Ordering}
-use Rattle.std.specs.declared.cmp.Ordering.TheVariants.{Equal}
+use Rattle.std.specs.{Prelude.{◌≡◌, ℕ, ◌+◌, ◌-◌, ◌^◌, ◌≤◌, min}, declared.cmp.Ordering.{Ordering, TheVariants.Equal}}
 use Rattle.ciborium_value.specs.{Counts.node_count, Tree.Tree}
 
 -- a number, counted up to the greatest `u64`

@@ -1,8 +1,7 @@
 -- Equal contents are written alike.
-use Rattle.std.proofs.Common.{ap, ◌∙◌}
-use Rattle.std.specs.{Option.option_map, Prelude.{◌≡◌, List, [], ◌∷◌, map, pos, Option, Some, None, Ok, String}}
-use Rattle.std.specs.{Prelude.{string_bytes, refl}, declared.alloc.Global.Global}
-use Rattle.ciborium_value.specs.{Places.{dictionary, sequence}, Labels.Label, Sinks.{Named, container_of, in_turn}}
+use Rattle.std.{proofs.Common.{ap, ◌∙◌}, specs.{Option.option_map, Prelude.{◌≡◌, List, [], ◌∷◌, map, pos, Option}}}
+use Rattle.std.specs.{Prelude.{Some, None, Ok, String, string_bytes, refl}, declared.alloc.Global.Global}
+use Rattle.ciborium_value.specs.{Labels.Label, Places.{dictionary, sequence}, Sinks.{Named, container_of, in_turn}}
 use Rattle.ciborium_value.specs.Sinks.{named_text, number_item, or_null}
 
 -- values with one content name the same item, or are refused with the same kind

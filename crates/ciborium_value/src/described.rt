@@ -1,5 +1,6 @@
 //! Types that say once what they are, as data from which their laws follow.
 
+ghost use Rattle.std.proofs.Common.{lit<};
 ghost use Rattle.ciborium_value.specs.Described.{Description, IsDescribed, KeyDescription};
 ghost use Rattle.std.proofs.lemmas.Cmp.{nat_cmp_total};
 ghost use Rattle.std.specs.Char.{IsScalar};
@@ -18,10 +19,6 @@ ghost use Rattle.ciborium_value.specs.lemmas.Descriptions.{signed_description};
 ghost use Rattle.ciborium_value.specs.lemmas.Descriptions.{tuple1_description, tuple2_description};
 ghost use Rattle.ciborium_value.specs.lemmas.Descriptions.{tuple3_description, tuple4_description};
 ghost use Rattle.ciborium_value.specs.lemmas.Descriptions.{unsigned_description};
-ghost use Rattle.ciborium_value.specs.lemmas.ReadsBackNumbers.{i128_back, i16_back, i32_back};
-ghost use Rattle.ciborium_value.specs.lemmas.ReadsBackNumbers.{i64_back, i8_back, isize_back};
-ghost use Rattle.ciborium_value.specs.lemmas.ReadsBackNumbers.{u128_back, u16_back, u32_back};
-ghost use Rattle.ciborium_value.specs.lemmas.ReadsBackNumbers.{u64_back, u8_back, usize_back};
 ghost use Rattle.ciborium_value.specs.lemmas.MapDescriptions.{map_description, signed_key};
 ghost use Rattle.ciborium_value.specs.lemmas.MapDescriptions.{unsigned_key};
 ghost use Rattle.ciborium_value.specs.WrittenContents.{from_content, string-alike};
@@ -147,97 +144,97 @@ impl<A: Described, B: Described, C: Described, D: Described> Described for (A, B
 }
 
 impl Described for u8 {
-    ghost description = { unsigned_description 8 u8_back };
+    ghost description = { unsigned_description 8 (lit< tt) };
 }
 
 impl DescribedKey for u8 {
-    ghost key_description = { unsigned_key 8 u8_back };
+    ghost key_description = { unsigned_key 8 (lit< tt) };
 }
 
 impl Described for u16 {
-    ghost description = { unsigned_description 16 u16_back };
+    ghost description = { unsigned_description 16 (lit< tt) };
 }
 
 impl DescribedKey for u16 {
-    ghost key_description = { unsigned_key 16 u16_back };
+    ghost key_description = { unsigned_key 16 (lit< tt) };
 }
 
 impl Described for u32 {
-    ghost description = { unsigned_description 32 u32_back };
+    ghost description = { unsigned_description 32 (lit< tt) };
 }
 
 impl DescribedKey for u32 {
-    ghost key_description = { unsigned_key 32 u32_back };
+    ghost key_description = { unsigned_key 32 (lit< tt) };
 }
 
 impl Described for u64 {
-    ghost description = { unsigned_description 64 u64_back };
+    ghost description = { unsigned_description 64 (lit< tt) };
 }
 
 impl DescribedKey for u64 {
-    ghost key_description = { unsigned_key 64 u64_back };
+    ghost key_description = { unsigned_key 64 (lit< tt) };
 }
 
 impl Described for u128 {
-    ghost description = { unsigned_description 128 u128_back };
+    ghost description = { unsigned_description 128 (lit< tt) };
 }
 
 impl DescribedKey for u128 {
-    ghost key_description = { unsigned_key 128 u128_back };
+    ghost key_description = { unsigned_key 128 (lit< tt) };
 }
 
 impl Described for usize {
-    ghost description = { unsigned_description 64 usize_back };
+    ghost description = { unsigned_description 64 (lit< tt) };
 }
 
 impl DescribedKey for usize {
-    ghost key_description = { unsigned_key 64 usize_back };
+    ghost key_description = { unsigned_key 64 (lit< tt) };
 }
 
 impl Described for i8 {
-    ghost description = { signed_description 7 i8_back };
+    ghost description = { signed_description 7 (lit< tt) };
 }
 
 impl DescribedKey for i8 {
-    ghost key_description = { signed_key 7 i8_back };
+    ghost key_description = { signed_key 7 (lit< tt) };
 }
 
 impl Described for i16 {
-    ghost description = { signed_description 15 i16_back };
+    ghost description = { signed_description 15 (lit< tt) };
 }
 
 impl DescribedKey for i16 {
-    ghost key_description = { signed_key 15 i16_back };
+    ghost key_description = { signed_key 15 (lit< tt) };
 }
 
 impl Described for i32 {
-    ghost description = { signed_description 31 i32_back };
+    ghost description = { signed_description 31 (lit< tt) };
 }
 
 impl DescribedKey for i32 {
-    ghost key_description = { signed_key 31 i32_back };
+    ghost key_description = { signed_key 31 (lit< tt) };
 }
 
 impl Described for i64 {
-    ghost description = { signed_description 63 i64_back };
+    ghost description = { signed_description 63 (lit< tt) };
 }
 
 impl DescribedKey for i64 {
-    ghost key_description = { signed_key 63 i64_back };
+    ghost key_description = { signed_key 63 (lit< tt) };
 }
 
 impl Described for i128 {
-    ghost description = { signed_description 127 i128_back };
+    ghost description = { signed_description 127 (lit< tt) };
 }
 
 impl DescribedKey for i128 {
-    ghost key_description = { signed_key 127 i128_back };
+    ghost key_description = { signed_key 127 (lit< tt) };
 }
 
 impl Described for isize {
-    ghost description = { signed_description 63 isize_back };
+    ghost description = { signed_description 63 (lit< tt) };
 }
 
 impl DescribedKey for isize {
-    ghost key_description = { signed_key 63 isize_back };
+    ghost key_description = { signed_key 63 (lit< tt) };
 }

@@ -1,31 +1,30 @@
 -- Bytes that are read as the numbers of a sequence.
 use Rattle.std.proofs.Common.{◌≡◌, ◌≢◌, ℕ, ◌<◌, ◌≤◌, Bool, false, List, [], ◌∷◌, ◌++◌, Option, Some, None, Result}
 use Rattle.std.proofs.Common.{arith, Ok, Err, refl, sym, ap, ◌∙◌, subst, append_assoc, append-nil}
-use Rattle.ciborium_ll.specs.{declared.header.Header.Header, Item.Item, Header.SpellsHeader, Spells.Spells}
-use Rattle.ciborium_ll.specs.StringRefusal.{StringKind}
-use Rattle.ciborium_ll.proofs.UniqueSpelling.{one_at_front}
-use Rattle.ciborium.proofs.{Items.Weights.{entered-fewer, taken-fewer}, Items.BareHeads.{head-denied, nested-denied}}
-use Rattle.ciborium.proofs.Items.BareHeads.{other-denied, string-denied, string-read}
+use Rattle.ciborium_ll.{proofs.UniqueSpelling.one_at_front, specs.{Header.SpellsHeader, Item.Item, Spells.Spells}}
+use Rattle.ciborium_ll.specs.{StringRefusal.StringKind, declared.header.Header.Header}
 use Rattle.ciborium.proofs.Containers.EnteredContainers.{HasItems, IsEntered, array-entered, entered-kept, items-stand}
-use Rattle.ciborium.proofs.{Containers.EnteredContainers.within-is, Items.ItemHeads.{header_of, by-shape, no-bare-tag}}
-use Rattle.ciborium.proofs.{Containers.NextParts.{fits-past, none-past}, Items.SkippedTags.reads-whole}
-use Rattle.ciborium.proofs.{Items.SkippedTags.untagged-under, Items.TakenOnly.{IsKept, kept-reader, rest-end}}
-use Rattle.ciborium_value.specs.{Ahead.{Rest, Span, after, parts, past, inside, end_of}, Nesting.Limit, Places.sequence}
-use Rattle.ciborium_value.specs.Sources.{Fault, of_kind, IsFaultOf, TakesAhead, RefusesAhead, TakesItem, TakesTo}
-use Rattle.ciborium_value.specs.Sources.{GoesOn, Leaves, RefusesNext, OwesLess, OwesNothing, HasItem, TakesOneItem}
-use Rattle.ciborium_value.specs.{Sources.TakesOnly, lemmas.GivenOutcomes.and_take, Given.{Outcome, Steps, Given}}
-use Rattle.ciborium_value.specs.Given.{deeper, gives, outcome, refuses, take_each, nests, then_take, number_below}
-use Rattle.ciborium_value.specs.Given.{given_integer, given_byte, given_bytes, bare_bytes, untagged}
-use Rattle.ciborium_value.specs.declared.kind.Kind.{Kind}
-use Rattle.ciborium_value.proofs.Sources.Sequences.{fault_map, fault_outside, fault_then}
-use Rattle.ciborium.specs.{declared.de.byte_source.ByteSource.ByteSource, declared.de.byte_source.ByteSeq.ByteSeq}
-use Rattle.ciborium.specs.{declared.de.error.Error.Error, declared.de.error.Error.TheVariants.RecursionLimitExceeded}
-use Rattle.ciborium.specs.inner.ByteSources.{fault_at, AnswersItem, PassesItem, IsUnread, StandsBefore, SeqStands}
-use Rattle.ciborium.specs.inner.ByteSources.{SeqOwes, EntersItemsUnread, ReadsRest, RefusesRest, HasTaken}
-use Rattle.ciborium.specs.inner.ByteSources.{HasTakenSince, ReadsBareHead, bytes_weight, end_at, reader_of, weight_left}
-use Rattle.ciborium.specs.{inner.FrontItems.{Reads, Denies, DeniesItem}, inner.Skips.{under, AreSkipped, IsBare}}
-use Rattle.ciborium.specs.{inner.Skips.TakesBare, inner.StringContents.{DeniesContent, TakesContent, head_of}}
-use Rattle.ciborium.specs.{inner.StringContents.string_item, inner.Unread.{IsRest, FitsAhead}}
+use Rattle.ciborium.proofs.Containers.{EnteredContainers.within-is, NextParts.{fits-past, none-past}}
+use Rattle.ciborium.proofs.Items.BareHeads.{head-denied, nested-denied, other-denied, string-denied, string-read}
+use Rattle.ciborium.proofs.Items.{ItemHeads.{header_of, by-shape, no-bare-tag}, SkippedTags.reads-whole}
+use Rattle.ciborium.proofs.Items.{SkippedTags.untagged-under, TakenOnly.{IsKept, kept-reader, rest-end}}
+use Rattle.ciborium.{proofs.Items.Weights.{entered-fewer, taken-fewer}, specs.declared.de.byte_source.ByteSeq.ByteSeq}
+use Rattle.ciborium.specs.declared.de.{byte_source.ByteSource.ByteSource, error.Error.Error}
+use Rattle.ciborium.specs.{declared.de.error.Error.TheVariants.RecursionLimitExceeded, inner.ByteSources.fault_at}
+use Rattle.ciborium.specs.inner.ByteSources.{AnswersItem, PassesItem, IsUnread, StandsBefore, SeqStands, SeqOwes}
+use Rattle.ciborium.specs.inner.ByteSources.{EntersItemsUnread, ReadsRest, RefusesRest, HasTaken, HasTakenSince}
+use Rattle.ciborium.specs.inner.ByteSources.{ReadsBareHead, bytes_weight, end_at, reader_of, weight_left}
+use Rattle.ciborium.specs.inner.{FrontItems.{Reads, Denies, DeniesItem}, Skips.{under, AreSkipped, IsBare, TakesBare}}
+use Rattle.ciborium.specs.inner.{StringContents.{DeniesContent, TakesContent, head_of, string_item}, Unread.IsRest}
+use Rattle.ciborium.specs.inner.Unread.{FitsAhead}
+use Rattle.ciborium_value.{proofs.Sources.Sequences.{fault_map, fault_outside, fault_then}, specs.Ahead.{Rest, Span}}
+use Rattle.ciborium_value.specs.{Ahead.{after, parts, past, inside, end_of}, Given.{Outcome, Steps, Given, deeper}}
+use Rattle.ciborium_value.specs.Given.{gives, outcome, refuses, take_each, nests, then_take, number_below}
+use Rattle.ciborium_value.specs.{Given.{given_integer, given_byte, given_bytes, bare_bytes, untagged}, Nesting.Limit}
+use Rattle.ciborium_value.specs.{Places.sequence, Sources.{Fault, of_kind, IsFaultOf, TakesAhead, RefusesAhead}}
+use Rattle.ciborium_value.specs.Sources.{TakesItem, TakesTo, GoesOn, Leaves, RefusesNext, OwesLess, OwesNothing}
+use Rattle.ciborium_value.specs.{Sources.{HasItem, TakesOneItem, TakesOnly}, declared.kind.Kind.Kind}
+use Rattle.ciborium_value.specs.lemmas.GivenOutcomes.{and_take}
 use Rattle.ciborium_ll.specs.declared.header.Header.TheVariants as header
 use Rattle.ciborium_value.specs.declared.kind.Kind.TheVariants as kinds
 

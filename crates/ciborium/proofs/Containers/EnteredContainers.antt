@@ -2,25 +2,24 @@
 use Rattle.std.proofs.Common.{◌≡◌, Ok, ◌<◌, ◌+◌, ◌≢◌, ℕ, zero, suc, ◌-◌, Bool, true, false, List, [], ◌∷◌, ◌++◌, map}
 use Rattle.std.proofs.Common.{Option, Some, None, refl, sym, ap, ◌∙◌, subst, append_assoc, append-nil, arith}
 use Rattle.std.specs.Vec.Iter.{into_iter_items}
-use Rattle.ciborium_ll.specs.{declared.header.Header.Header, Head.{IsHead, break_byte}, Header.SpellsHeader, Item.Item}
-use Rattle.ciborium_ll.specs.Item.{Items, Pairs, unsigned, negative, bytes, text, array, tag, simple, float}
-use Rattle.ciborium_ll.specs.{Spells.Spells, StringRefusal.of_bytes as bytes_kind}
-use Rattle.ciborium_ll.proofs.UniqueSpelling.{one_at_front}
+use Rattle.ciborium_ll.{proofs.UniqueSpelling.one_at_front, specs.{Head.{IsHead, break_byte}, Header.SpellsHeader}}
+use Rattle.ciborium_ll.specs.Item.{Item, Items, Pairs, unsigned, negative, bytes, text, array, tag, simple, float}
+use Rattle.ciborium_ll.specs.{Spells.Spells, StringRefusal.of_bytes as bytes_kind, declared.header.Header.Header}
 use Rattle.ciborium_value.specs.Ahead.{Span, Rest, parts, after, item, inside, of_bytes, pairs, takes_level}
-use Rattle.ciborium_value.specs.{Nesting.Limit, Places.{is_open, sequence, dictionary}, Given.{Outcome, Steps, Given}}
-use Rattle.ciborium_value.specs.Given.{deeper, give, gives, nests, outcome, refuses, untagged, bare_pairs, bare_seq}
-use Rattle.ciborium_value.specs.Given.{given_pairs, given_seq, unpack, unpack_pairs, within_level}
-use Rattle.ciborium.specs.{declared.de.byte_source.ByteSource.ByteSource, declared.de.byte_source.ByteSeq.ByteSeq}
-use Rattle.ciborium.specs.{declared.de.byte_source.Left.Left, inner.ByteSources.{IsUnread, IsUnreadBy, StandsBefore}}
-use Rattle.ciborium.specs.inner.ByteSources.{SeqStands, HoldsItems, HoldsPairs, SeqOwes, LeftOwes, OwesParts}
-use Rattle.ciborium.specs.inner.ByteSources.{EntersItemsUnread, EntersPairsUnread, HasBytes, ReadsBareHead, bytes_left}
-use Rattle.ciborium.specs.{inner.ByteSources.{parts_left, weight_left, reader_of, seq_left}, inner.Skips.under}
-use Rattle.ciborium.specs.{inner.Skips.{AreSkipped, IsBare, TakesBare, EntersUnread}, inner.StringContents.TakesContent}
-use Rattle.ciborium.specs.inner.Unread.{AreSpelled, AreLeft, SpellsPair, IsRest, ending, span_of, HasCount}
+use Rattle.ciborium_value.specs.Given.{Outcome, Steps, Given, deeper, give, gives, nests, outcome, refuses, untagged}
+use Rattle.ciborium_value.specs.Given.{bare_pairs, bare_seq, given_pairs, given_seq, unpack, unpack_pairs, within_level}
+use Rattle.ciborium_value.specs.{Nesting.Limit, Places.{is_open, sequence, dictionary}}
 use Rattle.ciborium.proofs.Items.ItemHeads.{header_of, packed, packed-pairs, counted-front, open-front}
 use Rattle.ciborium.proofs.Items.ItemHeads.{counted-pairs-front, open-pairs-front, by-shape, no-bare-tag}
-use Rattle.ciborium.proofs.{Items.SkippedTags.untagged-under, Items.TakenOnly.{IsKept, kept-alone, kept-reader}}
-use Rattle.ciborium.proofs.Items.Weights.{entered-fewer}
+use Rattle.ciborium.proofs.Items.{SkippedTags.untagged-under, TakenOnly.{IsKept, kept-alone, kept-reader}}
+use Rattle.ciborium.{proofs.Items.Weights.entered-fewer, specs.declared.de.byte_source.ByteSeq.ByteSeq}
+use Rattle.ciborium.specs.{declared.de.byte_source.{ByteSource.ByteSource, Left.Left}, inner.ByteSources.IsUnread}
+use Rattle.ciborium.specs.inner.ByteSources.{IsUnreadBy, StandsBefore, SeqStands, HoldsItems, HoldsPairs, SeqOwes}
+use Rattle.ciborium.specs.inner.ByteSources.{LeftOwes, OwesParts, EntersItemsUnread, EntersPairsUnread, HasBytes}
+use Rattle.ciborium.specs.inner.ByteSources.{ReadsBareHead, bytes_left, parts_left, weight_left, reader_of, seq_left}
+use Rattle.ciborium.specs.inner.Skips.{under, AreSkipped, IsBare, TakesBare, EntersUnread}
+use Rattle.ciborium.specs.inner.{StringContents.TakesContent, Unread.{AreSpelled, AreLeft, SpellsPair, IsRest, ending}}
+use Rattle.ciborium.specs.inner.Unread.{span_of, HasCount}
 use Rattle.ciborium_ll.specs.declared.header.Header.TheVariants as header
 use Rattle.ciborium_ll.specs.Item as items
 use Rattle.ciborium_value.specs.declared.kind.Kind.TheVariants as kinds

@@ -1,18 +1,17 @@
 -- Keys of a map, which are read by the head with which they begin.
 use Rattle.std.proofs.Common.{◌≡◌, ◌≤◌, ◌+◌, ◌++◌, ◌∙◌, List, None, Option, Some, append_assoc, ap, false, length, refl}
 use Rattle.std.proofs.Common.{sym, subst, ℕ}
-use Rattle.ciborium_ll.specs.{declared.header.Header.Header, Header.SpellsHeader, Item.{Item, array, bytes, float}}
-use Rattle.ciborium_ll.specs.{Item.{negative, simple, tag, text, unsigned}, Spells.Spells, StringRefusal.of_text}
+use Rattle.ciborium_ll.specs.{Header.SpellsHeader, Item.{Item, array, bytes, float, negative, simple, tag, text}}
+use Rattle.ciborium_ll.specs.{Item.unsigned, Spells.Spells, StringRefusal.of_text, declared.header.Header.Header}
+use Rattle.ciborium_value.{proofs.Sources.Sequences.fault_map, specs.Given.{Given, gives, mapped, outcome}}
 use Rattle.ciborium_value.specs.{Labels.{Label, label_kind, label_place, name_place, placed}, Nesting.Limit}
-use Rattle.ciborium_value.specs.{Places.is_open, Sources.{Fault, IsFaultOf, TakesOnly}, Given.{Given, gives, mapped}}
-use Rattle.ciborium_value.specs.Given.{outcome}
-use Rattle.ciborium_value.proofs.Sources.Sequences.{fault_map}
-use Rattle.ciborium.specs.{declared.de.byte_source.ByteSource.ByteSource, inner.ByteSources.{CountsHead, HasTaken}}
-use Rattle.ciborium.specs.{inner.ByteSources.{IsUnread, end_at, head_label_kind}, inner.FrontItems.{Denies, DeniesHead}}
-use Rattle.ciborium.specs.{inner.FrontItems.{Reads, TakesHead}, inner.StringContents.{DeniesContent, TakesPlace}}
+use Rattle.ciborium_value.specs.{Places.is_open, Sources.{Fault, IsFaultOf, TakesOnly}}
 use Rattle.ciborium.proofs.{Containers.NextParts.aside-unread, Items.ItemHeads.{header_of, same-head}}
-use Rattle.ciborium.proofs.Items.SkippedTags.{bare-head, denies-item, denies-of-item, skips-none}
-use Rattle.ciborium.proofs.{Items.TakenOnly.same-end, Payloads.StringPayloads.denies-string}
+use Rattle.ciborium.proofs.Items.{SkippedTags.{bare-head, denies-item, denies-of-item, skips-none}, TakenOnly.same-end}
+use Rattle.ciborium.{proofs.Payloads.StringPayloads.denies-string, specs.declared.de.byte_source.ByteSource.ByteSource}
+use Rattle.ciborium.specs.inner.ByteSources.{CountsHead, HasTaken, IsUnread, end_at, head_label_kind}
+use Rattle.ciborium.specs.inner.{FrontItems.{Denies, DeniesHead, Reads, TakesHead}, StringContents.DeniesContent}
+use Rattle.ciborium.specs.inner.StringContents.{TakesPlace}
 use Rattle.ciborium_ll.specs.declared.header.Header.TheVariants as header
 use Rattle.ciborium_ll.specs.Item as items
 

@@ -1,21 +1,19 @@
 -- Names, and variants that are entered by theirs.
 use Rattle.std.proofs.Common.{◌≡◌, ◌≢◌, ℕ, Bool, false, List, [], ◌∷◌, ◌++◌, Option, Some, None, refl, sym, ap, ◌∙◌}
 use Rattle.std.proofs.Common.{subst, append_assoc, append-nil, arith, inl, length-append}
-use Rattle.std.proofs.lemmas.Str.{is_utf8-from_IsUtf8}
-use Rattle.std.specs.Str.{is_utf8, IsUtf8}
-use Rattle.ciborium_ll.specs.{declared.header.Header.Header, declared.decoder.Decoder.Decoder, Header.SpellsHeader}
+use Rattle.std.{proofs.lemmas.Str.is_utf8-from_IsUtf8, specs.Str.{is_utf8, IsUtf8}}
+use Rattle.ciborium_ll.{proofs.{OneHeader.one_header_at_front, UniqueSpelling.one_at_front}, specs.Header.SpellsHeader}
 use Rattle.ciborium_ll.specs.Item.{Item, unsigned, negative, bytes, text, array, tag, simple, float, Pairs, no_pairs}
 use Rattle.ciborium_ll.specs.{Item.{pair, pairs_count}, Spells.Spells, StringRefusal.of_bytes}
-use Rattle.ciborium_ll.proofs.{UniqueSpelling.one_at_front, OneHeader.one_header_at_front}
-use Rattle.ciborium_value.specs.{Nesting.Limit, Sources.{Fault, IsFaultOf, of_kind}, Given.{gives, refuses, nests}}
-use Rattle.ciborium_value.specs.Given.{deeper, untagged, outcome_map, given_name, bare_name, given_variant}
-use Rattle.ciborium_value.specs.{Given.{bare_variant, outcome, settled}, Places.is_open}
-use Rattle.ciborium_value.proofs.{Sources.Sequences.fault_map, Sources.TreeLevels.utf8_not}
-use Rattle.ciborium.specs.{inner.ByteSources.IsUnreadBy, inner.FrontItems.{Reads, Denies}, inner.Skips.under}
-use Rattle.ciborium.specs.inner.Skips.{AreSkipped, IsBare, TakesBare, EntersLevelUnread}
-use Rattle.ciborium.specs.inner.StringContents.{TakesContent}
+use Rattle.ciborium_ll.specs.declared.{decoder.Decoder.Decoder, header.Header.Header}
+use Rattle.ciborium_value.{proofs.Sources.{Sequences.fault_map, TreeLevels.utf8_not}, specs.Given.{gives, refuses}}
+use Rattle.ciborium_value.specs.Given.{nests, deeper, untagged, outcome_map, given_name, bare_name, given_variant}
+use Rattle.ciborium_value.specs.{Given.{bare_variant, outcome, settled}, Nesting.Limit, Places.is_open, Sources.Fault}
+use Rattle.ciborium_value.specs.Sources.{IsFaultOf, of_kind}
 use Rattle.ciborium.proofs.{Containers.EnteredContainers.within-is, Items.ItemHeads.{header_of, same-head, by-shape}}
-use Rattle.ciborium.proofs.{Items.ItemHeads.{no-bare-tag, size_of}, Items.SkippedTags.untagged-under}
+use Rattle.ciborium.proofs.Items.{ItemHeads.{no-bare-tag, size_of}, SkippedTags.untagged-under}
+use Rattle.ciborium.specs.inner.{ByteSources.IsUnreadBy, FrontItems.{Reads, Denies}, Skips.{under, AreSkipped, IsBare}}
+use Rattle.ciborium.specs.inner.{Skips.{TakesBare, EntersLevelUnread}, StringContents.TakesContent}
 use Rattle.ciborium_ll.specs.declared.header.Header.TheVariants as header
 use Rattle.ciborium_ll.specs.Item as items
 use Rattle.ciborium_value.specs.declared.kind.Kind.TheVariants as kinds

@@ -1,22 +1,20 @@
 -- The next part of a container that is read, or its end.
 use Rattle.std.proofs.Common.{◌≡◌, ◌≤◌, ◌≢◌, ℕ, suc, ◌+◌, ◌-◌, ◌<◌, Bool, false, is_some, List, [], ◌∷◌, ◌++◌, length}
 use Rattle.std.proofs.Common.{map, Option, Some, None, refl, sym, ap, ◌∙◌, subst, append_assoc, append-nil, arith, inl}
-use Rattle.std.proofs.Common.{inr, ◌⊎◌, length-append}
-use Rattle.std.specs.Vec.Iter.{into_iter_items}
-use Rattle.ciborium_ll.specs.{declared.header.Header.Header, Head.{IsHead, break_byte, head_in, eight_bytes}}
-use Rattle.ciborium_ll.specs.{Header.{SpellsHeader, announced_length}, Item.{Item, unsigned}, Spells.Spells}
-use Rattle.ciborium_ll.specs.Decoding.{left_of}
-use Rattle.ciborium_ll.proofs.{OneHeader.one_header_at_front, UniqueSpelling.one_at_front}
+use Rattle.std.{proofs.Common.{inr, ◌⊎◌, length-append}, specs.Vec.Iter.into_iter_items}
+use Rattle.ciborium_ll.{proofs.{OneHeader.one_header_at_front, UniqueSpelling.one_at_front}, specs.Decoding.left_of}
+use Rattle.ciborium_ll.specs.{Head.{IsHead, break_byte, head_in, eight_bytes}, Header.{SpellsHeader, announced_length}}
+use Rattle.ciborium_ll.specs.{Item.{Item, unsigned}, Spells.Spells, declared.header.Header.Header}
 use Rattle.ciborium_value.specs.Ahead.{Span, Rest, bottom, parts, pairs, entry, level_due, item, past, inside, end_of}
 use Rattle.ciborium_value.specs.{Nesting.Limit, Places.{Shape, sequence, dictionary}, Sources.{Fault, HasItem, HasPart}}
 use Rattle.ciborium_value.specs.Sources.{GoesOn, Leaves, RefusesNext, OwesLess, OwesNothing}
-use Rattle.ciborium.specs.{declared.de.byte_source.ByteSource.ByteSource, declared.de.byte_source.ByteSeq.ByteSeq}
+use Rattle.ciborium.proofs.Items.ItemHeads.{header_of, first-head, first-payload, same-head, no-break-head}
+use Rattle.ciborium.proofs.Items.TakenOnly.{IsKept, kept-reader, rest-end}
+use Rattle.ciborium.specs.declared.de.byte_source.{ByteSeq.ByteSeq, ByteSource.ByteSource}
 use Rattle.ciborium.specs.inner.ByteSources.{IsHeadCounted, IsUnread, IsUnreadBy, StandsBefore, SeqStands}
 use Rattle.ciborium.specs.inner.ByteSources.{HasNoneBehind, HoldsItems, HoldsPairs, HoldsParts, SeqOwes, LeftOwes}
-use Rattle.ciborium.specs.{inner.ByteSources.{OwesParts, end_at, reader_of}, inner.FrontItems.{TakesHead, DeniesHead}}
+use Rattle.ciborium.specs.inner.{ByteSources.{OwesParts, end_at, reader_of}, FrontItems.{TakesHead, DeniesHead}}
 use Rattle.ciborium.specs.inner.Unread.{AreSpelled, AreLeft, SpellsPair, FitsAhead, IsRest, ending, span_of, HasCount}
-use Rattle.ciborium.proofs.{Items.TakenOnly.{IsKept, kept-reader, rest-end}, Items.ItemHeads.{header_of, first-head}}
-use Rattle.ciborium.proofs.Items.ItemHeads.{first-payload, same-head, no-break-head}
 use Rattle.ciborium_ll.specs.declared.header.Header.TheVariants as header
 use Rattle.ciborium.specs.declared.de.byte_source.Left.TheVariants as left
 

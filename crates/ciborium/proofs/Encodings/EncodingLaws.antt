@@ -1,19 +1,18 @@
 -- The encoding of a tree is its own alone, and the shortest spelling.
 use Rattle.std.proofs.Common.{◌≡◌, ℕ, ◌<◌, ◌⊎◌, inl, inr, List, [], ◌++◌, length, true, false, pos, negsuc, IsUtf8}
 use Rattle.std.proofs.Common.{refl, sym, ap, ◌∙◌, subst, arith, length-append, append-nil, nat_cmp}
-use Rattle.std.proofs.{lemmas.Cmp.{tied_itself, nat_cmp_total}, lemmas.Bool.Decides.nat_tests, Math.Nat.eq-or-lt_of_le}
+use Rattle.std.proofs.{Math.Nat.eq-or-lt_of_le, lemmas.{Bool.Decides.nat_tests, Cmp.{tied_itself, nat_cmp_total}}}
 use Rattle.std.specs.{Cmp.Lexicographic.slice_cmp, Ordering.ordering_then}
-use Rattle.ciborium_ll.specs.{Bytes.AreBytes, Head.{IsHead, shortest_head, IsSimple, simple_bytes}, Item.items_count}
-use Rattle.ciborium_ll.specs.{Item.pairs_count, Spells.{IsDefiniteString, IsContainer, Spells, SpellsItems}}
-use Rattle.ciborium_ll.specs.Spells.{SpellsPairs}
-use Rattle.ciborium_ll.proofs.{ShortestHead.{none_is_shorter, no_other_is_as_short}, UniqueSpelling.one_item}
-use Rattle.ciborium_ll.proofs.HeadOrder.{then_equal}
+use Rattle.ciborium_ll.proofs.{HeadOrder.then_equal, ShortestHead.{none_is_shorter, no_other_is_as_short}}
+use Rattle.ciborium_ll.{proofs.UniqueSpelling.one_item, specs.{Bytes.AreBytes, Head.{IsHead, shortest_head, IsSimple}}}
+use Rattle.ciborium_ll.specs.{Head.simple_bytes, Item.{items_count, pairs_count}, Spells.IsDefiniteString}
+use Rattle.ciborium_ll.specs.Spells.{IsContainer, Spells, SpellsItems, SpellsPairs}
+use Rattle.ciborium_value.proofs.Orders.{HeadsInOrder.heads_decide, TreeEncodings.encoding-spells}
 use Rattle.ciborium_value.specs.Encoding.{item_of, items_of, pairs_of, encoding, items_bytes, pairs_bytes, written_tree}
-use Rattle.ciborium_value.specs.{lemmas.ItemsOfTrees.tree_is_written_as_itself, Tree.{Tree, integer, bytes, text}}
-use Rattle.ciborium_value.specs.Tree.{boolean, null, tag, array, map, Trees, no_trees, tree, TreePairs, no_tree_pairs}
-use Rattle.ciborium_value.specs.Tree.{tree_pair}
+use Rattle.ciborium_value.specs.Tree.{Tree, integer, bytes, text, boolean, null, tag, array, map, Trees, no_trees, tree}
+use Rattle.ciborium_value.specs.Tree.{TreePairs, no_tree_pairs, tree_pair}
+use Rattle.ciborium_value.specs.lemmas.ItemsOfTrees.{tree_is_written_as_itself}
 use Rattle.ciborium.specs.laws.EncodingLaws.{OneTree, EncodingSpells, OthersAreLonger, HeadsRise}
-use Rattle.ciborium_value.proofs.{Orders.HeadsInOrder.heads_decide, Orders.TreeEncodings.encoding-spells}
 
 pub encoding_spells : EncodingSpells
 encoding_spells = encoding-spells

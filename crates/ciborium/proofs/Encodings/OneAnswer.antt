@@ -1,13 +1,12 @@
 -- Known bytes and a limit leave one answer.
 use Rattle.std.proofs.Common.{◌≡◌, ℕ, ◌⊎◌, List, [], ◌∷◌, Option, Some, None, option_map, Ok, Err, sym, ap, ◌∙◌, inl}
-use Rattle.std.proofs.Common.{inr, refl}
-use Rattle.std.specs.declared.io.Error.{Error as IoError}
+use Rattle.std.{proofs.Common.{inr, refl}, specs.declared.io.Error.Error as IoError}
 use Rattle.ciborium_ll.specs.Refusal.{Refusal}
-use Rattle.ciborium_value.specs.{Refuses.Refuses, Spelling.any, View.tree_of}
-use Rattle.ciborium_value.proofs.GoodItems.Outcome.{never_both, one_reading, one_refusal}
-use Rattle.ciborium.specs.{declared.de.error.Error.Error, laws.AnswerLaws.{refusal_of, OneAnswer}}
-use Rattle.ciborium.specs.ValueAnswers.{IsFailed, IsRefusedBy, IsNamed, refusal_kind_of}
-use Rattle.ciborium.proofs.Readers.Outcomes.{only-fails}
+use Rattle.ciborium_value.{proofs.GoodItems.Outcome.{never_both, one_reading, one_refusal}, specs.Refuses.Refuses}
+use Rattle.ciborium_value.specs.{Spelling.any, View.tree_of}
+use Rattle.ciborium.{proofs.Readers.Outcomes.only-fails, specs.ValueAnswers.{IsFailed, IsRefusedBy, IsNamed}}
+use Rattle.ciborium.specs.{ValueAnswers.refusal_kind_of, declared.de.error.Error.Error, laws.AnswerLaws.refusal_of}
+use Rattle.ciborium.specs.laws.AnswerLaws.{OneAnswer}
 use Rattle.ciborium_ll.specs.Refusal as refusal
 use Rattle.ciborium.specs.declared.de.error.Error.TheVariants as errors
 

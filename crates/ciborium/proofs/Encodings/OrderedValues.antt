@@ -1,15 +1,13 @@
 -- Of values that a program holds, the order of ordered values is that of their encodings.
 use Rattle.std.proofs.{Common.{◌≡◌, refl, sym, ap, ◌∙◌, Ordering, Equal, nat_cmp}, lemmas.Cmp.tied_itself}
 use Rattle.std.specs.{Cmp.Lexicographic.slice_cmp, Ordering.ordering_then}
-use Rattle.ciborium_value.specs.{Canonical.key_order, OrderedValues.ordered_value_cmp, Derived.value_cmp}
-use Rattle.ciborium_value.specs.{Encoding.{encoding, encoded_size}, ProperTrees.IsProperTree, Tree.Tree, View.tree_of}
-use Rattle.ciborium_value.specs.declared.key_order.KeyOrder.{KeyOrder}
-use Rattle.ciborium_value.specs.declared.key_order.KeyOrder.TheVariants.{LengthFirst, Bytewise}
+use Rattle.ciborium_value.proofs.Orders.{OrderedTrees.tied_where_equal, TotalOrders.key_order_total}
+use Rattle.ciborium_value.{proofs.Orders.TreeEncodings.tied_encodings, specs.{Canonical.key_order, Derived.value_cmp}}
+use Rattle.ciborium_value.specs.{Encoding.{encoding, encoded_size}, OrderedValues.ordered_value_cmp}
+use Rattle.ciborium_value.specs.{ProperTrees.IsProperTree, Tree.Tree, View.tree_of}
+use Rattle.ciborium_value.specs.declared.key_order.KeyOrder.{KeyOrder, TheVariants.{LengthFirst, Bytewise}}
 use Rattle.ciborium_value.specs.{declared.tree.Value.Value, lemmas.DerivedOrder.value_cmp-is}
-use Rattle.ciborium_value.proofs.{Orders.OrderedTrees.tied_where_equal, Orders.TotalOrders.key_order_total}
-use Rattle.ciborium_value.proofs.Orders.TreeEncodings.{tied_encodings}
-use Rattle.ciborium.specs.laws.OrdersOfValues.{IsOrderOfTrees, TiesEqualOnes}
-use Rattle.ciborium.proofs.Encodings.EncodingLaws.{one_tree}
+use Rattle.ciborium.{proofs.Encodings.EncodingLaws.one_tree, specs.laws.OrdersOfValues.{IsOrderOfTrees, TiesEqualOnes}}
 
 -- a first order whose ties are those of the second decides
 first_decides : (o p : Ordering) → (o ≡ Equal → p ≡ Equal) → o ≡ ordering_then o p

@@ -1,21 +1,21 @@
 -- What stands at the front of unread bytes, where a head is read or refused.
+use Rattle.ciborium.{proofs.Items.Weights.weight-bounds, specs.Errors.{HasEndedBy, fault_of, from_ll, io_fault}}
+use Rattle.ciborium.specs.declared.de.{byte_source.ByteSource.ByteSource, error.Error.Error}
+use Rattle.ciborium.specs.inner.ByteSources.{IsHeadCounted, IsUnreadBy, bytes_weight, pending_head_weight, head_weight}
+use Rattle.ciborium.specs.inner.ByteSources.{weight_left}
 use Rattle.std.proofs.Common.{◌≡◌, ℕ, suc, ◌+◌, ◌-◌, ◌*◌, add-zero, Ok, ◌/◌, ◌%◌, ◌<◌, ◌≤◌, cond, ltb, Bool, true}
 use Rattle.std.proofs.Common.{false, ◌&&◌, List, [], ◌∷◌, ◌++◌, length, Option, Some, None, refl, sym, ap, ◌∙◌, subst}
 use Rattle.std.proofs.Common.{arith, ne_eqb, ◌⊎◌, inl, inr, length-append, ltb-true, ltb-false, le-ltb, Err}
 use Rattle.std.proofs.lemmas.Nat.{div-mul-add, mod-mul-add}
-use Rattle.ciborium_ll.specs.{declared.header.Header.Header, declared.header.Error.Error as LlError}
-use Rattle.ciborium_ll.specs.{declared.decoder.Decoder.Decoder, Accesses.{HasEnded, IsUsedUp, left_at_failure}}
-use Rattle.ciborium_ll.specs.{Bytes.greatest_offset, Decoding.{IsAhead, IsAheadBy, PullsTo, Takes, left_of}}
-use Rattle.ciborium_ll.specs.{Head.initial_byte, Header.{SpellsHeader, announced_length}, ReaderSteps.IsFillTaken}
-use Rattle.ciborium_ll.specs.{ReaderSteps.IsHeadTaken, Refusal.{Refusal, io, syntax, too_long, argument_length}}
-use Rattle.ciborium_ll.specs.Refusal.{payload_length, is_reserved, is_low_simple, initial_refusal, HeadRefuses}
-use Rattle.ciborium_ll.specs.Refusal.{IsUsable, head_refusal}
 use Rattle.ciborium_ll.proofs.HeadAnswers.{header-begins, header-fits, Begins, Facts, head-some}
 use Rattle.ciborium_ll.proofs.{MoreBytes.payload_length-more, OneHeader.one_header_at_front, UsableHeads.and_false}
+use Rattle.ciborium_ll.specs.{Accesses.{HasEnded, IsUsedUp, left_at_failure}, Bytes.greatest_offset, Decoding.IsAhead}
+use Rattle.ciborium_ll.specs.{Decoding.{IsAheadBy, PullsTo, Takes, left_of}, Head.initial_byte, Header.SpellsHeader}
+use Rattle.ciborium_ll.specs.{Header.announced_length, ReaderSteps.{IsFillTaken, IsHeadTaken}, Refusal.{Refusal, io}}
+use Rattle.ciborium_ll.specs.Refusal.{syntax, too_long, argument_length, payload_length, is_reserved, is_low_simple}
+use Rattle.ciborium_ll.specs.Refusal.{initial_refusal, HeadRefuses, IsUsable, head_refusal}
+use Rattle.ciborium_ll.specs.declared.{decoder.Decoder.Decoder, header.{Error.Error as LlError, Header.Header}}
 use Rattle.ciborium_value.specs.Sources.{IsGrantedFault, IsOutsideFault}
-use Rattle.ciborium.specs.{declared.de.byte_source.ByteSource.ByteSource, declared.de.error.Error.Error}
-use Rattle.ciborium.specs.{Errors.{HasEndedBy, fault_of, from_ll, io_fault}, inner.ByteSources.IsHeadCounted}
-use Rattle.ciborium.specs.inner.ByteSources.{IsUnreadBy, bytes_weight, pending_head_weight, head_weight, weight_left}
 use Rattle.ciborium_ll.specs.declared.header.Header.TheVariants as header
 use Rattle.ciborium_ll.specs.declared.header.Error.TheVariants as ll
 use Rattle.ciborium_ll.specs.ReaderSteps as reading
@@ -201,25 +201,13 @@ counted-pulled E left d h p at last b x y is (z, r, hd', usable, e', stood, coun
 
 -- ---- how much can still be read
 
-weight-most : (h : Header) → head_weight h ≤ 2
-weight-most (header.Positive n) = omega arith
-weight-most (header.Negative n) = omega arith
-weight-most (header.Bytes n) = omega arith
-weight-most (header.Text n) = omega arith
-weight-most (header.Array n) = omega arith
-weight-most (header.Map n) = omega arith
-weight-most (header.Tag n) = omega arith
-weight-most (header.Simple n) = omega arith
-weight-most (header.Float n) = omega arith
-weight-most header.Break = omega arith
-
 pub fewer-bytes : (E : Type 0) {S W : Type 0} (remaining : S → Option (List ℕ)) (d e : Decoder S W) (h : Header) →
     Takes remaining d e (λ x. IsHeadTaken {E = E} x d.counter.count (Ok h)) →
     3 * (greatest_offset - e.counter.count) + head_weight h ≤ 3 * (greatest_offset - d.counter.count)
 fewer-bytes E remaining d e h (b, t, count, u, bytes) =
     let some = head-some b h u.answers.0 in
     let fits = header-fits {E = E} b d.counter.count h u in
-    let w = weight-most h in
+    let w = (weight-bounds h).1 in
     omega (arith, some, fits, count, w)
 
 pub weighs-none : {S W : Type 0} (s : ByteSource S W) → s.pending ≡ None → weight_left s ≡ bytes_weight s

@@ -1,13 +1,12 @@
 -- The head with which an item begins, and what stands behind it.
 use Rattle.std.proofs.Common.{◌≡◌, ℕ, suc, Bool, true, false, List, [], ◌∷◌, ◌++◌, length, Option, Some, None, refl}
 use Rattle.std.proofs.Common.{sym, ap, ◌∙◌, subst, append_assoc, append-nil, ◌≤◌, arith}
-use Rattle.ciborium_ll.specs.{declared.header.Header.Header, Head.{open_byte, break_byte}, Header.SpellsHeader}
+use Rattle.ciborium_ll.{proofs.OneHeader.one_header_at_front, specs.{Head.{open_byte, break_byte}, Header.SpellsHeader}}
 use Rattle.ciborium_ll.specs.{Header.announced_length, Item.{Item, Items, Pairs, unsigned, negative, bytes, text}}
 use Rattle.ciborium_ll.specs.{Item.{array, tag, simple, float, items_count, pairs_count}, Spells.{Spells, SpellsItems}}
-use Rattle.ciborium_ll.specs.Spells.{SpellsPairs}
-use Rattle.ciborium_ll.proofs.OneHeader.{one_header_at_front}
+use Rattle.ciborium_ll.specs.{Spells.SpellsPairs, declared.header.Header.Header}
 use Rattle.ciborium_value.specs.Given.{unpack, unpack_pairs}
-use Rattle.ciborium.specs.{inner.Skips.IsBare, inner.Unread.{AreSpelled, SpellsPair}}
+use Rattle.ciborium.specs.inner.{Skips.IsBare, Unread.{AreSpelled, SpellsPair}}
 use Rattle.ciborium_ll.specs.declared.header.Header.TheVariants as header
 use Rattle.ciborium_ll.specs.Item as items
 

@@ -2,16 +2,15 @@
 use Rattle.std.proofs.Common.{◌≡◌, ℕ, suc, ◌≤◌, max, List, [], ◌∷◌, ◌++◌, length, Option, Some, None, Bool, true, false}
 use Rattle.std.proofs.{Common.{refl, sym, ap, subst, arith, cond, leb, option_map, append_assoc}, lemmas.Bool.le-leb}
 use Rattle.std.proofs.lemmas.Bool.{leb-true}
-use Rattle.ciborium_ll.specs.{declared.header.Header.Header, declared.levels.Level.Level}
-use Rattle.ciborium_ll.specs.{declared.levels.Level.TheVariants.Items, Header.{SpellsHeader, announced_length}}
-use Rattle.ciborium_ll.specs.{Head.IsHead, Item.{Item, bytes, array, tag}, Levels.{IsPayloadOf, behind_head}}
-use Rattle.ciborium_ll.specs.Levels.{behind_item}
 use Rattle.ciborium_ll.proofs.{LevelFronts.{behind-open, behind-to}, LevelHeads.{TakesLevel, to-behind}}
-use Rattle.ciborium_ll.proofs.LevelsTo.{Standing, IsFlat, around, done, item-to}
-use Rattle.ciborium_value.specs.{lemmas.ReadsBackParts.{within-left, within-right}, Meaning.folding_bytes}
+use Rattle.ciborium_ll.{proofs.LevelsTo.{Standing, IsFlat, around, done, item-to}, specs.Head.IsHead}
+use Rattle.ciborium_ll.specs.{Header.{SpellsHeader, announced_length}, Item.{Item, bytes, array, tag}}
+use Rattle.ciborium_ll.specs.{Levels.{IsPayloadOf, behind_head, behind_item}, declared.header.Header.Header}
+use Rattle.ciborium_ll.specs.declared.levels.Level.{Level, TheVariants.Items}
+use Rattle.ciborium_value.{proofs.GoodItems.Parts.{within-max, within-zero}, specs.Meaning.folding_bytes}
 use Rattle.ciborium_value.specs.{Meaning.{short_string, is_bignum_tag}, Nesting.{Limit, IsWithin, nesting}}
-use Rattle.ciborium_value.specs.Nesting.{items_nesting, pairs_nesting, tag_nesting}
-use Rattle.ciborium_value.proofs.GoodItems.Parts.{within-max, within-zero}
+use Rattle.ciborium_value.specs.{Nesting.{items_nesting, pairs_nesting, tag_nesting}, lemmas.ReadsBackParts.within-left}
+use Rattle.ciborium_value.specs.lemmas.ReadsBackParts.{within-right}
 use Rattle.ciborium.specs.inner.PassedOver.{left_inside, takes_one, LevelsTo, HasRoom}
 use Rattle.ciborium_ll.specs.declared.header.Header.TheVariants as heads
 use Rattle.ciborium_ll.specs.Item as items

@@ -1,21 +1,19 @@
 -- An item that is passed over head by head: what is said of each, and then of the item.
 use Rattle.std.proofs.Common.{◌≡◌, ℕ, suc, ◌+◌, ◌≤◌, ◌<◌, Bool, true, false, List, [], ◌∷◌, ◌++◌, length, length-append}
 use Rattle.std.proofs.Common.{Option, Some, None, refl, sym, ap, ◌∙◌, subst, arith, ltb, ltb-true, ltb-false}
-use Rattle.ciborium_ll.specs.{declared.header.Header.Header, declared.levels.Level.Level}
-use Rattle.ciborium_ll.specs.{declared.levels.Level.TheVariants.Items, declared.levels.Step.Step, Header.SpellsHeader}
-use Rattle.ciborium_ll.specs.{Item.Item, Levels.{IsPayloadOf, behind_head, behind_item, incomplete, levels_by, opened}}
-use Rattle.ciborium_ll.specs.Spells.{Spells}
 use Rattle.ciborium_ll.proofs.{LevelFronts.{AreOpen, are-open, behind-to, front, misplaced}, LevelHeads.opened-inner}
 use Rattle.ciborium_ll.proofs.LevelsTo.{around, behind-around, done, from-incomplete, longer, not-done, start, started}
-use Rattle.ciborium_ll.proofs.{LevelsTo.to-incomplete, OneHeader.one_header_at_front}
-use Rattle.ciborium_value.specs.{Nesting.nesting, Sources.{Fault, IsFaultOf, IsOutsideFault, of_kind, of_nesting}}
-use Rattle.ciborium_value.specs.Given.{gives, nests, outcome, given_skip}
-use Rattle.ciborium_value.proofs.Sources.SkippedItems.{skip-gives, skip-nests}
-use Rattle.ciborium.specs.{inner.FrontItems.DeniesHead, inner.PassedOver.{LevelsTo, HasRoom, PassesHeads, IsLevelFault}}
-use Rattle.ciborium.specs.inner.PassedOver.{DeniesLevels, limit_if, takes_one, IsBignumBehind, TakesBignum}
-use Rattle.ciborium.specs.inner.PassedOver.{DeniesBignum, TakesPayload, DeniesPayload}
-use Rattle.ciborium.proofs.Items.PassedItems.{announced, folded, to-folded, to-within, within}
-use Rattle.ciborium.proofs.Items.PassedRoom.{no-room, no-room-tag}
+use Rattle.ciborium_ll.{proofs.{LevelsTo.to-incomplete, OneHeader.one_header_at_front}, specs.Header.SpellsHeader}
+use Rattle.ciborium_ll.specs.{Item.Item, Levels.{IsPayloadOf, behind_head, behind_item, incomplete, levels_by, opened}}
+use Rattle.ciborium_ll.specs.{Spells.Spells, declared.{header.Header.Header, levels.Level.{Level, TheVariants.Items}}}
+use Rattle.ciborium_ll.specs.declared.levels.Step.{Step}
+use Rattle.ciborium_value.{proofs.Sources.SkippedItems.{skip-gives, skip-nests}, specs.Given.{gives, nests, outcome}}
+use Rattle.ciborium_value.specs.{Given.given_skip, Nesting.nesting, Sources.{Fault, IsFaultOf, IsOutsideFault, of_kind}}
+use Rattle.ciborium_value.specs.Sources.{of_nesting}
+use Rattle.ciborium.proofs.Items.{PassedItems.{announced, folded, to-folded, to-within, within}, PassedRoom.no-room}
+use Rattle.ciborium.{proofs.Items.PassedRoom.no-room-tag, specs.inner.{FrontItems.DeniesHead, PassedOver.LevelsTo}}
+use Rattle.ciborium.specs.inner.PassedOver.{HasRoom, PassesHeads, IsLevelFault, DeniesLevels, limit_if, takes_one}
+use Rattle.ciborium.specs.inner.PassedOver.{IsBignumBehind, TakesBignum, DeniesBignum, TakesPayload, DeniesPayload}
 use Rattle.ciborium_ll.specs.declared.header.Header.TheVariants as heads
 use Rattle.ciborium_ll.specs.declared.levels.Step.TheVariants as step
 

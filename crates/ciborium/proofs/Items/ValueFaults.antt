@@ -3,30 +3,29 @@ use Rattle.std.proofs.Common.{◌≡◌, ◌⊎◌, ℕ, ◌+◌, ◌*◌, ◌^�
 use Rattle.std.proofs.Common.{[], ◌∷◌, ◌++◌, length, Option, Some, None, refl, sym, ap, ◌∙◌, subst, append_assoc}
 use Rattle.std.proofs.Common.{append-nil, length-append, arith, inl, inr, ltb-true, ltb-false, option_and_then, suc}
 use Rattle.std.proofs.Common.{zero}
-use Rattle.ciborium_ll.specs.{declared.header.Header.Header, Bytes.greatest_offset, Head.{IsHead, within, one_byte}}
-use Rattle.ciborium_ll.specs.{Head.{two_bytes, four_bytes, eight_bytes, open_byte, break_byte}, Header.SpellsHeader}
-use Rattle.ciborium_ll.specs.Item.{Item, Items, Pairs, no_items, item, no_pairs, pair, unsigned, negative, bytes, text}
-use Rattle.ciborium_ll.specs.{Item.{array, tag, simple, float, items_count, pairs_count}, Refusal.{Refusal, io, syntax}}
-use Rattle.ciborium_ll.specs.Refusal.{too_long, semantic, recursion_limit_exceeded, HeadRefuses, IsUsable, HasHead}
-use Rattle.ciborium_ll.specs.{Refusal.{IsAtFront, head_refusal}, Spells.{Spells, SpellsItems, SpellsPairs}}
-use Rattle.ciborium_ll.specs.StringRefusal.{StringKind, of_bytes, of_text, string_major, StringRefuses, ChunksRefuse}
-use Rattle.ciborium_ll.specs.StringRefusal.{OpenStringRefuses}
 use Rattle.ciborium_ll.proofs.{OneHeader.one_header_at_front, UniqueSpelling.one_at_front}
-use Rattle.ciborium_value.specs.{Meaning.{folding_bytes, big_endian, meaning}, Nesting.{Limit, IsOneLess}}
-use Rattle.ciborium_value.specs.Refuses.{AreReadAs, Due, items, keys, values, next_due, due_after, IsDue}
-use Rattle.ciborium_value.specs.{Refuses.{BeginsContainer, IsTagAt, Refuses}, Sources.{Fault, of_kind, of_nesting}}
-use Rattle.ciborium_value.specs.Sources.{of_syntax, of_memory, of_device, of_end, of_length, IsFaultOf, IsOutsideFault}
-use Rattle.ciborium_value.specs.Given.{Outcome, Steps, gives, leveled, mapped, nests, of_meaning, outcome, outcome_map}
-use Rattle.ciborium_value.specs.{Given.{refuses, given_items, given_tag, given_tree_pairs, given_value}, Spelling.any}
-use Rattle.ciborium_value.specs.{Tree.{Tree, Trees, TreePairs}, lemmas.GivenOutcomes.{pair_first, tree_first}}
-use Rattle.ciborium_value.proofs.{GoodItems.Bignums.large-none, GoodItems.Spelled.{folding-over, folding-string}}
-use Rattle.ciborium_value.proofs.{GoodItems.Spelled.folds-none, Sources.Sequences.{fault_map, fault_outside}}
-use Rattle.ciborium_value.proofs.Sources.Sequences.{fault_then}
+use Rattle.ciborium_ll.specs.{Bytes.greatest_offset, Head.{IsHead, within, one_byte, two_bytes, four_bytes}}
+use Rattle.ciborium_ll.specs.{Head.{eight_bytes, open_byte, break_byte}, Header.SpellsHeader, Item.{Item, Items, Pairs}}
+use Rattle.ciborium_ll.specs.Item.{no_items, item, no_pairs, pair, unsigned, negative, bytes, text, array, tag, simple}
+use Rattle.ciborium_ll.specs.{Item.{float, items_count, pairs_count}, Refusal.{Refusal, io, syntax, too_long, semantic}}
+use Rattle.ciborium_ll.specs.Refusal.{recursion_limit_exceeded, HeadRefuses, IsUsable, HasHead, IsAtFront, head_refusal}
+use Rattle.ciborium_ll.specs.{Spells.{Spells, SpellsItems, SpellsPairs}, StringRefusal.{StringKind, of_bytes, of_text}}
+use Rattle.ciborium_ll.specs.StringRefusal.{string_major, StringRefuses, ChunksRefuse, OpenStringRefuses}
+use Rattle.ciborium_ll.specs.declared.header.Header.{Header}
+use Rattle.ciborium_value.proofs.GoodItems.{Bignums.large-none, Spelled.{folding-over, folding-string, folds-none}}
+use Rattle.ciborium_value.{proofs.Sources.Sequences.{fault_map, fault_outside, fault_then}, specs.Given.Outcome}
+use Rattle.ciborium_value.specs.Given.{Steps, gives, leveled, mapped, nests, of_meaning, outcome, outcome_map, refuses}
+use Rattle.ciborium_value.specs.{Given.{given_items, given_tag, given_tree_pairs, given_value}, Meaning.folding_bytes}
+use Rattle.ciborium_value.specs.{Meaning.{big_endian, meaning}, Nesting.{Limit, IsOneLess}, Refuses.{AreReadAs, Due}}
+use Rattle.ciborium_value.specs.Refuses.{items, keys, values, next_due, due_after, IsDue, BeginsContainer, IsTagAt}
+use Rattle.ciborium_value.specs.{Refuses.Refuses, Sources.{Fault, of_kind, of_nesting, of_syntax, of_memory, of_device}}
+use Rattle.ciborium_value.specs.{Sources.{of_end, of_length, IsFaultOf, IsOutsideFault}, Spelling.any, Tree.Tree}
+use Rattle.ciborium_value.specs.{Tree.{Trees, TreePairs}, lemmas.GivenOutcomes.{pair_first, tree_first}}
+use Rattle.ciborium.proofs.Items.{FrontReads.{head-passes, only-long}, ItemHeads.{header_of, first-head, first-payload}}
+use Rattle.ciborium.proofs.Items.{ItemHeads.{same-head, no-break-head, tag-front}, ValuesGiven.level-taken}
+use Rattle.ciborium.proofs.{Items.ValuesGiven.value-gives, Payloads.SpelledStrings.{definite-never, content-long}}
+use Rattle.ciborium.proofs.Payloads.{SpelledStrings.{content-only, string-spells}, StringPayloads.string-only}
 use Rattle.ciborium.specs.inner.StringContents.{head_of}
-use Rattle.ciborium.proofs.{Items.FrontReads.{head-passes, only-long}, Items.ItemHeads.{header_of, first-head}}
-use Rattle.ciborium.proofs.Items.ItemHeads.{first-payload, same-head, no-break-head, tag-front}
-use Rattle.ciborium.proofs.Payloads.SpelledStrings.{definite-never, content-long, content-only, string-spells}
-use Rattle.ciborium.proofs.{Payloads.StringPayloads.string-only, Items.ValuesGiven.{level-taken, value-gives}}
 use Rattle.ciborium_ll.specs.declared.header.Header.TheVariants as header
 use Rattle.ciborium_ll.specs.Item as maps
 use Rattle.ciborium_ll.specs.Refusal as refusal

@@ -1,14 +1,13 @@
 -- What an item gives as a value.
 use Rattle.std.proofs.Common.{◌≡◌, ℕ, zero, suc, max, List, Option, Some, None, option_map, refl, ap, ◌∙◌, arith}
 use Rattle.ciborium_ll.specs.Item.{Item, Items, Pairs, no_items, no_pairs, pair}
-use Rattle.ciborium_value.specs.Meaning.{meaning, items_meaning, pairs_meaning, trees_more, tree_pairs_more}
-use Rattle.ciborium_value.specs.{Meaning.{folding_bytes, tag_meaning}, Nesting.{Limit, IsWithin, IsOneLess, nesting}}
-use Rattle.ciborium_value.specs.{Nesting.{items_nesting, pairs_nesting, tag_nesting}, Given.{Steps, gives, leveled}}
-use Rattle.ciborium_value.specs.Given.{mapped, of_meaning, outcome, outcome_map, given_items, given_tag}
-use Rattle.ciborium_value.specs.{Given.{given_tree_pairs, given_value}, Tree.{Tree, Trees, TreePairs}}
-use Rattle.ciborium_value.specs.{lemmas.GivenOutcomes.{pair_first, tree_first}, lemmas.ReadsBackParts.within-left}
-use Rattle.ciborium_value.specs.lemmas.ReadsBackParts.{within-right}
-use Rattle.ciborium_value.proofs.{GoodItems.Parts.lower, Forms.OwnForms.mapped_same}
+use Rattle.ciborium_value.{proofs.{Forms.OwnForms.mapped_same, GoodItems.Parts.lower}, specs.Given.{Steps, gives}}
+use Rattle.ciborium_value.specs.Given.{leveled, mapped, of_meaning, outcome, outcome_map, given_items, given_tag}
+use Rattle.ciborium_value.specs.{Given.{given_tree_pairs, given_value}, Meaning.{meaning, items_meaning, pairs_meaning}}
+use Rattle.ciborium_value.specs.{Meaning.{trees_more, tree_pairs_more, folding_bytes, tag_meaning}, Nesting.Limit}
+use Rattle.ciborium_value.specs.Nesting.{IsWithin, IsOneLess, nesting, items_nesting, pairs_nesting, tag_nesting}
+use Rattle.ciborium_value.specs.{Tree.{Tree, Trees, TreePairs}, lemmas.GivenOutcomes.{pair_first, tree_first}}
+use Rattle.ciborium_value.specs.lemmas.ReadsBackParts.{within-left, within-right}
 use Rattle.ciborium_ll.specs.Item as items
 use Rattle.ciborium_value.specs.Tree as trees
 use Rattle.ciborium_value.specs.declared.kind.Kind.TheVariants as kinds

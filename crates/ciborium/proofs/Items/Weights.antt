@@ -5,17 +5,9 @@ use Rattle.ciborium_ll.specs.declared.header.Header.TheVariants as header
 use Rattle.ciborium.specs.declared.de.byte_source.ByteSource.{ByteSource}
 use Rattle.ciborium.specs.inner.ByteSources.{bytes_weight, head_weight, pending_head_weight, weight_left}
 
-weight-bounds : (h : Header) → (1 ≤ head_weight h) × (head_weight h ≤ 2)
-weight-bounds (header.Positive n) = (omega arith, omega arith)
-weight-bounds (header.Negative n) = (omega arith, omega arith)
-weight-bounds (header.Bytes n) = (omega arith, omega arith)
-weight-bounds (header.Text n) = (omega arith, omega arith)
-weight-bounds (header.Array n) = (omega arith, omega arith)
-weight-bounds (header.Map n) = (omega arith, omega arith)
-weight-bounds (header.Tag n) = (omega arith, omega arith)
-weight-bounds (header.Simple n) = (omega arith, omega arith)
-weight-bounds (header.Float n) = (omega arith, omega arith)
+pub weight-bounds : (h : Header) → (1 ≤ head_weight h) × (head_weight h ≤ 2)
 weight-bounds header.Break = (omega arith, omega arith)
+weight-bounds h = (omega arith, omega arith)
 
 -- a head was taken, and what is read behind it
 pub taken-fewer : {S W : Type 0} (old mid new : ByteSource S W) (h : Header) → bytes_weight new ≤ bytes_weight mid →

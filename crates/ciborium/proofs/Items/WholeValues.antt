@@ -2,20 +2,19 @@
 use Rattle.std.proofs.Common.{◌≡◌, ℕ, ◌+◌, Bool, true, false, List, ◌++◌, length, Option, Some, None, Result, Ok, Err}
 use Rattle.std.proofs.Common.{refl, sym, ap, ◌∙◌, subst, arith, eqb, eqb-true, ◌||◌, ◌≤◌, ℤ, pos, length-append}
 use Rattle.std.specs.Io.KnownBytes.{Consumes}
-use Rattle.ciborium_ll.specs.{declared.header.Header.Header, declared.decoder.Decoder.Decoder, Decoding.IsAhead}
+use Rattle.ciborium_ll.{proofs.{Decoders.{unread-left, unread-count}, Unread.rest-of}, specs.Decoding.IsAhead}
 use Rattle.ciborium_ll.specs.Decoding.{IsAheadBy, TakesBeforeAny, next_offset, with_left, left_of, ReadsNothing}
 use Rattle.ciborium_ll.specs.{Header.SpellsHeader, Item.{Item, unsigned, simple}, Spells.Spells}
-use Rattle.ciborium_ll.proofs.{Decoders.{unread-left, unread-count}, Unread.rest-of}
-use Rattle.ciborium_value.specs.{declared.kind.Kind.Kind, declared.tree.Value.Value, Meaning.simple_meaning}
-use Rattle.ciborium_value.specs.{Nesting.{Limit, IsWithin, nesting}, Refuses.Refuses, Sources.{IsFaultOf, of_kind}}
-use Rattle.ciborium_value.specs.{View.{read_as, tree_of}, Given.{gives, given_value, outcome}, Tree.Tree, Spelling.any}
-use Rattle.ciborium.specs.{declared.de.error.Error.Error, inner.Turns.{IsTreeRead, IsValueRead}}
-use Rattle.ciborium.specs.inner.ByteSources.{MeansTree, is_portable, IsUnreadBy, known_end, reader_of}
+use Rattle.ciborium_ll.specs.declared.{decoder.Decoder.Decoder, header.Header.Header}
+use Rattle.ciborium_value.{proofs.Sources.Sequences.fault_outside, specs.Given.{gives, given_value, outcome}}
+use Rattle.ciborium_value.specs.{Meaning.simple_meaning, Nesting.{Limit, IsWithin, nesting}, Refuses.Refuses}
+use Rattle.ciborium_value.specs.{Sources.{IsFaultOf, of_kind}, Spelling.any, Tree.Tree, View.{read_as, tree_of}}
+use Rattle.ciborium_value.specs.declared.{kind.Kind.Kind, tree.Value.Value}
+use Rattle.ciborium.proofs.Items.{FrontReads.io-outside, ValueFaults.value-faults, ValuesGiven.value-gives}
+use Rattle.ciborium.proofs.{Readers.WhateverFollows.{ahead-same, so-unread}, Turns.Fronts.{ahead-at, front-fits}}
 use Rattle.ciborium.specs.{Errors.{fault_of, io_fault}, ValueAnswers.{IsRefusedBy, IsNamed, refusal_kind_of}}
-use Rattle.ciborium_value.proofs.Sources.Sequences.{fault_outside}
-use Rattle.ciborium.proofs.{Items.FrontReads.io-outside, Turns.Fronts.{ahead-at, front-fits}}
-use Rattle.ciborium.proofs.{Readers.WhateverFollows.{ahead-same, so-unread}, Items.ValueFaults.value-faults}
-use Rattle.ciborium.proofs.Items.ValuesGiven.{value-gives}
+use Rattle.ciborium.specs.{declared.de.error.Error.Error, inner.ByteSources.{MeansTree, is_portable, IsUnreadBy}}
+use Rattle.ciborium.specs.inner.{ByteSources.{known_end, reader_of}, Turns.{IsTreeRead, IsValueRead}}
 use Rattle.ciborium_ll.specs.declared.header.Header.TheVariants as header
 use Rattle.ciborium_value.specs.declared.kind.Kind.TheVariants as kinds
 use Rattle.ciborium_value.specs.Tree as trees

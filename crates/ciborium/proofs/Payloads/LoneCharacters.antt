@@ -1,20 +1,18 @@
 -- Texts of one character.
 use Rattle.std.proofs.Common.{◌≡◌, ℕ, ◌<◌, true, false, List, [], ◌∷◌, ◌++◌, length, take, chars, IsUtf8, Option, Some}
 use Rattle.std.proofs.Common.{None, Ok, Err, refl, sym, ap, ◌∙◌, subst, length-append, arith, Bool, ◌+◌, ◌≤◌}
-use Rattle.std.proofs.{Math.Utf8.{encode, encodes}, Math.Seq.take-append_seam, lemmas.Str.cons_from_encodes}
-use Rattle.std.proofs.lemmas.Str.{encodes-chars, length-encode, len_utf8_bounds, length-le-encodes}
-use Rattle.std.proofs.lemmas.List.{nil_from_length}
-use Rattle.ciborium_ll.specs.{declared.decoder.Decoder.Decoder, declared.header.Header.Header, Decoding.Takes}
-use Rattle.ciborium_ll.specs.{Decoding.left_of, Head.IsHead, Item.{Item, text}, ReaderSteps.IsFillTaken, Spells.Spells}
-use Rattle.ciborium_ll.specs.StringRefusal.{of_text}
-use Rattle.ciborium_ll.proofs.Unread.{rest-of}
-use Rattle.ciborium_value.specs.{Nesting.Limit, Sources.{Fault, IsFaultOf, of_kind}, Given.{bare_character, gives}}
-use Rattle.ciborium_value.specs.Given.{lone_character, outcome, refuses, settled, given_character, untagged}
-use Rattle.ciborium.specs.{inner.ByteSources.IsUnreadBy, inner.FrontItems.Denies, inner.Skips.{under, AreSkipped}}
-use Rattle.ciborium.specs.{inner.Skips.{IsBare, TakesBare}, inner.StringContents.{TakesContent, TakesJust}}
+use Rattle.std.proofs.{Math.{Seq.take-append_seam, Utf8.{encode, encodes}}, lemmas.List.nil_from_length}
+use Rattle.std.proofs.lemmas.Str.{cons_from_encodes, encodes-chars, length-encode, len_utf8_bounds, length-le-encodes}
+use Rattle.ciborium_ll.{proofs.Unread.rest-of, specs.{Decoding.{Takes, left_of}, Head.IsHead, Item.{Item, text}}}
+use Rattle.ciborium_ll.specs.{ReaderSteps.IsFillTaken, Spells.Spells, StringRefusal.of_text}
+use Rattle.ciborium_ll.specs.declared.{decoder.Decoder.Decoder, header.Header.Header}
+use Rattle.ciborium_value.specs.Given.{bare_character, gives, lone_character, outcome, refuses, settled}
+use Rattle.ciborium_value.specs.{Given.{given_character, untagged}, Nesting.Limit, Sources.{Fault, IsFaultOf, of_kind}}
 use Rattle.ciborium.proofs.Items.ItemHeads.{header_of, same-head, by-shape, no-bare-tag, size_of}
 use Rattle.ciborium.proofs.{Items.SkippedTags.untagged-under, Payloads.SpelledStrings.definite-payload}
-use Rattle.ciborium.proofs.Payloads.StringPayloads.{string-only}
+use Rattle.ciborium.{proofs.Payloads.StringPayloads.string-only, specs.inner.ByteSources.IsUnreadBy}
+use Rattle.ciborium.specs.inner.{FrontItems.Denies, Skips.{under, AreSkipped, IsBare, TakesBare}}
+use Rattle.ciborium.specs.inner.StringContents.{TakesContent, TakesJust}
 use Rattle.ciborium_ll.specs.declared.header.Header.TheVariants as header
 use Rattle.ciborium_value.specs.declared.kind.Kind.TheVariants as kinds
 

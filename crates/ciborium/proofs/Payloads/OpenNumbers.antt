@@ -2,20 +2,17 @@
 use Rattle.std.proofs.Common.{◌≡◌, ◌≢◌, ℕ, List, [], ◌∷◌, ◌++◌, length, ◌<◌, true, Option, Some, None, refl, sym, ap}
 use Rattle.std.proofs.Common.{Err, ◌∙◌, subst, append_assoc, inl, inr, ◌⊎◌, ◌+◌, ◌≤◌, arith, length-append, suc}
 use Rattle.std.proofs.lemmas.List.Elements.{All-append}
-use Rattle.ciborium_ll.specs.{declared.header.Header.Header, Bytes.AreBytes, Head.{IsHead, open_byte, break_byte}}
-use Rattle.ciborium_ll.specs.{Header.{SpellsHeader, announced_length}, Item.{Item, bytes}, Spells.{Spells, AreChunks}}
-use Rattle.ciborium_ll.specs.{Spells.joined, StringRefusal.of_bytes}
 use Rattle.ciborium_ll.proofs.{OneHeader.one_header_at_front, OpenStrings.{AreParts-more, joined-more}}
-use Rattle.ciborium_ll.proofs.UniqueSpelling.{one_at_front}
-use Rattle.ciborium_value.specs.{Sources.{Fault, IsOutsideFault, of_kind}, Given.{bignum_of, settled, given_bignum}}
-use Rattle.ciborium_value.specs.Places.{is_open}
-use Rattle.ciborium_value.proofs.Sources.Sequences.{fault_outside}
-use Rattle.ciborium.specs.{inner.FrontItems.{TakesHead, DeniesHead, Reads, Denies}, inner.StringContents.digits_of}
-use Rattle.ciborium.specs.inner.StringContents.{TakesDigits, TakesNumber, TakesParts, DeniesContent, DeniesJust}
+use Rattle.ciborium_ll.{proofs.UniqueSpelling.one_at_front, specs.{Bytes.AreBytes, Head.{IsHead, open_byte}}}
+use Rattle.ciborium_ll.specs.{Head.break_byte, Header.{SpellsHeader, announced_length}, Item.{Item, bytes}}
+use Rattle.ciborium_ll.specs.{Spells.{Spells, AreChunks, joined}, StringRefusal.of_bytes, declared.header.Header.Header}
+use Rattle.ciborium_value.{proofs.Sources.Sequences.fault_outside, specs.Given.{bignum_of, settled, given_bignum}}
+use Rattle.ciborium_value.specs.{Places.is_open, Sources.{Fault, IsOutsideFault, of_kind}}
 use Rattle.ciborium.proofs.Items.ItemHeads.{header_of, first-head, first-payload, same-head, no-break-head, by-shape}
-use Rattle.ciborium.proofs.Payloads.ReadDigits.{digits-append, digits-some, digits-none}
-use Rattle.ciborium.proofs.Payloads.SpelledStrings.{same-payload, string-break, opened-up, same-rest}
-use Rattle.ciborium.proofs.Payloads.StringPayloads.{string-only}
+use Rattle.ciborium.proofs.Payloads.{ReadDigits.{digits-append, digits-some, digits-none}, SpelledStrings.same-payload}
+use Rattle.ciborium.proofs.Payloads.{SpelledStrings.{string-break, opened-up, same-rest}, StringPayloads.string-only}
+use Rattle.ciborium.specs.inner.{FrontItems.{TakesHead, DeniesHead, Reads, Denies}, StringContents.digits_of}
+use Rattle.ciborium.specs.inner.StringContents.{TakesDigits, TakesNumber, TakesParts, DeniesContent, DeniesJust}
 use Rattle.ciborium_ll.specs.declared.header.Header.TheVariants as header
 use Rattle.ciborium_value.specs.declared.kind.Kind.TheVariants as kinds
 

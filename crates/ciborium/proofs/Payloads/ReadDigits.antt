@@ -2,18 +2,15 @@
 use Rattle.std.proofs.Common.{◌≡◌, ◌≢◌, ℕ, zero, suc, ◌+◌, ◌*◌, ◌-◌, ◌^◌, ◌<◌, ◌≤◌, ltb, Bool, true, false, List, []}
 use Rattle.std.proofs.Common.{◌∷◌, ◌++◌, length, Option, Some, None, Ok, Err, refl, sym, ap, ◌∙◌, append_assoc}
 use Rattle.std.proofs.{Common.{length-append, arith, lit<, add-one, lt-ltb, le-ltb, ne_eqb}, Math.Nat.pow-le-pow_right}
-use Rattle.std.proofs.{Math.Nat.pow-suc, lemmas.Bool.Decides.nat_tests, lemmas.List.Elements.{All-append, All-head}}
+use Rattle.std.proofs.{Math.Nat.pow-suc, lemmas.{Bool.Decides.nat_tests, List.Elements.{All-append, All-head}}}
 use Rattle.std.proofs.lemmas.List.Elements.{All-tail}
-use Rattle.ciborium_ll.specs.{declared.decoder.Decoder.Decoder, declared.header.Error.Error as LlError}
-use Rattle.ciborium_ll.specs.{Accesses.{HasEnded, left_at_failure}, Bytes.{AreBytes, greatest_offset}, Decoding.Takes}
-use Rattle.ciborium_ll.specs.{Decoding.left_of, ReaderSteps.IsFillTaken}
-use Rattle.ciborium_ll.proofs.Unread.{rest-of}
-use Rattle.ciborium_value.specs.{Meaning.{big_endian_behind, big_endian, without_zeros}, Sources.IsOutsideFault}
-use Rattle.ciborium_value.specs.Given.{magnitude}
-use Rattle.ciborium.specs.{inner.ByteSources.{known_end, reader_of}, Errors.{fault_of, from_ll}}
-use Rattle.ciborium.specs.inner.StringContents.{one_digit_more, digits_of}
-use Rattle.ciborium.proofs.Items.FrontReads.{failed-end, io-outside}
-use Rattle.ciborium_value.proofs.FoldedTrees.BigEndian.{bound-more}
+use Rattle.ciborium_ll.{proofs.Unread.rest-of, specs.{Accesses.{HasEnded, left_at_failure}, Bytes.AreBytes}}
+use Rattle.ciborium_ll.specs.{Bytes.greatest_offset, Decoding.{Takes, left_of}, ReaderSteps.IsFillTaken}
+use Rattle.ciborium_ll.specs.declared.{decoder.Decoder.Decoder, header.Error.Error as LlError}
+use Rattle.ciborium_value.{proofs.FoldedTrees.BigEndian.bound-more, specs.{Given.magnitude, Meaning.big_endian_behind}}
+use Rattle.ciborium_value.specs.{Meaning.{big_endian, without_zeros}, Sources.IsOutsideFault}
+use Rattle.ciborium.{proofs.Items.FrontReads.{failed-end, io-outside}, specs.Errors.{fault_of, from_ll}}
+use Rattle.ciborium.specs.inner.{ByteSources.{known_end, reader_of}, StringContents.{one_digit_more, digits_of}}
 use Rattle.ciborium_ll.specs.declared.header.Error.TheVariants as ll
 use Rattle.ciborium_value.specs.declared.kind.Kind.TheVariants as kinds
 

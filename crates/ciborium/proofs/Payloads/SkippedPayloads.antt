@@ -3,15 +3,14 @@ use Rattle.std.proofs.Common.{◌≡◌, ℕ, ◌+◌, ◌-◌, ◌<◌, ◌≤�
 use Rattle.std.proofs.Common.{Some, refl, sym, ap, ◌∙◌, subst, arith, append_assoc, append-nil, length-append}
 use Rattle.std.proofs.Common.{length-drop, length-take-le, take-append-drop, take-take, drop_of_length-le}
 use Rattle.std.proofs.{Math.Seq.{take-append_seam, drop-append_seam}, iter.FirstChar.after_text}
-use Rattle.std.proofs.{lemmas.List.{nil_from_length, take-append-le, take_rest}, lemmas.List.Edits.paste_all}
-use Rattle.std.proofs.{lemmas.Slice.put_mid-paste, lemmas.Str.IsUtf8-append}
-use Rattle.ciborium_ll.specs.{Decoding.left_of, Levels.IsPayloadOf, declared.header.Header.Header}
-use Rattle.ciborium_ll.proofs.Unread.{rest-of}
+use Rattle.std.proofs.lemmas.{List.{nil_from_length, take-append-le, take_rest, Edits.paste_all}, Slice.put_mid-paste}
+use Rattle.std.proofs.lemmas.Str.{IsUtf8-append}
+use Rattle.ciborium_ll.{proofs.Unread.rest-of, specs.{Decoding.left_of, Levels.IsPayloadOf}}
+use Rattle.ciborium_ll.specs.declared.header.Header.{Header}
 use Rattle.ciborium_value.specs.Sources.{Fault, TakesOnly}
-use Rattle.ciborium.specs.{declared.de.byte_source.ByteSource.ByteSource, inner.ByteSources.{HasTaken, IsUnread}}
-use Rattle.ciborium.specs.{inner.ByteSources.IsUnreadBy, inner.PassedOver.{DeniesPayload, TakesPayload}}
+use Rattle.ciborium.{proofs.Items.TakenOnly.taken-none, specs.declared.de.byte_source.ByteSource.ByteSource}
+use Rattle.ciborium.specs.inner.{ByteSources.{HasTaken, IsUnread, IsUnreadBy}, PassedOver.{DeniesPayload, TakesPayload}}
 use Rattle.ciborium.specs.inner.StringContents.{DeniesJust, TakesJust}
-use Rattle.ciborium.proofs.Items.TakenOnly.{taken-none}
 use borrow.Rule.Slice.PartMut.{put_mid}
 use Rattle.ciborium_ll.specs.declared.header.Header.TheVariants as header
 

@@ -1,18 +1,17 @@
 -- Payloads that were taken behind the heads of strings.
 use Rattle.std.proofs.Common.{◌≡◌, ℕ, ◌+◌, ◌-◌, ◌*◌, ◌≤◌, Bool, true, false, List, [], ◌∷◌, ◌++◌, length, Option, Some}
 use Rattle.std.proofs.Common.{None, Ok, refl, sym, ap, ◌∙◌, subst, arith, inl, inr, length-append}
-use Rattle.ciborium_ll.specs.{declared.header.Header.Header, declared.decoder.Decoder.Decoder, Bytes.greatest_offset}
-use Rattle.ciborium_ll.specs.{Decoding.{Takes, left_of}, Head.{IsHead, open_byte, break_byte}, Item.{Item, bytes, text}}
-use Rattle.ciborium_ll.specs.{Spells.{Spells, AreChunks, joined}, StringRefusal.{StringKind, of_bytes, of_text}}
-use Rattle.ciborium_ll.specs.{StringRefusal.{string_major, IsAllowed}, Strings.IsStringTaken}
-use Rattle.ciborium_ll.proofs.Unread.{rest-of}
-use Rattle.ciborium_value.specs.{Nesting.Limit, Sources.Fault, Given.{Given, bare_text, gives, outcome, refuses}}
-use Rattle.ciborium_value.specs.Given.{settled, given_text, untagged}
-use Rattle.ciborium.specs.{inner.ByteSources.IsUnreadBy, inner.FrontItems.{DeniesItem, Denies, Reads}}
-use Rattle.ciborium.specs.{inner.Skips.{under, AreSkipped, IsBare, TakesBare}, inner.StringContents.head_of}
-use Rattle.ciborium.specs.inner.StringContents.{string_item, IsContent, TakesContent, DeniesContent}
-use Rattle.ciborium.proofs.Items.ItemHeads.{header_of, same-head, by-shape, no-bare-tag}
-use Rattle.ciborium.proofs.Items.SkippedTags.{ReadsBehind, untagged-under, denies-of-item, reads-bare}
+use Rattle.ciborium_ll.{proofs.Unread.rest-of, specs.{Bytes.greatest_offset, Decoding.{Takes, left_of}, Head.IsHead}}
+use Rattle.ciborium_ll.specs.{Head.{open_byte, break_byte}, Item.{Item, bytes, text}, Spells.{Spells, AreChunks}}
+use Rattle.ciborium_ll.specs.{Spells.joined, StringRefusal.{StringKind, of_bytes, of_text, string_major, IsAllowed}}
+use Rattle.ciborium_ll.specs.{Strings.IsStringTaken, declared.{decoder.Decoder.Decoder, header.Header.Header}}
+use Rattle.ciborium_value.specs.Given.{Given, bare_text, gives, outcome, refuses, settled, given_text, untagged}
+use Rattle.ciborium_value.specs.{Nesting.Limit, Sources.Fault}
+use Rattle.ciborium.proofs.Items.{ItemHeads.{header_of, same-head, by-shape, no-bare-tag}, SkippedTags.ReadsBehind}
+use Rattle.ciborium.proofs.Items.SkippedTags.{untagged-under, denies-of-item, reads-bare}
+use Rattle.ciborium.specs.inner.{ByteSources.IsUnreadBy, FrontItems.{DeniesItem, Denies, Reads}, Skips.under}
+use Rattle.ciborium.specs.inner.{Skips.{AreSkipped, IsBare, TakesBare}, StringContents.{head_of, string_item}}
+use Rattle.ciborium.specs.inner.StringContents.{IsContent, TakesContent, DeniesContent}
 use Rattle.ciborium_ll.specs.declared.header.Header.TheVariants as header
 use Rattle.ciborium_value.specs.declared.kind.Kind.TheVariants as kinds
 

@@ -1,12 +1,11 @@
 -- Payloads that are visited where they are held.
 use Rattle.std.proofs.Common.{◌≡◌, ℕ, ◌+◌, ◌≤◌, List, ◌++◌, length, take, Option, IsUtf8, Some, ◌∙◌, sym, ap, arith}
 use Rattle.std.proofs.{Common.{length-append, subst, IfErr, Result, Ok, Err}, Math.Seq.take-append_seam}
-use Rattle.ciborium_ll.specs.{declared.header.Header.Header, Levels.IsPayloadOf, StringRefusal.StringKind}
+use Rattle.ciborium_ll.specs.{Levels.IsPayloadOf, StringRefusal.StringKind, declared.header.Header.Header}
 use Rattle.ciborium_value.specs.Sources.{Fault, TakesOnly}
-use Rattle.ciborium.specs.{declared.de.byte_source.ByteSource.ByteSource, inner.ByteSources.{HasTaken, IsUnread}}
-use Rattle.ciborium.specs.{inner.ByteSources.end_at, inner.PassedOver.DeniesPayload, inner.StringContents.DeniesContent}
-use Rattle.ciborium.specs.inner.StringContents.{DeniesJust, TakesJust}
-use Rattle.ciborium.proofs.Items.TakenOnly.{same-end}
+use Rattle.ciborium.{proofs.Items.TakenOnly.same-end, specs.declared.de.byte_source.ByteSource.ByteSource}
+use Rattle.ciborium.specs.inner.{ByteSources.{HasTaken, IsUnread, end_at}, PassedOver.DeniesPayload}
+use Rattle.ciborium.specs.inner.StringContents.{DeniesContent, DeniesJust, TakesJust}
 use Rattle.ciborium_ll.specs.declared.header.Header.TheVariants as header
 
 -- so many bytes were refused, and the payload is these

@@ -2,13 +2,12 @@
 use Rattle.std.proofs.Common.{◌≡◌, ℕ, List, [], ◌++◌, Some, Ok, refl, sym, ap, ◌∙◌}
 use Rattle.std.specs.declared.io.Error.{Error as IoError}
 use Rattle.ciborium_ll.proofs.UniqueSpelling.{one_at_front}
-use Rattle.ciborium_value.specs.{Encoding.written_bytes, Readings.Reading, ReadsBack.{IsPlainlyReadBack, by_bytes}}
-use Rattle.ciborium_value.specs.{Sinks.Named, Given.{gives, outcome}, WrittenContents.IsWrittenByContent}
-use Rattle.ciborium_value.proofs.Writing.ReadBack.{written_spells_item}
-use Rattle.ciborium.specs.laws.RoundTrips.{AreRefusedAlike, BytesWrittenAgain, LeaveSameBytes, TreeWrittenAgain}
-use Rattle.ciborium.specs.{laws.RoundTrips.WriteSameBytes, Writes.WritesNamed}
-use Rattle.ciborium.specs.declared.ser.error.Error.{Error as WriteError}
-use Rattle.ciborium.proofs.ReadBack.RoundTrips.{one-content, tree_gives_content}
+use Rattle.ciborium_value.{proofs.Writing.ReadBack.written_spells_item, specs.{Encoding.written_bytes, Given.gives}}
+use Rattle.ciborium_value.specs.{Given.outcome, Readings.Reading, ReadsBack.{IsPlainlyReadBack, by_bytes}, Sinks.Named}
+use Rattle.ciborium_value.specs.WrittenContents.{IsWrittenByContent}
+use Rattle.ciborium.{proofs.ReadBack.RoundTrips.{one-content, tree_gives_content}, specs.Writes.WritesNamed}
+use Rattle.ciborium.specs.{declared.ser.error.Error.Error as WriteError, laws.RoundTrips.AreRefusedAlike}
+use Rattle.ciborium.specs.laws.RoundTrips.{BytesWrittenAgain, LeaveSameBytes, TreeWrittenAgain, WriteSameBytes}
 
 -- written into nothing, what names the same leaves the same
 same-left : (m n : Named) (old new before after : List ℕ) → m ≡ n →

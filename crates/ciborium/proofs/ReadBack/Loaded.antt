@@ -1,28 +1,24 @@
 -- What is written of a value whose tree has an accepted spelling is read back by the deterministic reader.
 use Rattle.std.proofs.Common.{◌≡◌, ℕ, ◌≤◌, false, List, [], ◌∷◌, ◌++◌, length, map, Option, Some, None, option_map}
 use Rattle.std.proofs.Common.{Result, Ok, Err, refl, sym, ap, ◌∙◌, subst, append-nil, arith}
-use Rattle.std.proofs.lemmas.List.Elements.{All-head, All-tail, All-weaker}
-use Rattle.std.specs.{BTreeMap.{BTreeMap, IsOrdered}, List.Sorted.IsStrictlySortedBy, Map.keys_of}
-use Rattle.std.specs.declared.io.Error.{Error as IoError}
-use Rattle.ciborium_ll.specs.{Bytes.greatest_offset, Item.Item}
-use Rattle.ciborium_ll.proofs.UniqueSpelling.{one_at_front}
-use Rattle.ciborium_value.specs.{Canonical.key_order, OrderedValues.ordered_value_cmp, Encoding.{encoding, item_of}}
-use Rattle.ciborium_value.specs.{Encoding.{pairs_of, written_bytes}, Folded.{folded, tree_pairs_folded}}
-use Rattle.ciborium_value.specs.{Meaning.tree_pairs_more, Places.{dictionary, pairs_from}, Readings.Reading}
-use Rattle.ciborium_value.specs.{ReadsBack.{IsPlainlyReadBack, by_bytes}, Sinks.{Named, all_named, and_then, contained}}
-use Rattle.ciborium_value.specs.{Sinks.{container_of, in_turn, named_value}, Given.{gives, outcome}, Tree.Tree}
-use Rattle.ciborium_value.specs.{Tree.TreePairs, View.{tree_of, tree_pairs_of}, declared.key_order.KeyOrder.KeyOrder}
-use Rattle.ciborium_value.specs.{WrittenItems.IsWritten, declared.tree.Value.Value, Deterministic.AreRising}
-use Rattle.ciborium_value.specs.Deterministic.{HasRisingKeys, PairsHaveRisingKeys}
-use Rattle.ciborium_value.specs.{DeterministicTrees.IsDeterministicTree, Spelling.deterministic}
-use Rattle.ciborium_value.proofs.Writing.ReadBack.{written_spells_item, written_tree_is_proper}
-use Rattle.ciborium_value.proofs.GoodItems.Accepted.{accepted, written-item}
-use Rattle.ciborium.specs.{declared.de.error.Error.Error, ValueAnswers.{AnswersGoodItem, GivesTree}}
-use Rattle.ciborium.specs.{ValueClauses.TakesValue, laws.Loaded.{AreDeterministicParts, IsContentLoaded}}
-use Rattle.ciborium.specs.laws.Loaded.{IsDeterministicStore, IsLoaded, IsStoreValid, LoadedAsSaved, LoadingGivesContent}
-use Rattle.ciborium.specs.{laws.Loaded.store_tree, declared.ser.error.Error.Error as WriteError, Writes.IsNamedWritten}
-use Rattle.ciborium.specs.Writes.{WritesNamed}
+use Rattle.std.{proofs.lemmas.List.Elements.{All-head, All-tail, All-weaker}, specs.BTreeMap.{BTreeMap, IsOrdered}}
+use Rattle.std.specs.{List.Sorted.IsStrictlySortedBy, Map.keys_of, declared.io.Error.Error as IoError}
+use Rattle.ciborium_ll.{proofs.UniqueSpelling.one_at_front, specs.{Bytes.greatest_offset, Item.Item}}
+use Rattle.ciborium_value.proofs.{GoodItems.Accepted.{accepted, written-item}, Writing.ReadBack.written_spells_item}
+use Rattle.ciborium_value.{proofs.Writing.ReadBack.written_tree_is_proper, specs.Canonical.key_order}
+use Rattle.ciborium_value.specs.Deterministic.{AreRising, HasRisingKeys, PairsHaveRisingKeys}
+use Rattle.ciborium_value.specs.{DeterministicTrees.IsDeterministicTree, Encoding.{encoding, item_of, pairs_of}}
+use Rattle.ciborium_value.specs.{Encoding.written_bytes, Folded.{folded, tree_pairs_folded}, Given.{gives, outcome}}
+use Rattle.ciborium_value.specs.{Meaning.tree_pairs_more, OrderedValues.ordered_value_cmp, Places.dictionary}
+use Rattle.ciborium_value.specs.{Places.pairs_from, Readings.Reading, ReadsBack.{IsPlainlyReadBack, by_bytes}}
+use Rattle.ciborium_value.specs.Sinks.{Named, all_named, and_then, contained, container_of, in_turn, named_value}
+use Rattle.ciborium_value.specs.{Spelling.deterministic, Tree.{Tree, TreePairs}, View.{tree_of, tree_pairs_of}}
+use Rattle.ciborium_value.specs.{WrittenItems.IsWritten, declared.{key_order.KeyOrder.KeyOrder, tree.Value.Value}}
 use Rattle.ciborium.proofs.{Encodings.RisingKeys.keys-rise, ReadBack.RoundTrips.one-content}
+use Rattle.ciborium.specs.{ValueAnswers.{AnswersGoodItem, GivesTree}, ValueClauses.TakesValue, Writes.IsNamedWritten}
+use Rattle.ciborium.specs.{Writes.WritesNamed, declared.{de.error.Error.Error, ser.error.Error.Error as WriteError}}
+use Rattle.ciborium.specs.laws.Loaded.{AreDeterministicParts, IsContentLoaded, IsDeterministicStore, IsLoaded}
+use Rattle.ciborium.specs.laws.Loaded.{IsStoreValid, LoadedAsSaved, LoadingGivesContent, store_tree}
 use Rattle.ciborium_ll.specs.Item as items
 use Rattle.ciborium_value.specs.Tree as trees
 use Rattle.ciborium_value.specs.Deterministic as rising

@@ -1,19 +1,17 @@
 -- What is written is read back, from bytes and from a tree.
 use Rattle.std.proofs.Common.{◌≡◌, ℕ, List, [], ◌++◌, length, Option, Some, None, Result, Ok, Err, refl, sym, ap, ◌∙◌}
-use Rattle.std.proofs.Common.{◌+◌, subst, append-nil, arith}
-use Rattle.std.specs.declared.io.Error.{Error as IoError}
-use Rattle.ciborium_ll.specs.Item.{Item}
-use Rattle.ciborium_ll.proofs.UniqueSpelling.{one_at_front}
-use Rattle.ciborium_value.specs.{Encoding.{item_of, written_bytes, written_tree}, Nesting.IsWithin, Readings.Reading}
-use Rattle.ciborium_value.specs.{ReadsBack.{IsPlainlyReadBack, by_bytes, by_tree}, Sinks.Named, Sources.Fault}
-use Rattle.ciborium_value.specs.Sources.{of_syntax, of_memory, of_device, of_end, of_length, IsFaultOf, IsOutsideFault}
-use Rattle.ciborium_value.specs.{Given.{Outcome, gives, outcome}, WrittenItems.IsWritten, TreeAnswers.IsTreeOf}
-use Rattle.ciborium_value.specs.{TreeAnswers.value_item, declared.tree.Value.Value}
-use Rattle.ciborium_value.proofs.Writing.ReadBack.{written_spells_item}
-use Rattle.ciborium.specs.{declared.de.error.Error.Error, Errors.fault_of, declared.ser.error.Error.Error as WriteError}
+use Rattle.std.{proofs.Common.{◌+◌, subst, append-nil, arith}, specs.declared.io.Error.Error as IoError}
+use Rattle.ciborium_ll.{proofs.UniqueSpelling.one_at_front, specs.Item.Item}
+use Rattle.ciborium_value.{proofs.Writing.ReadBack.written_spells_item, specs.Encoding.{item_of, written_bytes}}
+use Rattle.ciborium_value.specs.{Encoding.written_tree, Given.{Outcome, gives, outcome}, Nesting.IsWithin}
+use Rattle.ciborium_value.specs.{Readings.Reading, ReadsBack.{IsPlainlyReadBack, by_bytes, by_tree}, Sinks.Named}
+use Rattle.ciborium_value.specs.Sources.{Fault, of_syntax, of_memory, of_device, of_end, of_length, IsFaultOf}
+use Rattle.ciborium_value.specs.{Sources.IsOutsideFault, TreeAnswers.{IsTreeOf, value_item}, WrittenItems.IsWritten}
+use Rattle.ciborium_value.specs.declared.tree.Value.{Value}
+use Rattle.ciborium.specs.{Errors.fault_of, TypedAnswers.{AnswersBytes, TakesGiving}, Writes.IsNamedWritten}
+use Rattle.ciborium.specs.{Writes.WritesNamed, declared.{de.error.Error.Error, ser.error.Error.Error as WriteError}}
 use Rattle.ciborium.specs.laws.RoundTrips.{BytesReadBack, IsContentReadBack, IsGivenBack, TreeGivesContent}
-use Rattle.ciborium.specs.{laws.RoundTrips.TreeReadBack, TypedAnswers.{AnswersBytes, TakesGiving}}
-use Rattle.ciborium.specs.Writes.{IsNamedWritten, WritesNamed}
+use Rattle.ciborium.specs.laws.RoundTrips.{TreeReadBack}
 use Rattle.ciborium_value.specs.declared.error.Error.TheVariants as of_tree
 
 -- where a value is given no item is to blame

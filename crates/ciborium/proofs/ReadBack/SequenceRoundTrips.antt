@@ -2,20 +2,18 @@
 use Rattle.std.proofs.Common.{◌≡◌, ℕ, suc, ◌<◌, ◌≤◌, List, [], ◌∷◌, ◌++◌, length, map, All, Option, Some, None, Result}
 use Rattle.std.proofs.{Common.{Ok, Err, ◌+◌, refl, sym, ap, ◌∙◌, subst, arith}, Math.Nat.{le-max_left, le-max_right}}
 use Rattle.std.specs.declared.io.Error.{Error as IoError}
-use Rattle.ciborium_ll.specs.{Bytes.greatest_offset, Item.Item, Spells.Spells}
-use Rattle.ciborium_ll.proofs.UniqueSpelling.{one_at_front}
-use Rattle.ciborium_value.specs.{Encoding.{items_bytes, written_bytes}, Nesting.{Limit, IsWithin}, Places.items_from}
-use Rattle.ciborium_value.specs.{Readings.Reading, Sinks.{Named, all_named}, Sources.{Fault, of_kind, of_nesting}}
-use Rattle.ciborium_value.specs.Sources.{of_syntax, of_memory, of_device, of_end, of_length, IsOutsideFault}
-use Rattle.ciborium_value.specs.{Given.{Given, gives, outcome}, WrittenItems.AreWritten}
-use Rattle.ciborium_value.proofs.{Writing.Progress.and_then_is, Writing.ReadBack.written_spells_item}
-use Rattle.ciborium.specs.{declared.de.error.Error.Error, declared.de.error.Error.TheVariants.Io, Errors.fault_of}
-use Rattle.ciborium.specs.SequenceReads.{GivesInTurn, GivesThen, TakesSequence}
+use Rattle.ciborium_ll.{proofs.UniqueSpelling.one_at_front, specs.{Bytes.greatest_offset, Item.Item, Spells.Spells}}
+use Rattle.ciborium_value.proofs.Writing.{Progress.and_then_is, ReadBack.written_spells_item}
+use Rattle.ciborium_value.specs.{Encoding.{items_bytes, written_bytes}, Given.{Given, gives, outcome}, Nesting.Limit}
+use Rattle.ciborium_value.specs.{Nesting.IsWithin, Places.items_from, Readings.Reading, Sinks.{Named, all_named}}
+use Rattle.ciborium_value.specs.Sources.{Fault, of_kind, of_nesting, of_syntax, of_memory, of_device, of_end, of_length}
+use Rattle.ciborium_value.specs.{Sources.IsOutsideFault, WrittenItems.AreWritten}
+use Rattle.ciborium.proofs.{Encodings.Sequences.never-empty, ReadBack.RoundTrips.{not-blamed, one-content}}
+use Rattle.ciborium.specs.{Errors.fault_of, SequenceReads.{GivesInTurn, GivesThen, TakesSequence}}
+use Rattle.ciborium.specs.{SequenceWrites.{AllNamed, AreNamedWritten, WritesInTurn}, TypedAnswers.IsFaultAhead}
+use Rattle.ciborium.specs.declared.{de.error.Error.{Error, TheVariants.Io}, ser.error.Error.Error as WriteError}
 use Rattle.ciborium.specs.laws.SequenceRoundTrips.{AnswersSequence, AreContentsReadBack, AreGivenBack}
-use Rattle.ciborium.specs.{laws.SequenceRoundTrips.{SequenceReadsBack, longest}, SequenceWrites.AllNamed}
-use Rattle.ciborium.specs.{SequenceWrites.{AreNamedWritten, WritesInTurn}, declared.ser.error.Error.Error as WriteError}
-use Rattle.ciborium.specs.TypedAnswers.{IsFaultAhead}
-use Rattle.ciborium.proofs.{ReadBack.RoundTrips.{not-blamed, one-content}, Encodings.Sequences.never-empty}
+use Rattle.ciborium.specs.laws.SequenceRoundTrips.{SequenceReadsBack, longest}
 
 -- ---- faults that no item decides
 

@@ -2,17 +2,15 @@
 use Rattle.std.proofs.Common.{◌≡◌, ℕ, ◌+◌, Bool, List, ◌++◌, Option, Some, None, Result, Ok, Err, IfOk, IfErr, IfSome}
 use Rattle.std.proofs.Common.{OnOk, length, length-append, refl, sym, ap, ◌∙◌, subst, arith}
 use Rattle.std.specs.Io.KnownBytes.{Consumes}
-use Rattle.ciborium_ll.specs.{Decoding.{HasBegun, IsAheadBy, with_left, left_of}, Accesses.left_at_failure, Item.Item}
-use Rattle.ciborium_ll.specs.Spells.{Spells}
-use Rattle.ciborium_ll.proofs.Decoders.{begun-left}
-use Rattle.ciborium_value.specs.{Ahead.{bottom, item}, Readings.Reading, Sources.{Fault, IsGrantedFault, RefusesAhead}}
-use Rattle.ciborium_value.specs.{Sources.{TakesAhead, TakesItem}, View.read_as, Given.Given, Tree.Tree, Spelling.any}
-use Rattle.ciborium.specs.{declared.de.byte_source.ByteSource.ByteSource, declared.de.error.Error.Error}
-use Rattle.ciborium.specs.{ValueAnswers.TakesBytes, inner.ByteSources.{IsUnread, IsUnreadBy, ReadsValue, StandsBefore}}
-use Rattle.ciborium.specs.{inner.ByteSources.{end_at, known_end}, Errors.{HasEndedBy, fault_of}, NextItems.IsReadFrom}
-use Rattle.ciborium.specs.TypedAnswers.{IsFaultAhead, ReadsAsTypeFrom, TakesGiving}
+use Rattle.ciborium_ll.{proofs.Decoders.begun-left, specs.{Accesses.left_at_failure, Decoding.{HasBegun, IsAheadBy}}}
+use Rattle.ciborium_ll.specs.{Decoding.{with_left, left_of}, Item.Item, Spells.Spells}
+use Rattle.ciborium_value.specs.{Ahead.{bottom, item}, Given.Given, Readings.Reading, Sources.{Fault, IsGrantedFault}}
+use Rattle.ciborium_value.specs.{Sources.{RefusesAhead, TakesAhead, TakesItem}, Spelling.any, Tree.Tree, View.read_as}
 use Rattle.ciborium.proofs.Items.TakenOnly.{taken-beginning, taken-name, taken-none}
-use Rattle.ciborium.proofs.Readers.WhateverFollows.{taken-tree}
+use Rattle.ciborium.{proofs.Readers.WhateverFollows.taken-tree, specs.Errors.{HasEndedBy, fault_of}}
+use Rattle.ciborium.specs.{NextItems.IsReadFrom, TypedAnswers.{IsFaultAhead, ReadsAsTypeFrom, TakesGiving}}
+use Rattle.ciborium.specs.{ValueAnswers.TakesBytes, declared.de.{byte_source.ByteSource.ByteSource, error.Error.Error}}
+use Rattle.ciborium.specs.inner.ByteSources.{IsUnread, IsUnreadBy, ReadsValue, StandsBefore, end_at, known_end}
 
 module _ {S W A : Type 0} (remaining : S → Option (List ℕ)) (old : ByteSource S W) (taken : Given A) (b : List ℕ)
     (front : IsUnread remaining old b) (p : ℕ) (ends : end_at remaining old ≡ p + length b) where

@@ -1,15 +1,14 @@
 -- What is known of a reader whose bytes are known, from what holds of every reader.
 use Rattle.std.proofs.Common.{◌≡◌, ℕ, ◌+◌, ◌≤◌, List, [], ◌∷◌, ◌++◌, length, Option, Some, Result, Ok, Err, IfOk, IfErr}
 use Rattle.std.proofs.Common.{refl, sym, ap, ◌∙◌, subst, arith, length-append, append-nil, inl, inr, ◌⊎◌}
-use Rattle.ciborium_ll.specs.{Bytes.{AreBytes, greatest_offset}, Refusal.Refusal}
-use Rattle.ciborium_ll.proofs.Unread.{rest-of}
-use Rattle.ciborium_value.specs.{Counts.{node_count, payload_size}, ProperTrees.IsProperTree, Tree.Tree}
-use Rattle.ciborium_value.specs.{Spelling.{Spelling, IsReadAs}, Refuses.Refuses}
-use Rattle.ciborium_value.proofs.{GoodItems.Bounded.bounded, GoodItems.Accepted.anyway, GoodItems.Outcome.never_both}
-use Rattle.ciborium_value.proofs.{GoodItems.Outcome.{one_reading, read_bytes}, GoodItems.ProperMeanings.proper_meaning}
-use Rattle.ciborium.specs.{declared.de.error.Error.Error, ValueAnswers.{GivesTree, IsFailed, TakesBytes, IsRefusedBy}}
-use Rattle.ciborium.specs.ValueClauses.{ReadsWhole, TakesValue}
-use Rattle.ciborium.proofs.Readers.Outcomes.{only-fails}
+use Rattle.ciborium_ll.{proofs.Unread.rest-of, specs.{Bytes.{AreBytes, greatest_offset}, Refusal.Refusal}}
+use Rattle.ciborium_value.proofs.GoodItems.{Accepted.anyway, Bounded.bounded, Outcome.{never_both, one_reading}}
+use Rattle.ciborium_value.proofs.GoodItems.{Outcome.read_bytes, ProperMeanings.proper_meaning}
+use Rattle.ciborium_value.specs.{Counts.{node_count, payload_size}, ProperTrees.IsProperTree, Refuses.Refuses}
+use Rattle.ciborium_value.specs.{Spelling.{Spelling, IsReadAs}, Tree.Tree}
+use Rattle.ciborium.{proofs.Readers.Outcomes.only-fails, specs.ValueAnswers.{GivesTree, IsFailed, TakesBytes}}
+use Rattle.ciborium.specs.{ValueAnswers.IsRefusedBy, ValueClauses.{ReadsWhole, TakesValue}}
+use Rattle.ciborium.specs.declared.de.error.Error.{Error}
 use Rattle.ciborium_ll.specs.Refusal as refusal
 use Rattle.ciborium.specs.declared.de.error.Error.TheVariants as errors
 

@@ -3,27 +3,26 @@ use Rattle.std.proofs.Common.{◌≡◌, ℕ, ◌+◌, ◌<◌, Bool, List, [], 
 use Rattle.std.proofs.Common.{IfErr, IfNone, IfSome, refl, sym, ap, ◌∙◌, subst, append_assoc, arith, lit<}
 use Rattle.std.proofs.{Common.length-append, KnownBytes.{Consumes-nil, Consumes-trans}, lemmas.List.Elements.All-append}
 use Rattle.std.specs.Io.KnownBytes.{Consumes, IsAtEnd}
-use Rattle.ciborium_ll.specs.{declared.header.Header.Header, declared.header.Error.Error as LlError}
-use Rattle.ciborium_ll.specs.{declared.decoder.Decoder.Decoder, Accesses.{HasEnded, left_at_failure}}
+use Rattle.ciborium_ll.{proofs.{Decoders.begun-left, Unread.reads-head}, specs.Accesses.{HasEnded, left_at_failure}}
 use Rattle.ciborium_ll.specs.{Bytes.greatest_offset, Decoding.{HasBegun, HasSameReader, IsAheadBy, Takes, left_of}}
 use Rattle.ciborium_ll.specs.{Decoding.{next_offset, offset_of, with_left}, FirstHeads.{IsEndOrFault, IsFirstTaken}}
 use Rattle.ciborium_ll.specs.{ReaderSteps.{Advances, IsHeadTaken}, Refusal.{HeadRefuses, IsUsable}}
-use Rattle.ciborium_ll.proofs.{Unread.reads-head, Decoders.begun-left}
-use Rattle.ciborium_value.specs.{Readings.Reading, Refuses.Refuses, Sources.{IsGrantedFault, IsOutsideFault, TakesOnly}}
-use Rattle.ciborium_value.specs.{View.read_as, Given.{Given, outcome}, Tree.Tree, Spelling.any}
-use Rattle.ciborium_value.proofs.{GoodItems.Spelled.spells-pos, Sources.Sequences.fault_outside}
-use Rattle.ciborium.specs.{declared.de.byte_source.ByteSource.ByteSource, declared.de.error.Error.Error}
-use Rattle.ciborium.specs.{declared.de.error.Error.TheVariants.TooLong, ValueAnswers.TakesBytes}
-use Rattle.ciborium.specs.{ValueClauses.ReadsWhole, inner.ByteSources.{HasTakenSince, IsUnread, ReadsValue, end_at}}
-use Rattle.ciborium.specs.{Errors.{fault_of, from_ll}, NextItems.{IfNotEnded, IsReadIo, IsReadFrom, MatchItem}}
-use Rattle.ciborium.specs.NextItems.{MovesOffset, Otherwise, ReadsNextAsTypeFrom, ReadsNextAtFrom, TakesTo, TellsEnd}
-use Rattle.ciborium.specs.{NextItems.{TellsEndAt, behind_head}, TypedAnswers.{IsFaultAhead, RefusesGiven, TakesGiven}}
-use Rattle.ciborium.proofs.Items.FrontReads.{ended-ll, failed-fault, granted-head, head-outside}
-use Rattle.ciborium.proofs.Readers.HandedReaders.{handed-denied, handed-given, handed-memory, on-ok, some-map}
-use Rattle.ciborium.proofs.{Items.ItemHeads.{first-head, first-payload, header_of}, Readers.KnownReaders.whole-of}
-use Rattle.ciborium.proofs.{Turns.Pulled.{refused-from, refused-map}, Items.TakenOnly.{taken-beginning, taken-none}}
+use Rattle.ciborium_ll.specs.declared.{decoder.Decoder.Decoder, header.{Error.Error as LlError, Header.Header}}
+use Rattle.ciborium_value.{proofs.{GoodItems.Spelled.spells-pos, Sources.Sequences.fault_outside}, specs.Given.Given}
+use Rattle.ciborium_value.specs.{Given.outcome, Readings.Reading, Refuses.Refuses, Sources.IsGrantedFault}
+use Rattle.ciborium_value.specs.{Sources.{IsOutsideFault, TakesOnly}, Spelling.any, Tree.Tree, View.read_as}
+use Rattle.ciborium.proofs.Items.{FrontReads.{ended-ll, failed-fault, granted-head, head-outside}, ItemHeads.first-head}
+use Rattle.ciborium.proofs.Items.{ItemHeads.{first-payload, header_of}, TakenOnly.{taken-beginning, taken-none}}
 use Rattle.ciborium.proofs.Items.TakenOnly.{taken-then, taken-to, takes-end, takes-only}
-use Rattle.ciborium.proofs.Readers.WhateverFollows.{taken-tree}
+use Rattle.ciborium.proofs.Readers.HandedReaders.{handed-denied, handed-given, handed-memory, on-ok, some-map}
+use Rattle.ciborium.proofs.{Readers.{KnownReaders.whole-of, WhateverFollows.taken-tree}, Turns.Pulled.refused-from}
+use Rattle.ciborium.{proofs.Turns.Pulled.refused-map, specs.{Errors.{fault_of, from_ll}, NextItems.IfNotEnded}}
+use Rattle.ciborium.specs.NextItems.{IsReadIo, IsReadFrom, MatchItem, MovesOffset, Otherwise, ReadsNextAsTypeFrom}
+use Rattle.ciborium.specs.NextItems.{ReadsNextAtFrom, TakesTo, TellsEnd, TellsEndAt, behind_head}
+use Rattle.ciborium.specs.{TypedAnswers.{IsFaultAhead, RefusesGiven, TakesGiven}, ValueAnswers.TakesBytes}
+use Rattle.ciborium.specs.{ValueClauses.ReadsWhole, declared.de.{byte_source.ByteSource.ByteSource, error.Error.Error}}
+use Rattle.ciborium.specs.{declared.de.error.Error.TheVariants.TooLong, inner.ByteSources.{HasTakenSince, IsUnread}}
+use Rattle.ciborium.specs.inner.ByteSources.{ReadsValue, end_at}
 use Rattle.ciborium_ll.specs.declared.header.Error.TheVariants as ll
 use Rattle.ciborium_ll.specs.FirstHeads as first_heads
 use Rattle.ciborium_ll.specs.Refusal as refusal

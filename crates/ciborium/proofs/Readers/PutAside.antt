@@ -1,12 +1,11 @@
 -- What is said of an answer does not look at what an error holds of the reader.
 use Rattle.std.proofs.Common.{◌≡◌, ℕ, Bool, List, Option, Some, Result, Err, IfErr, refl, sym, subst}
-use Rattle.ciborium_ll.specs.{declared.decoder.Decoder.Decoder, Decoding.{HasSameReader, IsAheadBy, TakesBeforeAny}}
-use Rattle.ciborium_ll.specs.{Decoding.left_of, Refusal.Refusal}
-use Rattle.ciborium.specs.{declared.de.byte_source.ByteSource.ByteSource, declared.de.error.Error.Error}
-use Rattle.ciborium.specs.{inner.Turns.IsTreeRead, inner.ByteSources.ReadsValue, Errors.{fault_of, HasEndedBy}}
-use Rattle.ciborium.specs.{Errors.without_reader_error, ValueAnswers.IsRefusedBy, inner.ValuesInBytes.HasEndedAfter}
-use Rattle.ciborium_value.specs.{Tree.Tree, Spelling.{Spelling, any}, Refuses.Refuses}
-use Rattle.ciborium.proofs.Readers.WhateverFollows.{TreeSo}
+use Rattle.ciborium_ll.specs.{Decoding.{HasSameReader, IsAheadBy, TakesBeforeAny, left_of}, Refusal.Refusal}
+use Rattle.ciborium_ll.specs.declared.decoder.Decoder.{Decoder}
+use Rattle.ciborium.{proofs.Readers.WhateverFollows.TreeSo, specs.Errors.{fault_of, HasEndedBy, without_reader_error}}
+use Rattle.ciborium.specs.{ValueAnswers.IsRefusedBy, declared.de.{byte_source.ByteSource.ByteSource, error.Error.Error}}
+use Rattle.ciborium.specs.inner.{ByteSources.ReadsValue, Turns.IsTreeRead, ValuesInBytes.HasEndedAfter}
+use Rattle.ciborium_value.specs.{Refuses.Refuses, Spelling.{Spelling, any}, Tree.Tree}
 use Rattle.ciborium.specs.declared.de.error.Error.TheVariants as errors
 
 pub same-cause : {E : Type 0} (left : Option (List ℕ)) (e : Error E) →

@@ -2,22 +2,19 @@
 use Rattle.std.proofs.Common.{◌≡◌, ℕ, ◌+◌, ◌<◌, ◌≤◌, inr, List, [], ◌++◌, Option, Some, None, Result, Ok, Err, OnOk}
 use Rattle.std.proofs.Common.{IfSome, IfNone, MatchOption, refl, sym, ap, ◌∙◌, subst, arith, append_assoc, append-nil}
 use Rattle.std.proofs.{Common.{length-append, length}, KnownBytes.{Consumes-nil, Consumes-trans}}
-use Rattle.std.proofs.lemmas.List.Elements.{All-append}
-use Rattle.std.specs.Io.KnownBytes.{Consumes}
-use Rattle.ciborium_ll.specs.{declared.header.Header.Header, declared.header.Error.Error as LlError}
-use Rattle.ciborium_ll.specs.{declared.decoder.Decoder.Decoder, Decoding.{HasBegun, IsAhead, IsAheadBy, ReadsNothing}}
-use Rattle.ciborium_ll.specs.{Decoding.{Pulls, PullsTo, Takes, TakesBeforeAny, with_left, left_of}, Bytes.AreBytes}
-use Rattle.ciborium_ll.specs.{Bytes.greatest_offset, ReaderSteps.IsHeadTaken, StringRefusal.StringKind}
-use Rattle.ciborium_ll.specs.{StringRefusal.{ContentRefuses, IsAllowed}, Decoded.IsVisited}
-use Rattle.ciborium_ll.specs.{declared.header.Error.TheVariants.{Io, Syntax, TooLong, Memory}, Strings.IsStringTaken}
+use Rattle.std.{proofs.lemmas.List.Elements.All-append, specs.Io.KnownBytes.Consumes}
 use Rattle.ciborium_ll.proofs.{Decoders.{unread-left, begun-left, unread-count}, Unread.{pulls-head, reads-string}}
-use Rattle.ciborium_ll.proofs.Unread.{rest-of}
-use Rattle.ciborium_value.specs.{Tree.Tree, View.tree_of, declared.tree.Value.Value, inner.ReadItems.string_tree}
-use Rattle.ciborium_value.specs.Spelling.{Spelling, any, deterministic, IsReadAs}
-use Rattle.ciborium.specs.{declared.de.error.Error.Error, ValueAnswers.{IsTakenFrom, TakesBytes}}
-use Rattle.ciborium.specs.{inner.Turns.IsTreeRead, Errors.from_ll, inner.ValuesInBytes.{IsAt, StandsAt}}
-use Rattle.ciborium.specs.inner.StringAnswers.{IsStringRead}
-use Rattle.ciborium.proofs.{Turns.Fronts.ahead-at, Readers.Outcomes.left-at, Turns.Pulled.refused-from}
+use Rattle.ciborium_ll.{proofs.Unread.rest-of, specs.{Bytes.{AreBytes, greatest_offset}, Decoded.IsVisited}}
+use Rattle.ciborium_ll.specs.Decoding.{HasBegun, IsAhead, IsAheadBy, ReadsNothing, Pulls, PullsTo, Takes}
+use Rattle.ciborium_ll.specs.{Decoding.{TakesBeforeAny, with_left, left_of}, ReaderSteps.IsHeadTaken}
+use Rattle.ciborium_ll.specs.{StringRefusal.{StringKind, ContentRefuses, IsAllowed}, Strings.IsStringTaken}
+use Rattle.ciborium_ll.specs.declared.{decoder.Decoder.Decoder, header.Error.{Error as LlError, TheVariants.Io}}
+use Rattle.ciborium_ll.specs.declared.header.{Error.TheVariants.{Syntax, TooLong, Memory}, Header.Header}
+use Rattle.ciborium_value.specs.{Spelling.{Spelling, any, deterministic, IsReadAs}, Tree.Tree, View.tree_of}
+use Rattle.ciborium_value.specs.{declared.tree.Value.Value, inner.ReadItems.string_tree}
+use Rattle.ciborium.proofs.{Readers.Outcomes.left-at, Turns.{Fronts.ahead-at, Pulled.refused-from}}
+use Rattle.ciborium.specs.{Errors.from_ll, ValueAnswers.{IsTakenFrom, TakesBytes}, declared.de.error.Error.Error}
+use Rattle.ciborium.specs.inner.{StringAnswers.IsStringRead, Turns.IsTreeRead, ValuesInBytes.{IsAt, StandsAt}}
 use Rattle.ciborium_ll.specs.ReaderSteps as reading
 
 no-bytes : AreBytes []

@@ -2,23 +2,20 @@
 use Rattle.std.proofs.Common.{◌≡◌, ℕ, ◌+◌, ◌<◌, ◌≤◌, cond, eqb, Bool, true, false, List, [], ◌∷◌, ◌++◌, length, Option}
 use Rattle.std.proofs.Common.{Some, None, MatchOption, Ok, refl, sym, ap, ◌∙◌, subst, arith, eqb-true, lt-ltb, inl, inr}
 use Rattle.std.proofs.lemmas.Bool.{eqb-false}
-use Rattle.ciborium_ll.specs.{declared.decoder.Decoder.Decoder, declared.header.Header.Header, Decoding.IsAhead}
-use Rattle.ciborium_ll.specs.{Decoding.{IsMeasured, Takes, TakesBeforeAny, offset_of, with_left}, Head.IsHead}
-use Rattle.ciborium_ll.specs.{Head.{IsSimple, shortest_head}, Header.{SpellsHeader, IsCounted}, Refusal.HeadRefuses}
-use Rattle.ciborium_ll.specs.Refusal.{IsUsable}
-use Rattle.ciborium_ll.proofs.ShortestHead.{none_is_shorter}
-use Rattle.ciborium_value.specs.{declared.key_order.KeyOrder.KeyOrder, declared.kind.Kind.Kind, Refuses.HasGoodHead}
-use Rattle.ciborium_value.specs.{Refuses.Refuses, Spelling.{Spelling, any, deterministic, spelling_fault}, Tree.Tree}
-use Rattle.ciborium_value.specs.inner.ReadItems.{ReadsItem}
+use Rattle.ciborium_ll.{proofs.ShortestHead.none_is_shorter, specs.Decoding.{IsAhead, IsMeasured, Takes}}
+use Rattle.ciborium_ll.specs.{Decoding.{TakesBeforeAny, offset_of, with_left}, Head.{IsHead, IsSimple, shortest_head}}
+use Rattle.ciborium_ll.specs.{Header.{SpellsHeader, IsCounted}, Refusal.{HeadRefuses, IsUsable}}
+use Rattle.ciborium_ll.specs.declared.{decoder.Decoder.Decoder, header.Header.Header}
 use Rattle.ciborium_value.proofs.GoodItems.Faults.{short-fault, fault-head, fault-open, fault-break, fault-float}
-use Rattle.ciborium_value.proofs.GoodItems.Faults.{fault-simple, fault-undefined}
-use Rattle.ciborium.specs.{declared.de.error.Error.Error, declared.de.error.Error.TheVariants.Semantic}
-use Rattle.ciborium.specs.{ValueAnswers.{IsNamed, IsRefusedBy, refusal_kind_of}, inner.Parts.IsHeadAccepted}
-use Rattle.ciborium.specs.{inner.Parts.{IsHeadMeasured, RefusesPart}, inner.Rules.{long_fault, counted_fault}}
-use Rattle.ciborium.specs.{inner.Rules.{deterministic_fault, head_fault}, inner.ValuesInBytes.{IsAt, IsPulled}}
-use Rattle.ciborium.specs.inner.ValuesInBytes.{StandsAt}
+use Rattle.ciborium_value.{proofs.GoodItems.Faults.{fault-simple, fault-undefined}, specs.Refuses.HasGoodHead}
+use Rattle.ciborium_value.specs.{Refuses.Refuses, Spelling.{Spelling, any, deterministic, spelling_fault}, Tree.Tree}
+use Rattle.ciborium_value.specs.{declared.{key_order.KeyOrder.KeyOrder, kind.Kind.Kind}, inner.ReadItems.ReadsItem}
 use Rattle.ciborium.proofs.{Readers.WhateverFollows.so-both, Turns.Fronts.{front-of, IsNoBreak, no-break}}
-use Rattle.ciborium.proofs.{Turns.Fronts.{head-no-break, ahead-at, offset-at, PullsSo}, Turns.Pulled.refused-map}
+use Rattle.ciborium.proofs.Turns.{Fronts.{head-no-break, ahead-at, offset-at, PullsSo}, Pulled.refused-map}
+use Rattle.ciborium.specs.{ValueAnswers.{IsNamed, IsRefusedBy, refusal_kind_of}, declared.de.error.Error.Error}
+use Rattle.ciborium.specs.{declared.de.error.Error.TheVariants.Semantic, inner.Parts.{IsHeadAccepted, IsHeadMeasured}}
+use Rattle.ciborium.specs.inner.{Parts.RefusesPart, Rules.{long_fault, counted_fault, deterministic_fault, head_fault}}
+use Rattle.ciborium.specs.inner.ValuesInBytes.{IsAt, IsPulled, StandsAt}
 use Rattle.ciborium_ll.specs.declared.header.Header.TheVariants as header
 use Rattle.ciborium_ll.specs.Refusal as refusal
 use Rattle.ciborium_value.specs.declared.kind.Kind.TheVariants as kinds

@@ -1,20 +1,19 @@
 -- What a head gives or refuses by itself, in each spelling.
 use Rattle.std.proofs.Common.{◌≡◌, ℕ, suc, ◌+◌, ◌-◌, ◌<◌, ◌≤◌, Bool, true, false, List, [], ◌∷◌, ◌++◌, length, Option}
 use Rattle.std.proofs.Common.{Some, None, Result, Ok, Err, pos, negsuc, refl, sym, ap, ◌∙◌, subst, arith, inl, inr}
-use Rattle.ciborium_ll.specs.{declared.decoder.Decoder.Decoder, declared.header.Header.Header, Bytes.greatest_offset}
-use Rattle.ciborium_ll.specs.{Decoding.left_of, Head.break_byte, Header.SpellsHeader, Refusal.{Refusal, semantic}}
-use Rattle.ciborium_ll.specs.Refusal.{recursion_limit_exceeded, IsUsable}
-use Rattle.ciborium_value.specs.{Meaning.simple_meaning, Refuses.{Due, items, keys, BeginsContainer, IsInside, Refuses}}
-use Rattle.ciborium_value.specs.{Spelling.Spelling, Tree.Tree, View.tree_of, inner.ReadItems.ReadsItem}
+use Rattle.ciborium_ll.specs.{Bytes.greatest_offset, Decoding.left_of, Head.break_byte, Header.SpellsHeader}
+use Rattle.ciborium_ll.specs.Refusal.{Refusal, semantic, recursion_limit_exceeded, IsUsable}
+use Rattle.ciborium_ll.specs.declared.{decoder.Decoder.Decoder, header.Header.Header}
 use Rattle.ciborium_value.proofs.GoodItems.Introduced.{reads-positive, reads-negative, reads-simple, inside-begun}
-use Rattle.ciborium_value.proofs.GoodItems.Introduced.{reads-container}
-use Rattle.ciborium.specs.{declared.de.error.Error.Error, declared.de.front.Part.Part}
-use Rattle.ciborium.specs.{declared.de.front.Part.TheVariants.{Whole, Begun, Ended}, ValueAnswers.IsRefusedBy}
-use Rattle.ciborium.specs.{inner.Around.IsOpen, inner.Parts.{IsHeadAccepted, IsPartRead, RefusesPart, IsContainerBegun}}
+use Rattle.ciborium_value.{proofs.GoodItems.Introduced.reads-container, specs.{Meaning.simple_meaning, Refuses.Due}}
+use Rattle.ciborium_value.specs.{Refuses.{items, keys, BeginsContainer, IsInside, Refuses}, Spelling.Spelling}
+use Rattle.ciborium_value.specs.{Tree.Tree, View.tree_of, inner.ReadItems.ReadsItem}
+use Rattle.ciborium.proofs.Turns.{Fronts.{Front, front-of, front-fits, IsNoBreak, no-break}, Heads.{Got, got}}
+use Rattle.ciborium.{proofs.Turns.Heads.{good-head, stands-at}, specs.ValueAnswers.IsRefusedBy}
+use Rattle.ciborium.specs.declared.de.{error.Error.Error, front.Part.{Part, TheVariants.{Whole, Begun, Ended}}}
+use Rattle.ciborium.specs.inner.{Around.IsOpen, Parts.{IsHeadAccepted, IsPartRead, RefusesPart, IsContainerBegun}}
 use Rattle.ciborium.specs.inner.Parts.{IsBehind, container_header, empty_container, begun_container}
 use Rattle.ciborium.specs.inner.ValuesInBytes.{StandsAt}
-use Rattle.ciborium.proofs.{Turns.Fronts.{Front, front-of, front-fits, IsNoBreak, no-break}, Turns.Heads.{Got, got}}
-use Rattle.ciborium.proofs.Turns.Heads.{good-head, stands-at}
 use Rattle.ciborium_ll.specs.declared.header.Header.TheVariants as header
 use Rattle.ciborium_ll.specs.Refusal as refusal
 use Rattle.ciborium_value.specs.Tree as trees

@@ -1,19 +1,18 @@
 -- The answers of one turn.
 use Rattle.std.proofs.Common.{◌≡◌, ℕ, zero, suc, ◌+◌, ◌-◌, ◌<◌, ◌≤◌, List, [], ◌∷◌, ◌++◌, length, Option, Some, None}
 use Rattle.std.proofs.Common.{Result, Ok, Err, IfOk, MatchOption, IsSome, refl, sym, ap, ◌∙◌, subst, arith, inl, inr}
-use Rattle.ciborium_ll.specs.{Bytes.greatest_offset, declared.decoder.Decoder.Decoder, Decoding.{offset_of, left_of}}
-use Rattle.ciborium_ll.specs.{Head.break_byte, Refusal.{semantic, Break}}
-use Rattle.ciborium_value.specs.{declared.tree.Value.Value, declared.stack.NewFrame.NewFrame, inner.Frames.TreeFrame}
-use Rattle.ciborium_value.specs.{inner.Frames.{array, map, tag, Placed, more, placed, closed}, Refuses.Refuses}
-use Rattle.ciborium_value.specs.{Spelling.Spelling, inner.ReadItems.ReadsItem, inner.Stack.begun_frame, Tree.Tree}
-use Rattle.ciborium_value.specs.View.{tree_of, trees_from, tree_pairs_from}
-use Rattle.ciborium_value.proofs.GoodItems.Steps.{opened-has}
-use Rattle.ciborium.specs.{declared.de.error.Error.Error, declared.de.front.Part.Part}
-use Rattle.ciborium.specs.{declared.de.front.Part.TheVariants.{Whole, Begun, Ended}, inner.Turns.IsPlacedInOrder}
-use Rattle.ciborium.specs.{inner.Turns.{IsReading, IsTurned}, inner.Around.IsAround, ValueAnswers.IsRefusedBy}
-use Rattle.ciborium.specs.{inner.Parts.{IsPartRead, RefusesPart}, inner.ValuesInBytes.StandsAt}
-use Rattle.ciborium.proofs.{Turns.Heads.{ahead-of, stands-offset}, Turns.Pulled.refused-map, Turns.Turning.EndsHere}
-use Rattle.ciborium.proofs.Turns.Turning.{Lands, LandsIn, landed, kept, disordered, closed-item, refused-turn}
+use Rattle.ciborium_ll.specs.{Bytes.greatest_offset, Decoding.{offset_of, left_of}, Head.break_byte, Refusal.semantic}
+use Rattle.ciborium_ll.specs.{Refusal.Break, declared.decoder.Decoder.Decoder}
+use Rattle.ciborium_value.{proofs.GoodItems.Steps.opened-has, specs.{Refuses.Refuses, Spelling.Spelling, Tree.Tree}}
+use Rattle.ciborium_value.specs.{View.{tree_of, trees_from, tree_pairs_from}, declared.stack.NewFrame.NewFrame}
+use Rattle.ciborium_value.specs.{declared.tree.Value.Value, inner.Frames.{TreeFrame, array, map, tag, Placed, more}}
+use Rattle.ciborium_value.specs.inner.{Frames.{placed, closed}, ReadItems.ReadsItem, Stack.begun_frame}
+use Rattle.ciborium.proofs.Turns.{Heads.{ahead-of, stands-offset}, Pulled.refused-map, Turning.{EndsHere, Lands}}
+use Rattle.ciborium.proofs.Turns.Turning.{LandsIn, landed, kept, disordered, closed-item, refused-turn}
+use Rattle.ciborium.specs.{ValueAnswers.IsRefusedBy, declared.de.{error.Error.Error, front.Part.Part}}
+use Rattle.ciborium.specs.{declared.de.front.Part.TheVariants.{Whole, Begun, Ended}, inner.Around.IsAround}
+use Rattle.ciborium.specs.inner.{Parts.{IsPartRead, RefusesPart}, Turns.{IsPlacedInOrder, IsReading, IsTurned}}
+use Rattle.ciborium.specs.inner.ValuesInBytes.{StandsAt}
 use Rattle.ciborium_value.specs.Tree as trees
 
 -- a value was placed, and its key judged

@@ -1,15 +1,14 @@
 -- Values are written one after the other: how far, and what it says of all.
 use Rattle.std.proofs.Common.{◌≡◌, ℕ, ◌+◌, ◌<◌, ◌≤◌, List, [], ◌∷◌, ◌++◌, length, take, Option, Ok, Err, refl, sym, ap}
-use Rattle.std.proofs.{Common.{◌∙◌, subst, append-nil, append_assoc, arith, length-append}, Math.Seq.take-append-add}
-use Rattle.std.proofs.{lemmas.List.take-append-le, KnownBytes.{Appends-nil, Appends-trans}}
+use Rattle.std.proofs.{Common.{◌∙◌, subst, append-nil, append_assoc, arith, length-append}, KnownBytes.Appends-nil}
+use Rattle.std.proofs.{KnownBytes.Appends-trans, Math.Seq.take-append-add, lemmas.List.take-append-le}
 use Rattle.std.specs.Io.KnownBytes.{Appends}
 use Rattle.ciborium_ll.specs.{Item.Item, Writing.Writes}
-use Rattle.ciborium_value.specs.{Encoding.{items_bytes, written_bytes}, Places.items_from, Progress.IsOwedAmong}
-use Rattle.ciborium_value.specs.{Sinks.{Named, Cause, value, IsOwed, all_named, and_then}, WrittenItems.AreWritten}
-use Rattle.ciborium_value.proofs.Writing.Standing.{items_bytes-append}
-use Rattle.ciborium.specs.{SequenceWrites.{AllNamed, AreNamedWritten, WritesInTurn}, Writes.IsNamedWritten}
-use Rattle.ciborium.specs.Writes.{WritesNamed}
-use Rattle.ciborium.proofs.Writing.WrittenPlaces.{AreWritten-more}
+use Rattle.ciborium_value.{proofs.Writing.Standing.items_bytes-append, specs.Encoding.{items_bytes, written_bytes}}
+use Rattle.ciborium_value.specs.{Places.items_from, Progress.IsOwedAmong, Sinks.{Named, Cause, value, IsOwed}}
+use Rattle.ciborium_value.specs.{Sinks.{all_named, and_then}, WrittenItems.AreWritten}
+use Rattle.ciborium.{proofs.Writing.WrittenPlaces.AreWritten-more, specs.SequenceWrites.{AllNamed, AreNamedWritten}}
+use Rattle.ciborium.specs.{SequenceWrites.WritesInTurn, Writes.{IsNamedWritten, WritesNamed}}
 
 -- these items, and then what the others name
 abbrev pub named_behind : List Item → AllNamed → AllNamed

@@ -1,18 +1,17 @@
 -- What stands at the front of what is ahead, with l levels left.
 use Rattle.std.specs.Prelude.{◌≡◌, ℕ, suc, ◌+◌, ◌<◌, ◌≤◌, ◌⊎◌, List, [], ◌∷◌, ◌++◌, length, Option, Some, None, Result}
 use Rattle.std.specs.Prelude.{Ok, Err, Bool, true, false}
-use Rattle.ciborium_ll.specs.{declared.header.Header.Header, declared.decoder.Decoder.Decoder, Bytes.AreBytes}
-use Rattle.ciborium_ll.specs.{Bytes.greatest_offset, Decoding.left_of, Head.break_byte, Refusal.{Refusal, HeadRefuses}}
-use Rattle.ciborium_ll.specs.Refusal.{io, semantic, NotFolded, TooLarge}
-use Rattle.ciborium_value.specs.{declared.tree.Value.Value, Meaning.{simple_meaning, bignum_meaning, is_bignum_tag}}
-use Rattle.ciborium_value.specs.{inner.Frames.{TreeFrame, array, map}, Refuses.Refuses, inner.Stack.begun_frame}
-use Rattle.ciborium_value.specs.{Tree.Tree, View.tree_of, inner.ReadItems.ReadsItem, Spelling.{Spelling, any}}
-use Rattle.ciborium_value.specs.Spelling.{deterministic, IsUnwanted}
-use Rattle.ciborium.specs.{declared.de.error.Error.Error, declared.de.error.Error.TheVariants.Semantic}
-use Rattle.ciborium.specs.declared.de.error.Error.TheVariants.{RecursionLimitExceeded, Memory}
-use Rattle.ciborium.specs.{declared.de.front.Part.Part, declared.de.front.Part.TheVariants.{Whole, Begun, Ended}}
-use Rattle.ciborium.specs.{inner.Around.IsOpen, ValueAnswers.IsRefusedBy, inner.ValuesInBytes.{IsAt, IsPulled}}
-use Rattle.ciborium.specs.{inner.ValuesInBytes.{IsBreakAt, StandsAt}, inner.Rules.head_fault}
+use Rattle.ciborium_ll.specs.{Bytes.{AreBytes, greatest_offset}, Decoding.left_of, Head.break_byte, Refusal.Refusal}
+use Rattle.ciborium_ll.specs.Refusal.{HeadRefuses, io, semantic, NotFolded, TooLarge}
+use Rattle.ciborium_ll.specs.declared.{decoder.Decoder.Decoder, header.Header.Header}
+use Rattle.ciborium_value.specs.{Meaning.{simple_meaning, bignum_meaning, is_bignum_tag}, Refuses.Refuses}
+use Rattle.ciborium_value.specs.{Spelling.{Spelling, any, deterministic, IsUnwanted}, Tree.Tree, View.tree_of}
+use Rattle.ciborium_value.specs.{declared.tree.Value.Value, inner.{Frames.{TreeFrame, array, map}, ReadItems.ReadsItem}}
+use Rattle.ciborium_value.specs.inner.Stack.{begun_frame}
+use Rattle.ciborium.specs.{ValueAnswers.IsRefusedBy, declared.de.error.Error.{Error, TheVariants.Semantic}}
+use Rattle.ciborium.specs.declared.de.{error.Error.TheVariants.{RecursionLimitExceeded, Memory}, front.Part.Part}
+use Rattle.ciborium.specs.{declared.de.front.Part.TheVariants.{Whole, Begun, Ended}, inner.Around.IsOpen}
+use Rattle.ciborium.specs.inner.{Rules.head_fault, ValuesInBytes.{IsAt, IsPulled, IsBreakAt, StandsAt}}
 use Rattle.ciborium_ll.specs.declared.header.Header.TheVariants as header
 use Rattle.ciborium_value.specs.declared.kind.Kind.TheVariants as kinds
 use Rattle.ciborium_value.specs.Tree as trees

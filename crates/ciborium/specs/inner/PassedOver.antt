@@ -1,11 +1,10 @@
 -- An item that is passed over head by head, within a limit of levels: what is still to come of it.
 use Rattle.std.specs.Prelude.{◌≡◌, ℕ, zero, suc, ◌+◌, ◌-◌, ◌≤◌, Bool, true, false, List, [], ◌∷◌, ◌++◌, length, reverse}
 use Rattle.std.specs.Prelude.{Option, Some, None, ◌↔◌}
-use Rattle.ciborium_ll.specs.{declared.header.Header.Header, declared.levels.Level.Level}
-use Rattle.ciborium_ll.specs.declared.levels.Level.TheVariants.{Items, OpenItems, OpenKeys, OpenValues, ByteChunks}
-use Rattle.ciborium_ll.specs.{declared.levels.Level.TheVariants.TextChunks, Head.break_byte, Item.Item}
-use Rattle.ciborium_ll.specs.{Header.SpellsHeader, Levels.IsPayloadOf, Spells.{AreChunks, Spells}}
-use Rattle.ciborium_ll.specs.StringRefusal.{IsAllowed, StringKind, of_bytes, of_text, string_major}
+use Rattle.ciborium_ll.specs.{Head.break_byte, Header.SpellsHeader, Item.Item, Levels.IsPayloadOf, Spells.AreChunks}
+use Rattle.ciborium_ll.specs.{Spells.Spells, StringRefusal.{IsAllowed, StringKind, of_bytes, of_text, string_major}}
+use Rattle.ciborium_ll.specs.declared.{header.Header.Header, levels.Level.{Level, TheVariants.{Items, OpenItems}}}
+use Rattle.ciborium_ll.specs.declared.levels.Level.TheVariants.{OpenKeys, OpenValues, ByteChunks, TextChunks}
 use Rattle.ciborium_value.specs.{Meaning.is_bignum_tag, Nesting.{Limit, IsWithin, nesting}, Sources.Fault}
 use Rattle.ciborium_value.specs.Sources.{IsOutsideFault, of_nesting}
 use Rattle.ciborium.specs.declared.de.byte_source.skipping.Unfinished.{Unfinished}

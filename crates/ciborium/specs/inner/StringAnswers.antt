@@ -1,13 +1,12 @@
 -- What reading the payload of a string answers.
 use Rattle.std.specs.Prelude.{◌≡◌, ℕ, ◌+◌, ◌≤◌, List, ◌++◌, length, Option, Result, Ok, Err, Bool, true, false, None}
 use Rattle.std.specs.Prelude.{Some}
-use Rattle.ciborium_ll.specs.{declared.decoder.Decoder.Decoder, Bytes.greatest_offset, Decoding.left_of}
-use Rattle.ciborium_ll.specs.StringRefusal.{StringKind, of_bytes, of_text, ContentRefuses, IsAllowed}
-use Rattle.ciborium_ll.specs.Strings.{IsStringTaken}
-use Rattle.ciborium_value.specs.{declared.tree.Value.Value, View.tree_of, inner.ReadItems.string_tree}
-use Rattle.ciborium.specs.{declared.de.error.Error.Error, declared.de.held.Copied.Copied}
-use Rattle.ciborium.specs.{declared.de.held.Copied.TheVariants.{Whole, NoText, NoMemory}, ValueAnswers.IsRefusedBy}
-use Rattle.ciborium.specs.inner.ValuesInBytes.{IsAt}
+use Rattle.ciborium_ll.specs.{Bytes.greatest_offset, Decoding.left_of, StringRefusal.{StringKind, of_bytes, of_text}}
+use Rattle.ciborium_ll.specs.{StringRefusal.{ContentRefuses, IsAllowed}, Strings.IsStringTaken}
+use Rattle.ciborium_ll.specs.declared.decoder.Decoder.{Decoder}
+use Rattle.ciborium_value.specs.{View.tree_of, declared.tree.Value.Value, inner.ReadItems.string_tree}
+use Rattle.ciborium.specs.{ValueAnswers.IsRefusedBy, declared.de.{error.Error.Error, held.Copied.Copied}}
+use Rattle.ciborium.specs.{declared.de.held.Copied.TheVariants.{Whole, NoText, NoMemory}, inner.ValuesInBytes.IsAt}
 
 abbrev pub string_kind : Bool → StringKind
 string_kind true = of_text

@@ -1,6 +1,5 @@
 -- Equal contents are written alike under equal tags (RFC 8949, section 3.4).
-use Rattle.std.proofs.Common.{ap, ◌∙◌}
-use Rattle.std.specs.Prelude.{◌≡◌, ℕ, Option}
+use Rattle.std.{proofs.Common.{ap, ◌∙◌}, specs.Prelude.{◌≡◌, ℕ, Option}}
 use Rattle.ciborium_value.specs.{Sinks.{Named, tag_of}, WrittenContents.IsWrittenByContent}
 use Rattle.ciborium.specs.Tags.{captured_of}
 

@@ -2,19 +2,17 @@
 use Rattle.std.proofs.Common.{true, ◌≡◌, ◌≢◌, ◌<◌, ◌≤◌, IfErr, IfOk, Ok, Err, Result, refl, ℕ, Vec, Global, Box, length}
 use Rattle.std.proofs.{Common.{arith, List, [], ◌∷◌, ◌++◌, map, reverse, ap, ◌∙◌, subst, sym}, lemmas.List.length-map}
 use Rattle.std.proofs.lemmas.List.{length-reverse, map-append, reverse-append}
-use Rattle.ciborium_value.specs.declared.from_notation.levels.Level.{Level}
-use Rattle.ciborium_value.specs.{declared.from_notation.tokens.Token.Token as Read, declared.tree.Value.Value}
-use Rattle.ciborium_value.specs.{Tokens.Token, Tree.Tree, View.{pair_trees, tree_of, tree_pairs_from, trees_from}}
-use Rattle.ciborium_value.specs.inner.ReadTokens.{Around, Await, Leads, around_of, behind, in_array, in_keys, item}
-use Rattle.ciborium_value.specs.inner.ReadTokens.{Completes, IsMisplaced, IsRoom, array_part, await_of, in_tag}
-use Rattle.ciborium_value.specs.inner.ReadTokens.{in_values, map_part, opens, token_read}
-use Rattle.ciborium_value.specs.{declared.from_notation.error.NotationError.NotationError, Denotes.At}
-use Rattle.ciborium_value.specs.declared.from_notation.error.NotationFault.TheVariants.{TooDeep}
-use Rattle.ciborium_value.specs.declared.from_notation.levels.Due.{Due}
 use Rattle.ciborium_value.proofs.Denoting.Steps.{Begun, first-item, first-key, first_leads, key_leads, leads-array}
 use Rattle.ciborium_value.proofs.Denoting.Steps.{leads-comma, leads-end, leads-leaf, leads-map, leads-map-end}
 use Rattle.ciborium_value.proofs.Denoting.Steps.{leads-next-key, leads-no-item, leads-no-pair, leads-tag, leads-tag-end}
 use Rattle.ciborium_value.proofs.{Denoting.Steps.opens-deeper, Trees.Views.{tree_of-Array, tree_of-Map, tree_of-Tag}}
+use Rattle.ciborium_value.specs.{Denotes.At, Tokens.Token, Tree.Tree, View.{pair_trees, tree_of, tree_pairs_from}}
+use Rattle.ciborium_value.specs.{View.trees_from, declared.from_notation.error.NotationError.NotationError}
+use Rattle.ciborium_value.specs.declared.from_notation.{error.NotationFault.TheVariants.TooDeep, levels.Due.Due}
+use Rattle.ciborium_value.specs.declared.from_notation.{levels.Level.Level, tokens.Token.Token as Read}
+use Rattle.ciborium_value.specs.{declared.tree.Value.Value, inner.ReadTokens.{Around, Await, Leads, around_of, behind}}
+use Rattle.ciborium_value.specs.inner.ReadTokens.{in_array, in_keys, item, Completes, IsMisplaced, IsRoom, array_part}
+use Rattle.ciborium_value.specs.inner.ReadTokens.{await_of, in_tag, in_values, map_part, opens, token_read}
 use Rattle.ciborium_value.specs.declared.from_notation.levels.Level.TheVariants as level
 use Rattle.ciborium_value.specs.declared.from_notation.tokens.Token.TheVariants as read
 use Rattle.ciborium_value.specs.declared.tree.Value.TheViews as value

@@ -2,13 +2,13 @@
 use Rattle.std.proofs.Common.{◌≡◌, ◌<◌, ◌≤◌, ◌+◌, ◌*◌, ◌/◌, ◌%◌, ◌^◌, ◌==◌, ℕ, zero, suc, Bool, true, false, List, []}
 use Rattle.std.proofs.Common.{◌∷◌, ◌++◌, Option, Some, None, ℤ, pos, negsuc, codes, decimal, if◌then◌else◌, nat_lt}
 use Rattle.std.proofs.Common.{get_or, length, refl, sym, ap, ◌∙◌, subst, arith, rules, append_assoc, append-nil, All}
-use Rattle.std.proofs.{Common.{slice_index, inl, inr, nat_le, option_map}, lemmas.Bool.lt-ltb}
-use Rattle.std.proofs.{lemmas.Fmt.{decimal_is_IsNumeral_wide, decimal_by_steps_wide}, lemmas.Str.encode_ascii}
-use Rattle.std.proofs.{lemmas.Bool.Decides.eqb_tells, lemmas.List.Elements.{All-head, All-tail}}
-use Rattle.std.proofs.lemmas.Str.Parse.{tells_digits}
-use Rattle.std.specs.{Char.digit_value, Fmt.signed_decimal, List.{flat_map, repeat}, Str.Parse.AllDigits}
-use Rattle.std.specs.Str.Parse.{digits_value_after, IsNumeral, digits_value}
+use Rattle.std.proofs.{Common.{slice_index, inl, inr, nat_le, option_map}, lemmas.Bool.{lt-ltb, Decides.eqb_tells}}
+use Rattle.std.proofs.lemmas.{Fmt.{decimal_is_IsNumeral_wide, decimal_by_steps_wide}, List.Elements.All-head}
+use Rattle.std.{proofs.lemmas.{List.Elements.All-tail, Str.{encode_ascii, Parse.tells_digits}}, specs.Char.digit_value}
+use Rattle.std.specs.{Fmt.signed_decimal, List.{flat_map, repeat}, Str.Parse.{AllDigits, digits_value_after, IsNumeral}}
+use Rattle.std.specs.Str.Parse.{digits_value}
 use Rattle.hex.specs.Hex.{encode_lower, encode_with, lower_digits}
+use Rattle.ciborium_value.proofs.Denoting.{OneTree.one_tree_is_denoted, Texts.{plain_byte, unit_character, utf8_token}}
 use Rattle.ciborium_value.specs.Denotes.{Begins, BeginsItems, BeginsPairs, DenotesWithin, IsSeparated, IsToken, alone}
 use Rattle.ciborium_value.specs.Denotes.{depth, depth_of_items, depth_of_pairs, item, listed, mapped, no_item, no_pair}
 use Rattle.ciborium_value.specs.{Denotes.{pair, tagged}, Notation.{comma as comma_text, escape, escaped, last_break}}
@@ -22,8 +22,6 @@ use Rattle.ciborium_value.specs.Tokens.{number_token, one_digit_more, plus_token
 use Rattle.ciborium_value.specs.Tree.{Tree, TreePairs, Trees, tree_pairs_count, trees_count}
 use Rattle.ciborium_value.specs.laws.NotationLaws.{PrintedAlikeIsEqual, PrintedIsDenoted}
 use Rattle.ciborium_ll.specs.Integer.{IsInRange}
-use Rattle.ciborium_value.proofs.{Denoting.OneTree.one_tree_is_denoted, Denoting.Texts.{plain_byte, unit_character}}
-use Rattle.ciborium_value.proofs.Denoting.Texts.{utf8_token}
 use Rattle.ciborium_value.specs.Tree as trees
 
 -- ---- what may follow a tree: a comma, a closing bracket, a parenthesis, a colon or a line feed

@@ -1,12 +1,11 @@
 -- How far a text is read.
 use Rattle.std.proofs.Common.{◌≡◌, ◌≢◌, ℕ, List, [], ◌∷◌, Some, None, IfErr, IfOk, Ok, Err, Result, refl, sym, ap}
 use Rattle.std.proofs.Common.{arith, inl, inr, length, subst}
-use Rattle.ciborium_value.specs.{Denotes.{At, Begins, Denotes, DenotesWithin, MayRefuse, Memory}, Tokens.Token}
-use Rattle.ciborium_value.specs.{Tokens.{behind_blanks, token_at}, Tree.Tree, View.tree_of}
-use Rattle.ciborium_value.specs.{declared.from_notation.error.NotationError.NotationError, declared.tree.Value.Value}
+use Rattle.ciborium_value.{proofs.Denoting.Steps.front, specs.Denotes.{At, Begins, Denotes, DenotesWithin, MayRefuse}}
+use Rattle.ciborium_value.specs.{Denotes.Memory, Tokens.{Token, behind_blanks, token_at}, Tree.Tree, View.tree_of}
+use Rattle.ciborium_value.specs.declared.{from_notation.error.NotationError.NotationError, tree.Value.Value}
 use Rattle.ciborium_value.specs.inner.ReadTokens.{Around, Await, Completes, IsMisplaced, IsReached, IsRoom, Leads}
 use Rattle.ciborium_value.specs.inner.ReadTokens.{behind, item}
-use Rattle.ciborium_value.proofs.Denoting.Steps.{front}
 
 pub reached-first : (text : List ℕ) (limit : ℕ) → IsReached text limit [] item text
 reached-first text limit = record {

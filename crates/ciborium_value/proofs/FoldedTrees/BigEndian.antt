@@ -1,7 +1,6 @@
 -- Big-endian numbers, one byte after another.
 use Rattle.std.proofs.Common.{◌≡◌, ℕ, ◌+◌, ◌*◌, ◌^◌, ◌<◌, ◌≤◌, List, [], ◌∷◌, ◌++◌, Fits, refl, ap, ◌∙◌, arith, lit<}
-use Rattle.std.proofs.{Common.add-one, Math.Nat.{pow-le-pow_right, pow-suc}, Math.Facts.Fits-of_lt}
-use Rattle.std.specs.Int.{w128}
+use Rattle.std.{proofs.{Common.add-one, Math.{Facts.Fits-of_lt, Nat.{pow-le-pow_right, pow-suc}}}, specs.Int.w128}
 use Rattle.ciborium_value.specs.Meaning.{big_endian_behind, big_endian}
 
 pub big_endian_behind-more : (n : ℕ) (bs : List ℕ) (b : ℕ) →

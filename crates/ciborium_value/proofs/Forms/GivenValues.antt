@@ -1,8 +1,7 @@
 -- Outcomes by the value that they give, if they give one: why there is none does not count.
-use Rattle.std.proofs.Common.{◌≡◌, Option, Some, None, refl, ap, option_map}
-use Rattle.std.specs.Option.{option_and_then}
-use Rattle.ciborium_value.specs.{Meaning.trees_more, Given.{Outcome, gives, refuses, nests, then_take, outcome_map}}
-use Rattle.ciborium_value.specs.{DeterministicForms.one_more, Tree.{Tree, Trees}}
+use Rattle.std.{proofs.Common.{◌≡◌, Option, Some, None, refl, ap, option_map}, specs.Option.option_and_then}
+use Rattle.ciborium_value.specs.{DeterministicForms.one_more, Given.{Outcome, gives, refuses, nests, then_take}}
+use Rattle.ciborium_value.specs.{Given.outcome_map, Meaning.trees_more, Tree.{Tree, Trees}}
 
 -- the value of an outcome that gives one
 abbrev pub given : {A : Type 0} → Outcome A → Option A

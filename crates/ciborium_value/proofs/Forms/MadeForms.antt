@@ -2,14 +2,13 @@
 use Rattle.std.proofs.Common.{◌≡◌, ℕ, zero, suc, ◌+◌, ◌<◌, List, [], ◌∷◌, ◌++◌, length, take, drop, get_or, set, subst}
 use Rattle.std.proofs.Common.{Option, Some, None, refl, sym, ap, ◌∙◌, arith, append-nil, get_or-set_same}
 use Rattle.std.proofs.{Common.{get_or-set_other, below_more}, lemmas.List.{drop_all, take_all}}
-use Rattle.ciborium_value.specs.DeterministicForms.{deterministic_form, deterministic_forms, pair_forms, sorted_pairs}
-use Rattle.ciborium_value.specs.{DeterministicForms.{one_more, one_pair_more, tag_form}, Folded.tree_folding_bytes}
-use Rattle.ciborium_value.specs.{Meaning.bignum_meaning, SameContents.{IsAlike, AreAlike, PairsAreAlike}, Given.Outcome}
-use Rattle.ciborium_value.specs.{Given.{gives, refuses, then_take, outcome_map, of_meaning}, Tree.{Tree, Trees}}
-use Rattle.ciborium_value.specs.{Tree.TreePairs, View.{tree_of, trees_of, tree_pairs_of}}
-use Rattle.ciborium_value.specs.{declared.key_order.KeyOrder.KeyOrder, declared.kind.Kind.Kind}
-use Rattle.ciborium_value.specs.declared.tree.Value.{Value}
-use Rattle.ciborium_value.proofs.Forms.ReorderedPairs.{PairsAreAlike-refl}
+use Rattle.ciborium_value.{proofs.Forms.ReorderedPairs.PairsAreAlike-refl, specs.DeterministicForms.deterministic_form}
+use Rattle.ciborium_value.specs.DeterministicForms.{deterministic_forms, pair_forms, sorted_pairs, one_more}
+use Rattle.ciborium_value.specs.{DeterministicForms.{one_pair_more, tag_form}, Folded.tree_folding_bytes, Given.Outcome}
+use Rattle.ciborium_value.specs.{Given.{gives, refuses, then_take, outcome_map, of_meaning}, Meaning.bignum_meaning}
+use Rattle.ciborium_value.specs.{SameContents.{IsAlike, AreAlike, PairsAreAlike}, Tree.{Tree, Trees, TreePairs}}
+use Rattle.ciborium_value.specs.{View.{tree_of, trees_of, tree_pairs_of}, declared.key_order.KeyOrder.KeyOrder}
+use Rattle.ciborium_value.specs.declared.{kind.Kind.Kind, tree.Value.Value}
 use Rattle.ciborium_value.specs.SameContents as same
 use Rattle.ciborium_value.specs.Tree as trees
 use Rattle.ciborium_value.specs.declared.kind.Kind.TheVariants as kinds

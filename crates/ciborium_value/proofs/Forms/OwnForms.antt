@@ -1,23 +1,22 @@
 -- Trees that are their own deterministic form.
 use Rattle.std.proofs.Common.{◌≡◌, ℕ, cond, List, Option, Some, None, MatchOption, refl, sym, ap, ◌∙◌, subst}
 use Rattle.std.proofs.Common.{option_map, ◌↔◌}
-use Rattle.ciborium_value.specs.{Encoding.encoding, Deterministic.{HasRisingKeys, HaveRisingKeys, PairsHaveRisingKeys}}
-use Rattle.ciborium_value.specs.{DeterministicTrees.IsDeterministicTree, DeterministicForms.{sorted_pairs, tag_form}}
-use Rattle.ciborium_value.specs.DeterministicForms.{deterministic_form, deterministic_forms, one_more, one_pair_more}
-use Rattle.ciborium_value.specs.{DeterministicForms.pair_forms, Folded.{short_bytes, tree_folding_bytes, folded}}
-use Rattle.ciborium_value.specs.{Folded.{trees_folded, tree_pairs_folded}, laws.FormLaws.FormIsItsOwn}
-use Rattle.ciborium_value.specs.{laws.FormLaws.AcceptedWhereOwnForm, inner.OwnForms.{IsFormed, AreFormed}}
-use Rattle.ciborium_value.specs.{inner.OwnForms.PairsAreFormed, Meaning.{is_bignum_tag, bignum_meaning, tag_meaning}}
-use Rattle.ciborium_value.specs.{Meaning.{trees_more, tree_pairs_more}, Given.{gives, then_take, outcome_map}}
-use Rattle.ciborium_value.specs.{Given.of_meaning, Tree.{Tree, integer, bytes, text, boolean, null, tag, array, map}}
-use Rattle.ciborium_value.specs.Tree.{Trees, no_trees, tree, TreePairs, no_tree_pairs, tree_pair}
-use Rattle.ciborium_value.specs.{declared.key_order.KeyOrder.KeyOrder, lemmas.GivenOutcomes.{one_given, mapped_gives}}
-use Rattle.ciborium_value.specs.lemmas.GivenOutcomes.{then_gives, more_gives, pair_gives, meaning_given}
-use Rattle.ciborium_value.proofs.GoodItems.Accepted.{accepted, deterministic_tree}
-use Rattle.ciborium_value.proofs.Forms.BignumShapes.{rises_where_short, short_where_folding, bignum-no_bytes}
-use Rattle.ciborium_value.proofs.{Forms.BignumShapes.bignum-rises, FoldedTrees.Folding.folds_once}
+use Rattle.ciborium_value.proofs.{FoldedTrees.Folding.folds_once, Forms.BignumShapes.rises_where_short}
+use Rattle.ciborium_value.proofs.Forms.BignumShapes.{short_where_folding, bignum-no_bytes, bignum-rises}
 use Rattle.ciborium_value.proofs.Forms.ReorderedPairs.{AreReordered, as_they_are, behind, neighbours, then_again}
-use Rattle.ciborium_value.proofs.{Forms.ReorderedPairs.{sorted-reorders, sorted-rises}, Forms.SortedPairs.rising-sorted}
+use Rattle.ciborium_value.proofs.Forms.{ReorderedPairs.{sorted-reorders, sorted-rises}, SortedPairs.rising-sorted}
+use Rattle.ciborium_value.{proofs.GoodItems.Accepted.{accepted, deterministic_tree}, specs.Deterministic.HasRisingKeys}
+use Rattle.ciborium_value.specs.{Deterministic.{HaveRisingKeys, PairsHaveRisingKeys}, DeterministicForms.sorted_pairs}
+use Rattle.ciborium_value.specs.DeterministicForms.{tag_form, deterministic_form, deterministic_forms, one_more}
+use Rattle.ciborium_value.specs.{DeterministicForms.{one_pair_more, pair_forms}, DeterministicTrees.IsDeterministicTree}
+use Rattle.ciborium_value.specs.{Encoding.encoding, Folded.{short_bytes, tree_folding_bytes, folded, trees_folded}}
+use Rattle.ciborium_value.specs.{Folded.tree_pairs_folded, Given.{gives, then_take, outcome_map, of_meaning}}
+use Rattle.ciborium_value.specs.Meaning.{is_bignum_tag, bignum_meaning, tag_meaning, trees_more, tree_pairs_more}
+use Rattle.ciborium_value.specs.Tree.{Tree, integer, bytes, text, boolean, null, tag, array, map, Trees, no_trees, tree}
+use Rattle.ciborium_value.specs.{Tree.{TreePairs, no_tree_pairs, tree_pair}, declared.key_order.KeyOrder.KeyOrder}
+use Rattle.ciborium_value.specs.{inner.OwnForms.{IsFormed, AreFormed, PairsAreFormed}, laws.FormLaws.FormIsItsOwn}
+use Rattle.ciborium_value.specs.{laws.FormLaws.AcceptedWhereOwnForm, lemmas.GivenOutcomes.{one_given, mapped_gives}}
+use Rattle.ciborium_value.specs.lemmas.GivenOutcomes.{then_gives, more_gives, pair_gives, meaning_given}
 use Rattle.ciborium_value.specs.declared.kind.Kind.TheVariants as kinds
 
 -- ---- a formed tree is its own form

@@ -1,15 +1,14 @@
 -- Why a tree has no deterministic form, and why where folding gives it a meaning.
 use Rattle.std.proofs.Common.{◌≡◌, ℕ, List, Option, Some, None, option_map, inl, inr, ◌⊎◌, refl, sym, ap, ◌∙◌, subst}
 use Rattle.std.proofs.Common.{Result, Ok, Err, IfErr}
+use Rattle.ciborium_value.proofs.Forms.SortedPairs.{IsSortedOrDuplicate, sorted-either}
 use Rattle.ciborium_value.specs.DeterministicForms.{deterministic_form, deterministic_forms, pair_forms, sorted_pairs}
 use Rattle.ciborium_value.specs.{DeterministicForms.{one_more, one_pair_more, tag_form}, Folded.{folded, trees_folded}}
-use Rattle.ciborium_value.specs.{Folded.{tree_pairs_folded, tree_folding_bytes}, laws.FormLaws.FormOrRefused}
-use Rattle.ciborium_value.specs.{laws.FormLaws.RefusedByDuplicates, Meaning.{bignum_meaning, tag_meaning, trees_more}}
-use Rattle.ciborium_value.specs.{Meaning.tree_pairs_more, Given.{Outcome, gives, refuses, nests, then_take}}
-use Rattle.ciborium_value.specs.{Given.{outcome_map, of_meaning}, Tree.{Tree, tag, array, map, Trees, no_trees, tree}}
-use Rattle.ciborium_value.specs.{Tree.{TreePairs, no_tree_pairs, tree_pair}, declared.key_order.KeyOrder.KeyOrder}
-use Rattle.ciborium_value.specs.declared.kind.Kind.{Kind}
-use Rattle.ciborium_value.proofs.Forms.SortedPairs.{IsSortedOrDuplicate, sorted-either}
+use Rattle.ciborium_value.specs.{Folded.{tree_pairs_folded, tree_folding_bytes}, Given.{Outcome, gives, refuses, nests}}
+use Rattle.ciborium_value.specs.{Given.{then_take, outcome_map, of_meaning}, Meaning.{bignum_meaning, tag_meaning}}
+use Rattle.ciborium_value.specs.{Meaning.{trees_more, tree_pairs_more}, Tree.{Tree, tag, array, map, Trees, no_trees}}
+use Rattle.ciborium_value.specs.{Tree.{tree, TreePairs, no_tree_pairs, tree_pair}, declared.key_order.KeyOrder.KeyOrder}
+use Rattle.ciborium_value.specs.{declared.kind.Kind.Kind, laws.FormLaws.{FormOrRefused, RefusedByDuplicates}}
 use Rattle.ciborium_value.specs.declared.kind.Kind.TheVariants as kinds
 
 -- ---- what a refusal is made of

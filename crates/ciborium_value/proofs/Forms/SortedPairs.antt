@@ -3,14 +3,13 @@ use Rattle.std.proofs.Common.{◌≡◌, ◌⊎◌, inl, inr, refl, sym, ap, ◌
 use Rattle.std.proofs.{Common.{true, false, length}, lemmas.Cmp.{nat_cmp_total, tied_itself}}
 use Rattle.std.specs.{FinMap.{nat_cmp-IsAntisymmetric, slice_cmp-IsAntisymmetric}, Ordering.{nat_cmp, ordering_reverse}}
 use Rattle.std.specs.Ordering.{ordering_then}
-use Rattle.ciborium_value.specs.{Canonical.{bytewise_order, key_order}, Deterministic.{AreRising, keys_of}}
-use Rattle.ciborium_value.specs.{inner.OwnForms.AreApart, DeterministicForms.{placed_pair, inserted, sorted_pairs}}
-use Rattle.ciborium_value.specs.{Encoding.{encoded_size, encoding}, Visits.saturated}
-use Rattle.ciborium_value.specs.{declared.key_order.KeyOrder.TheVariants.{LengthFirst, Bytewise}, Given.Outcome}
+use Rattle.ciborium_value.{proofs.Orders.TotalOrders.key_order_total, specs.Canonical.{bytewise_order, key_order}}
+use Rattle.ciborium_value.specs.{Deterministic.{AreRising, keys_of}, DeterministicForms.{placed_pair, inserted}}
+use Rattle.ciborium_value.specs.{DeterministicForms.sorted_pairs, Encoding.{encoded_size, encoding}, Given.Outcome}
 use Rattle.ciborium_value.specs.{Given.{gives, refuses, nests, then_take, outcome_map}, Tree.{Tree, TreePairs}}
-use Rattle.ciborium_value.specs.{Tree.{no_tree_pairs, tree_pair}, declared.key_order.KeyOrder.KeyOrder}
-use Rattle.ciborium_value.specs.lemmas.PutEntries.{not-at}
-use Rattle.ciborium_value.proofs.Orders.TotalOrders.{key_order_total}
+use Rattle.ciborium_value.specs.{Tree.{no_tree_pairs, tree_pair}, Visits.saturated}
+use Rattle.ciborium_value.specs.declared.key_order.KeyOrder.{KeyOrder, TheVariants.{LengthFirst, Bytewise}}
+use Rattle.ciborium_value.specs.{inner.OwnForms.AreApart, lemmas.PutEntries.not-at}
 use Rattle.ciborium_value.specs.declared.kind.Kind.TheVariants as kinds
 
 -- ---- one pair among others

@@ -2,33 +2,31 @@
 use Rattle.std.proofs.Common.{◌≡◌, ℕ, zero, suc, ◌+◌, ◌*◌, ◌<◌, ◌≤◌, cond, ltb, eqb, Bool, true, false, ◌&&◌, List, []}
 use Rattle.std.proofs.Common.{◌∷◌, ◌++◌, length, take, drop, Option, Some, None, option_map, refl, sym, ap, ◌∙◌, subst}
 use Rattle.std.proofs.Common.{arith, inl, inr, length-append, append_assoc, take-append-drop, lt-ltb, eq-eqb, eqb-true}
-use Rattle.std.proofs.{Common.{ltb-true, ltb-false}, lemmas.Bool.{cond_both, eqb-false}, lemmas.List.length-take-le}
+use Rattle.std.proofs.{Common.{ltb-true, ltb-false}, lemmas.{Bool.{cond_both, eqb-false}, List.length-take-le}}
 use Rattle.std.proofs.lemmas.Str.{IsUtf8-from_is_utf8}
-use Rattle.ciborium_ll.specs.{Bytes.greatest_offset, Head.IsHead, Refusal.{SemanticKind, Refusal, syntax, semantic}}
-use Rattle.ciborium_ll.specs.Refusal.{recursion_limit_exceeded, Float, Simple, Break, TooLarge, IsUsable, HasHead}
-use Rattle.ciborium_ll.specs.{Refusal.{head_refusal, IsAtFront}, Spells.{IsDefiniteString, AreChunks, joined}}
-use Rattle.ciborium_ll.specs.StringRefusal.{StringKind, of_bytes, of_text, string_major, IsAllowed, PayloadRefuses}
-use Rattle.ciborium_ll.specs.StringRefusal.{StringRefuses, ChunkRefuses, HasStringHead}
 use Rattle.ciborium_ll.proofs.FrontHeads.{Front, nothing, counted, opened, plain, raw, front, front_open}
 use Rattle.ciborium_ll.proofs.{ReadHeads.{Face, faces}, UsableHeads.{EachIsByte, bytes_after, take_bytes, stands-front}}
-use Rattle.ciborium_ll.proofs.UsableHeads.{stands-length, IsStringMajor}
-use Rattle.ciborium_value.specs.{Meaning.{simple_meaning, bignum_meaning}, Nesting.{Limit, IsOneLess}}
-use Rattle.ciborium_value.specs.Refuses.{HasGoodHead, Due, items, keys, values, next_due, keys_among, IsDue}
-use Rattle.ciborium_value.specs.{Refuses.{BeginsContainer, IsInside, IsTagAt, IsFoldingAt, Refuses}, Spelling.Spelling}
-use Rattle.ciborium_value.specs.{Spelling.{any, deterministic, spelling_fault, IsUnwanted}, Tree.Tree}
-use Rattle.ciborium_value.specs.inner.ReadItems.{ReadsItem, string_tree, IsComplete, container_of}
-use Rattle.ciborium_value.specs.lemmas.Descriptions.{both}
-use Rattle.ciborium_value.proofs.GoodItems.Bignums.{foldable-is, is-foldable, none-large}
-use Rattle.ciborium_value.proofs.{GoodItems.Found.{kind_allowed, kind_major}, GoodItems.Accepted.anyway}
-use Rattle.ciborium_value.proofs.GoodItems.Introduced.{reads-positive, reads-negative, reads-string, kind-below}
-use Rattle.ciborium_value.proofs.GoodItems.Introduced.{reads-open_string, reads-simple, inside-begun, inside-more}
-use Rattle.ciborium_value.proofs.GoodItems.Introduced.{reads-container, reads-tag, folding-reads, reads-folded}
-use Rattle.ciborium_value.proofs.{GoodItems.Parts.{in_order-is, is-in_order}, GoodItems.Reader.{Answer, ends, refused}}
-use Rattle.ciborium_value.proofs.GoodItems.Reader.{checked, and_then, made, given, past, allowed, string, chunk, piece}
-use Rattle.ciborium_value.proofs.GoodItems.Reader.{pieces, levels, break_at, end_at, or_end, in_order, folding}
-use Rattle.ciborium_value.proofs.GoodItems.Reader.{is_unwanted, bignum, counted_item, opened_item, item_at, next_part}
-use Rattle.ciborium_value.proofs.{GoodItems.Reader.{read, parts}, GoodItems.Spelled.{folds-front, seen-folds}}
-use Rattle.ciborium_value.proofs.GoodItems.Spelled.{are_bytes, spells-pos}
+use Rattle.ciborium_ll.{proofs.UsableHeads.{stands-length, IsStringMajor}, specs.{Bytes.greatest_offset, Head.IsHead}}
+use Rattle.ciborium_ll.specs.Refusal.{SemanticKind, Refusal, syntax, semantic, recursion_limit_exceeded, Float, Simple}
+use Rattle.ciborium_ll.specs.Refusal.{Break, TooLarge, IsUsable, HasHead, head_refusal, IsAtFront}
+use Rattle.ciborium_ll.specs.{Spells.{IsDefiniteString, AreChunks, joined}, StringRefusal.{StringKind, of_bytes}}
+use Rattle.ciborium_ll.specs.StringRefusal.{of_text, string_major, IsAllowed, PayloadRefuses, StringRefuses}
+use Rattle.ciborium_ll.specs.StringRefusal.{ChunkRefuses, HasStringHead}
+use Rattle.ciborium_value.proofs.GoodItems.{Accepted.anyway, Bignums.{foldable-is, is-foldable, none-large}}
+use Rattle.ciborium_value.proofs.GoodItems.{Found.{kind_allowed, kind_major}, Introduced.reads-positive}
+use Rattle.ciborium_value.proofs.GoodItems.Introduced.{reads-negative, reads-string, kind-below, reads-open_string}
+use Rattle.ciborium_value.proofs.GoodItems.Introduced.{reads-simple, inside-begun, inside-more, reads-container}
+use Rattle.ciborium_value.proofs.GoodItems.{Introduced.{reads-tag, folding-reads, reads-folded}, Parts.in_order-is}
+use Rattle.ciborium_value.proofs.GoodItems.{Parts.is-in_order, Reader.{Answer, ends, refused, checked, and_then, made}}
+use Rattle.ciborium_value.proofs.GoodItems.Reader.{given, past, allowed, string, chunk, piece, pieces, levels, break_at}
+use Rattle.ciborium_value.proofs.GoodItems.Reader.{end_at, or_end, in_order, folding, is_unwanted, bignum, counted_item}
+use Rattle.ciborium_value.proofs.GoodItems.{Reader.{opened_item, item_at, next_part, read, parts}, Spelled.folds-front}
+use Rattle.ciborium_value.{proofs.GoodItems.Spelled.{seen-folds, are_bytes, spells-pos}, specs.Meaning.simple_meaning}
+use Rattle.ciborium_value.specs.{Meaning.bignum_meaning, Nesting.{Limit, IsOneLess}, Refuses.{HasGoodHead, Due, items}}
+use Rattle.ciborium_value.specs.Refuses.{keys, values, next_due, keys_among, IsDue, BeginsContainer, IsInside, IsTagAt}
+use Rattle.ciborium_value.specs.{Refuses.{IsFoldingAt, Refuses}, Spelling.{Spelling, any, deterministic}}
+use Rattle.ciborium_value.specs.{Spelling.{spelling_fault, IsUnwanted}, Tree.Tree, inner.ReadItems.ReadsItem}
+use Rattle.ciborium_value.specs.{inner.ReadItems.{string_tree, IsComplete, container_of}, lemmas.Descriptions.both}
 use Rattle.ciborium_value.specs.Tree as trees
 
 checked-meets : {A : Type 0} (P : Answer A → Type 0) (o : Option Refusal) (a : Answer A) →

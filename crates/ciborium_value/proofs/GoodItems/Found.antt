@@ -2,41 +2,39 @@
 use Rattle.std.proofs.Common.{◌≡◌, ℕ, zero, suc, ◌+◌, ◌*◌, ◌<◌, ◌≤◌, cond, ltb, eqb, Bool, true, false, ◌&&◌, List, []}
 use Rattle.std.proofs.Common.{◌∷◌, ◌++◌, length, Option, Some, None, option_map, pos, negsuc, refl, sym, ap, ◌∙◌, subst}
 use Rattle.std.proofs.Common.{arith, inl, inr, length-append, append_assoc, append-nil, lt-ltb, eqb-true}
-use Rattle.std.proofs.{lemmas.Bool.Decides.nat_tests, lemmas.Str.is_utf8-from_IsUtf8, lemmas.Bool.cond-true}
-use Rattle.ciborium_ll.specs.{Bytes.greatest_offset, Head.{IsHead, IsSimple, shortest_head}, Item.Item}
-use Rattle.ciborium_ll.specs.Refusal.{is_reserved, semantic, Break, Simple, TooLarge, IsUsable, HasHead}
-use Rattle.ciborium_ll.specs.{Spells.{AreChunks, joined, IsString, Spells}, StringRefusal.{StringKind, of_bytes}}
-use Rattle.ciborium_ll.specs.{StringRefusal.{of_text, string_major, IsAllowed}, ProperItems.IsArgument}
-use Rattle.ciborium_ll.proofs.{FrontHeads.{plain, front, front-simple}, UsableHeads.{stands-usable, stands-length}}
-use Rattle.ciborium_ll.proofs.{UsableHeads.{IsStringMajor, pass}, ShortestHead.shortest_is_head, CutHeads.each-byte}
-use Rattle.ciborium_value.specs.{Deterministic.AreRising, DeterministicTrees.IsDeterministicTree}
-use Rattle.ciborium_value.specs.{ProperTrees.IsProperTree, lemmas.ItemsOfTrees.short_string-item_of}
-use Rattle.ciborium_value.specs.{lemmas.ItemsOfTrees.tree_is_written_as_itself, Encoding.{written_tree, encoding}}
-use Rattle.ciborium_value.specs.{Encoding.{item_of, items_of, pairs_of, items_bytes, pairs_bytes}, Folded.folded}
+use Rattle.std.proofs.lemmas.{Bool.{cond-true, Decides.nat_tests}, Str.is_utf8-from_IsUtf8}
+use Rattle.ciborium_ll.proofs.{CutHeads.each-byte, FrontHeads.{plain, front, front-simple}}
+use Rattle.ciborium_ll.proofs.{ShortestHead.shortest_is_head, UsableHeads.{stands-usable, stands-length, IsStringMajor}}
+use Rattle.ciborium_ll.{proofs.UsableHeads.pass, specs.{Bytes.greatest_offset, Head.{IsHead, IsSimple, shortest_head}}}
+use Rattle.ciborium_ll.specs.{Item.Item, ProperItems.IsArgument, Refusal.{is_reserved, semantic, Break, Simple}}
+use Rattle.ciborium_ll.specs.{Refusal.{TooLarge, IsUsable, HasHead}, Spells.{AreChunks, joined, IsString, Spells}}
+use Rattle.ciborium_ll.specs.StringRefusal.{StringKind, of_bytes, of_text, string_major, IsAllowed}
+use Rattle.ciborium_value.proofs.GoodItems.{Accepted.{anyway, accepted, deterministic_tree}, Bignums.foldable-is}
+use Rattle.ciborium_value.proofs.GoodItems.{Bignums.kept-whole, Faults.{short-fault, fault-simple}}
+use Rattle.ciborium_value.proofs.GoodItems.{Introduced.kind-below, Parts.{within-zero, lower, levels-below, due-first}}
+use Rattle.ciborium_value.proofs.GoodItems.Parts.{is-in_order, order-before, elements, turns, elements-in, turns-in}
+use Rattle.ciborium_value.proofs.GoodItems.Parts.{elements-due, turns-due, open-elements-due, open-turns-due}
+use Rattle.ciborium_value.proofs.GoodItems.Parts.{keys-turns, read-items, read-pairs, written-trees, written-pairs}
+use Rattle.ciborium_value.proofs.GoodItems.Reader.{Answer, ends, refused, and_then, made, given, past, allowed, string}
+use Rattle.ciborium_value.proofs.GoodItems.Reader.{pieces, break_at, end_at, or_end, is_unwanted, bignum, counted_item}
+use Rattle.ciborium_value.proofs.GoodItems.{Reader.{opened_item, next_part, read, parts}, Spelled.spells-pos}
+use Rattle.ciborium_value.proofs.GoodItems.{Spelled.{folds-front, folds-some, none-folds, not_so}, Steps.opened-has}
+use Rattle.ciborium_value.proofs.GoodItems.Steps.{simple-has, read-head, read-counted, read-opened, ended-has}
+use Rattle.ciborium_value.proofs.GoodItems.Steps.{opens-read, tag-at, string-good, pieces-run, pieces-break}
+use Rattle.ciborium_value.proofs.Writing.Written.{written_spells, IsProperItem-item_of, items_count-items_of}
+use Rattle.ciborium_value.{proofs.Writing.Written.pairs_count-pairs_of, specs.Deterministic.AreRising}
+use Rattle.ciborium_value.specs.{DeterministicTrees.IsDeterministicTree, Encoding.{written_tree, encoding, item_of}}
+use Rattle.ciborium_value.specs.{Encoding.{items_of, pairs_of, items_bytes, pairs_bytes}, Folded.folded}
 use Rattle.ciborium_value.specs.{Folded.tree_folding_bytes, Meaning.{meaning, items_meaning, pairs_meaning}}
 use Rattle.ciborium_value.specs.Meaning.{simple_meaning, bignum_meaning, is_bignum_tag, folding_bytes, tag_meaning}
 use Rattle.ciborium_value.specs.Nesting.{nesting, tag_nesting, items_nesting, pairs_nesting, Limit, IsWithin, IsOneLess}
-use Rattle.ciborium_value.specs.Refuses.{HasGoodHead, Due, items, keys, values, next_due, due_after, keys_among}
-use Rattle.ciborium_value.specs.{Refuses.{keys_in, BeginsContainer, AreReadAs, IsInside, IsTagAt}, Spelling.Spelling}
-use Rattle.ciborium_value.specs.Spelling.{any, deterministic, IsReadAs, spelling_fault, IsUnwanted, AreInOrder}
-use Rattle.ciborium_value.specs.{Tree.{Tree, Trees, TreePairs, trees_count, tree_pairs_count}, View.trees_from}
-use Rattle.ciborium_value.specs.inner.ReadItems.{string_tree, IsComplete, pairs_in, container_of}
-use Rattle.ciborium_value.specs.declared.key_order.KeyOrder.{KeyOrder}
-use Rattle.ciborium_value.proofs.Writing.Written.{written_spells, IsProperItem-item_of, items_count-items_of}
-use Rattle.ciborium_value.proofs.{Writing.Written.pairs_count-pairs_of, GoodItems.Bignums.{foldable-is, kept-whole}}
-use Rattle.ciborium_value.proofs.{GoodItems.Faults.{short-fault, fault-simple}, GoodItems.Accepted.{anyway, accepted}}
-use Rattle.ciborium_value.proofs.{GoodItems.Accepted.deterministic_tree, GoodItems.Parts.{within-zero, lower}}
-use Rattle.ciborium_value.proofs.GoodItems.Parts.{levels-below, due-first, is-in_order, order-before, elements, turns}
-use Rattle.ciborium_value.proofs.GoodItems.Parts.{elements-in, turns-in, elements-due, turns-due, open-elements-due}
-use Rattle.ciborium_value.proofs.GoodItems.Parts.{open-turns-due, keys-turns, read-items, read-pairs, written-trees}
-use Rattle.ciborium_value.proofs.{GoodItems.Parts.written-pairs, GoodItems.Reader.{Answer, ends, refused, and_then}}
-use Rattle.ciborium_value.proofs.GoodItems.Reader.{made, given, past, allowed, string, pieces, break_at, end_at, or_end}
-use Rattle.ciborium_value.proofs.GoodItems.Reader.{is_unwanted, bignum, counted_item, opened_item, next_part, read}
-use Rattle.ciborium_value.proofs.{GoodItems.Reader.parts, GoodItems.Spelled.{spells-pos, folds-front, folds-some}}
-use Rattle.ciborium_value.proofs.{GoodItems.Spelled.{none-folds, not_so}, GoodItems.Steps.{opened-has, simple-has}}
-use Rattle.ciborium_value.proofs.GoodItems.Steps.{read-head, read-counted, read-opened, ended-has, opens-read, tag-at}
-use Rattle.ciborium_value.proofs.GoodItems.Steps.{string-good, pieces-run, pieces-break}
-use Rattle.ciborium_value.proofs.GoodItems.Introduced.{kind-below}
+use Rattle.ciborium_value.specs.{ProperTrees.IsProperTree, Refuses.{HasGoodHead, Due, items, keys, values, next_due}}
+use Rattle.ciborium_value.specs.Refuses.{due_after, keys_among, keys_in, BeginsContainer, AreReadAs, IsInside, IsTagAt}
+use Rattle.ciborium_value.specs.Spelling.{Spelling, any, deterministic, IsReadAs, spelling_fault, IsUnwanted}
+use Rattle.ciborium_value.specs.{Spelling.AreInOrder, Tree.{Tree, Trees, TreePairs, trees_count, tree_pairs_count}}
+use Rattle.ciborium_value.specs.{View.trees_from, declared.key_order.KeyOrder.KeyOrder, inner.ReadItems.string_tree}
+use Rattle.ciborium_value.specs.inner.ReadItems.{IsComplete, pairs_in, container_of}
+use Rattle.ciborium_value.specs.lemmas.ItemsOfTrees.{short_string-item_of, tree_is_written_as_itself}
 use Rattle.ciborium_ll.specs.Item as item
 use Rattle.ciborium_value.specs.Tree as trees
 

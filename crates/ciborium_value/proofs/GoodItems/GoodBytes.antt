@@ -1,8 +1,7 @@
 -- Whatever is a good item is a list of bytes.
 use Rattle.std.proofs.Common.{◌≡◌, ℕ, ◌+◌, ◌*◌, ◌/◌, ◌%◌, ◌<◌, cond, ltb, ltb-true, Bool, true, false, List, [], ◌∷◌}
 use Rattle.std.proofs.Common.{◌++◌, length, Option, Some, None, IsSome, option_map, refl, sym, subst, arith, inl, inr}
-use Rattle.std.proofs.{lemmas.Bool.and_parts, lemmas.List.Elements.{All-append, All-nil, All-from_recursion}}
-use Rattle.std.proofs.lemmas.Nat.{mod_below}
+use Rattle.std.proofs.lemmas.{Bool.and_parts, List.Elements.{All-append, All-nil, All-from_recursion}, Nat.mod_below}
 use Rattle.std.specs.Prelude.{IsUtf8}
 use Rattle.ciborium_ll.specs.{Bytes.AreBytes, Head.{IsHead, IsSimple, within, one_byte, two_bytes, four_bytes}}
 use Rattle.ciborium_ll.specs.{Head.{eight_bytes, head_in}, Item.{Item, Items, Pairs, items_count, pairs_count}}

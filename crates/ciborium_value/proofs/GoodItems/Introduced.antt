@@ -6,6 +6,11 @@ use Rattle.ciborium_ll.specs.{Bytes.{AreBytes, greatest_offset}, Head.{IsHead, I
 use Rattle.ciborium_ll.specs.{Head.break_byte, Item.Item, Refusal.{NotShortest, HasHead, Open}, Spells.AreChunks}
 use Rattle.ciborium_ll.specs.{Spells.{joined, Spells}, StringRefusal.{StringKind, of_bytes, of_text, string_major}}
 use Rattle.ciborium_ll.specs.StringRefusal.{IsAllowed}
+use Rattle.ciborium_value.proofs.GoodItems.{Bignums.whole-kept, Faults.{fault-short, fault-open, fault-undefined}}
+use Rattle.ciborium_value.proofs.GoodItems.Parts.{within-zero, raise, due-more, counted-items, open-pairs}
+use Rattle.ciborium_value.proofs.GoodItems.Parts.{counted-pairs, keys-paired, keys-value, read-more, items-read}
+use Rattle.ciborium_value.proofs.GoodItems.Parts.{pairs-read, trees-written, pairs-written, ArePaired}
+use Rattle.ciborium_value.proofs.GoodItems.Spelled.{folds-none, folding-string, folding-over}
 use Rattle.ciborium_value.specs.{Deterministic.{HasRisingKeys, AreRising}, Encoding.{encoding, items_of, pairs_of}}
 use Rattle.ciborium_value.specs.Meaning.{meaning, simple_meaning, bignum_meaning, tag_meaning, is_bignum_tag}
 use Rattle.ciborium_value.specs.{Meaning.folding_bytes, Nesting.{nesting, tag_nesting, Limit, IsWithin, IsOneLess}}
@@ -13,14 +18,8 @@ use Rattle.ciborium_value.specs.Refuses.{HasGoodHead, Due, items, keys, values, 
 use Rattle.ciborium_value.specs.Refuses.{keys_in, AreReadAs, BeginsContainer, IsInside, IsTagAt, IsFoldingAt}
 use Rattle.ciborium_value.specs.Spelling.{Spelling, any, deterministic, IsReadAs, spelling_fault, IsUnwanted}
 use Rattle.ciborium_value.specs.{Spelling.{AreInOrder, IsSpelledSo}, Tree.{Tree, tree_pairs_count}, View.trees_from}
-use Rattle.ciborium_value.specs.inner.ReadItems.{ReadsItem, string_tree, IsComplete, pairs_in, container_of}
-use Rattle.ciborium_value.specs.declared.key_order.KeyOrder.{KeyOrder}
-use Rattle.ciborium_value.proofs.{GoodItems.Bignums.whole-kept, GoodItems.Faults.{fault-short, fault-open}}
-use Rattle.ciborium_value.proofs.{GoodItems.Faults.fault-undefined, GoodItems.Parts.{within-zero, raise, due-more}}
-use Rattle.ciborium_value.proofs.GoodItems.Parts.{counted-items, open-pairs, counted-pairs, keys-paired, keys-value}
-use Rattle.ciborium_value.proofs.GoodItems.Parts.{read-more, items-read, pairs-read, trees-written, pairs-written}
-use Rattle.ciborium_value.proofs.{GoodItems.Parts.ArePaired, GoodItems.Spelled.{folds-none, folding-string}}
-use Rattle.ciborium_value.proofs.GoodItems.Spelled.{folding-over}
+use Rattle.ciborium_value.specs.{declared.key_order.KeyOrder.KeyOrder, inner.ReadItems.{ReadsItem, string_tree}}
+use Rattle.ciborium_value.specs.inner.ReadItems.{IsComplete, pairs_in, container_of}
 use Rattle.ciborium_ll.specs.Item as item
 use Rattle.ciborium_value.specs.Tree as trees
 

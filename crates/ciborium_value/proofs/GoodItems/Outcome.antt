@@ -1,13 +1,12 @@
 -- The law of refusals: the reader answers all that is read and each refusal, and what it answers is one of them.
 use Rattle.std.proofs.Common.{◌≡◌, ℕ, ◌+◌, ◌*◌, List, length, Some, is_some, refl, sym, ap, ◌∙◌, arith, inl, inr, ◌⊎◌}
-use Rattle.ciborium_ll.specs.{Bytes.AreBytes, Refusal.Refusal}
-use Rattle.ciborium_ll.proofs.{UniqueSpelling.one_at_front, CutHeads.each-byte}
-use Rattle.ciborium_value.specs.{Meaning.meaning, Nesting.Limit, Refuses.Refuses, Spelling.{Spelling, IsReadAs}}
-use Rattle.ciborium_value.specs.{Tree.Tree, laws.RefusalLaws.{HasGoodItem, GoodOrRefused, NeverBoth, OneRefusal}}
-use Rattle.ciborium_value.specs.laws.RefusalLaws.{OneReading}
-use Rattle.ciborium_value.proofs.{GoodItems.Answered.{Meets, read-meets}, GoodItems.Found.read-good}
-use Rattle.ciborium_value.proofs.{GoodItems.GoodBytes.item_bytes, GoodItems.Accepted.anyway, GoodItems.Reader.Answer}
-use Rattle.ciborium_value.proofs.{GoodItems.Reader.{ends, refused, read}, GoodItems.Refused.refusal-read}
+use Rattle.ciborium_ll.{proofs.{CutHeads.each-byte, UniqueSpelling.one_at_front}, specs.Bytes.AreBytes}
+use Rattle.ciborium_ll.specs.Refusal.{Refusal}
+use Rattle.ciborium_value.proofs.GoodItems.{Accepted.anyway, Answered.{Meets, read-meets}, Found.read-good}
+use Rattle.ciborium_value.proofs.GoodItems.{GoodBytes.item_bytes, Reader.{Answer, ends, refused, read}}
+use Rattle.ciborium_value.{proofs.GoodItems.Refused.refusal-read, specs.{Meaning.meaning, Nesting.Limit}}
+use Rattle.ciborium_value.specs.{Refuses.Refuses, Spelling.{Spelling, IsReadAs}, Tree.Tree}
+use Rattle.ciborium_value.specs.laws.RefusalLaws.{HasGoodItem, GoodOrRefused, NeverBoth, OneRefusal, OneReading}
 
 -- turns that are enough for the bytes
 abbrev pub enough : List ℕ → ℕ

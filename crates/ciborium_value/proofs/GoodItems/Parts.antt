@@ -1,10 +1,10 @@
 -- The parts of containers: what is due, limits, and lists of what is read as items and as encodings.
 use Rattle.std.proofs.Common.{◌≡◌, ℕ, zero, suc, ◌+◌, ◌≤◌, max, List, [], ◌∷◌, ◌++◌, length, Option, Some, None}
 use Rattle.std.proofs.Common.{option_and_then, refl, sym, ap, ◌∙◌, subst, arith, length-append, append_assoc}
-use Rattle.std.proofs.Common.{append-nil, true, ◌&&◌}
-use Rattle.std.specs.{declared.cmp.Ordering.Ordering, declared.cmp.Ordering.TheVariants.Less}
+use Rattle.std.{proofs.Common.{append-nil, true, ◌&&◌}, specs.declared.cmp.Ordering.{Ordering, TheVariants.Less}}
 use Rattle.ciborium_ll.specs.{Bytes.greatest_offset, Item.{Items, no_items, item, Pairs, no_pairs, pair, items_count}}
 use Rattle.ciborium_ll.specs.{Item.pairs_count, Spells.{SpellsItems, SpellsPairs}}
+use Rattle.ciborium_value.proofs.GoodItems.{Accepted.accepted, Reader.{Answer, levels, is_less, rising, in_order}}
 use Rattle.ciborium_value.specs.{Canonical.key_order, Deterministic.{AreRising, HaveRisingKeys, PairsHaveRisingKeys}}
 use Rattle.ciborium_value.specs.{Deterministic.keys_of, Encoding.{encoding, items_of, pairs_of, items_bytes}}
 use Rattle.ciborium_value.specs.{Encoding.pairs_bytes, Folded.{folded, trees_folded, tree_pairs_folded}}
@@ -14,10 +14,8 @@ use Rattle.ciborium_value.specs.{ProperTrees.{AreProperTrees, AreProperTreePairs
 use Rattle.ciborium_value.specs.{Refuses.{next_due, due_after, keys_among, keys_in, AreReadAs}, Spelling.Spelling}
 use Rattle.ciborium_value.specs.{Spelling.{any, deterministic, IsReadAs, AreInOrder}, Tree.{Tree, Trees, no_trees}}
 use Rattle.ciborium_value.specs.Tree.{tree, TreePairs, no_tree_pairs, tree_pair, trees_count, tree_pairs_count}
-use Rattle.ciborium_value.specs.{View.trees_from, inner.ReadItems.pairs_in, declared.key_order.KeyOrder.KeyOrder}
-use Rattle.ciborium_value.specs.{lemmas.Descriptions.both, lemmas.ReadsBackParts.{within-left, within-right}}
-use Rattle.ciborium_value.proofs.{GoodItems.Accepted.accepted, GoodItems.Reader.{Answer, levels, is_less, rising}}
-use Rattle.ciborium_value.proofs.GoodItems.Reader.{in_order}
+use Rattle.ciborium_value.specs.{View.trees_from, declared.key_order.KeyOrder.KeyOrder, inner.ReadItems.pairs_in}
+use Rattle.ciborium_value.specs.lemmas.{Descriptions.both, ReadsBackParts.{within-left, within-right}}
 
 -- ---- limits
 

@@ -1,15 +1,14 @@
 -- A reader over lists, for proofs alone, that answers the tree it read and what is left, or a refusal.
 use Rattle.std.proofs.Common.{ℕ, zero, suc, ◌+◌, ◌-◌, cond, ltb, leb, eqb, Bool, true, false, ◌&&◌, ◌||◌, List, [], ◌∷◌}
 use Rattle.std.proofs.Common.{◌++◌, length, take, drop, Option, Some, None, option_map, pos, negsuc}
-use Rattle.std.specs.{Str.is_utf8, declared.cmp.Ordering.Ordering, declared.cmp.Ordering.TheVariants.{Less, Equal}}
-use Rattle.std.specs.declared.cmp.Ordering.TheVariants.{Greater}
+use Rattle.std.specs.{Str.is_utf8, declared.cmp.Ordering.{Ordering, TheVariants.{Less, Equal, Greater}}}
+use Rattle.ciborium_ll.proofs.FrontHeads.{Front, nothing, counted, opened, plain, raw, front}
 use Rattle.ciborium_ll.specs.{Bytes.greatest_offset, Refusal.{Refusal, io, syntax, semantic, recursion_limit_exceeded}}
 use Rattle.ciborium_ll.specs.Refusal.{Float, Simple, Break, TooLarge, NotFolded, head_refusal}
-use Rattle.ciborium_ll.proofs.FrontHeads.{Front, nothing, counted, opened, plain, raw, front}
 use Rattle.ciborium_value.specs.{Canonical.key_order, Meaning.{simple_meaning, bignum_meaning, is_bignum_tag}}
 use Rattle.ciborium_value.specs.{Nesting.Limit, Refuses.{Due, items, keys, values, next_due, keys_among}}
 use Rattle.ciborium_value.specs.{Spelling.{Spelling, any, deterministic, spelling_fault}, Tree.{Tree, integer, bytes}}
-use Rattle.ciborium_value.specs.{Tree.{text, tag}, inner.ReadItems.container_of, declared.key_order.KeyOrder.KeyOrder}
+use Rattle.ciborium_value.specs.{Tree.{text, tag}, declared.key_order.KeyOrder.KeyOrder, inner.ReadItems.container_of}
 use Rattle.ciborium_ll.specs.Refusal as refusal
 
 pub data Answer (A : Type 0) : Type 0 where

@@ -3,31 +3,29 @@ use Rattle.std.proofs.Common.{◌≡◌, ℕ, zero, suc, ◌+◌, ◌-◌, ◌*�
 use Rattle.std.proofs.Common.{List, [], ◌∷◌, ◌++◌, length, take, Option, Some, None, refl, sym, ap, ◌∙◌, subst, arith}
 use Rattle.std.proofs.{Common.{length-append, lt-ltb, le-ltb, eq-eqb, eqb-true, ltb-true}, Math.Seq.take-append_seam}
 use Rattle.std.proofs.lemmas.Bool.{cond-true}
-use Rattle.ciborium_ll.specs.{Bytes.{AreBytes, greatest_offset}, Head.IsSimple, Refusal.{SemanticKind, Refusal, syntax}}
-use Rattle.ciborium_ll.specs.Refusal.{semantic, Float, Simple, Break, TooLarge, NotFolded, recursion_limit_exceeded}
-use Rattle.ciborium_ll.specs.{Refusal.{IsUsable, HeadRefuses, HasHead, IsAtFront}, StringRefusal.{StringKind, of_bytes}}
-use Rattle.ciborium_ll.specs.StringRefusal.{of_text, string_major, IsAllowed, PayloadRefuses, StringRefuses}
-use Rattle.ciborium_ll.specs.StringRefusal.{ChunkRefuses, OpenStringRefuses, HasStringHead}
-use Rattle.ciborium_ll.proofs.{FrontHeads.{Front, nothing, counted, opened, plain, raw, front}, ReadHeads.{Face, faces}}
-use Rattle.ciborium_ll.proofs.UsableHeads.{EachIsByte, bytes_after, stands-front, stands-length, pass}
-use Rattle.ciborium_ll.proofs.CutHeads.{each-byte}
+use Rattle.ciborium_ll.proofs.{CutHeads.each-byte, FrontHeads.{Front, nothing, counted, opened, plain, raw, front}}
+use Rattle.ciborium_ll.proofs.{ReadHeads.{Face, faces}, UsableHeads.{EachIsByte, bytes_after, stands-front}}
+use Rattle.ciborium_ll.{proofs.UsableHeads.{stands-length, pass}, specs.Bytes.{AreBytes, greatest_offset}}
+use Rattle.ciborium_ll.specs.{Head.IsSimple, Refusal.{SemanticKind, Refusal, syntax, semantic, Float, Simple, Break}}
+use Rattle.ciborium_ll.specs.Refusal.{TooLarge, NotFolded, recursion_limit_exceeded, IsUsable, HeadRefuses, HasHead}
+use Rattle.ciborium_ll.specs.{Refusal.IsAtFront, StringRefusal.{StringKind, of_bytes, of_text, string_major, IsAllowed}}
+use Rattle.ciborium_ll.specs.StringRefusal.{PayloadRefuses, StringRefuses, ChunkRefuses, OpenStringRefuses}
+use Rattle.ciborium_ll.specs.StringRefusal.{HasStringHead}
+use Rattle.ciborium_value.proofs.GoodItems.{Answered.{kind_ok, rest-bytes}, Bignums.{foldable-small, foldable-is}}
+use Rattle.ciborium_value.proofs.GoodItems.{Bignums.{is-foldable, large-none}, Faults.{fault-break, fault-float}}
+use Rattle.ciborium_value.proofs.GoodItems.{Faults.fault-simple, Found.{kind_allowed, simple-front, read-good}}
+use Rattle.ciborium_value.proofs.GoodItems.{Found.parts-run, Introduced.{folding-reads, kind-below}, Parts.levels-below}
+use Rattle.ciborium_value.proofs.GoodItems.{Parts.in_order-is, Reader.{Answer, ends, refused, and_then, made, given}}
+use Rattle.ciborium_value.proofs.GoodItems.Reader.{past, allowed, string, chunk, piece, pieces, levels, break_at}
+use Rattle.ciborium_value.proofs.GoodItems.Reader.{end_at, or_end, is_unwanted, bignum, counted_item, opened_item}
+use Rattle.ciborium_value.proofs.GoodItems.{Reader.{next_part, read, parts}, Spelled.{folds-front, seen-folds, not_so}}
+use Rattle.ciborium_value.proofs.GoodItems.Steps.{checked-none, checked-some, read-head, read-fault, read-counted}
+use Rattle.ciborium_value.proofs.GoodItems.Steps.{read-opened, opens-read, tag-at, pieces-run}
 use Rattle.ciborium_value.specs.{Meaning.{simple_meaning, big_endian}, Nesting.Limit, Refuses.{HasGoodHead, Due, items}}
 use Rattle.ciborium_value.specs.Refuses.{keys, values, keys_among, IsDue, BeginsContainer, IsInside, IsTagAt}
 use Rattle.ciborium_value.specs.{Refuses.{IsFoldingAt, Refuses}, Spelling.{Spelling, any, deterministic, IsReadAs}}
 use Rattle.ciborium_value.specs.{Spelling.{spelling_fault, IsUnwanted}, Tree.Tree, inner.ReadItems.string_tree}
 use Rattle.ciborium_value.specs.inner.ReadItems.{container_of}
-use Rattle.ciborium_value.proofs.{GoodItems.Answered.{kind_ok, rest-bytes}, GoodItems.Bignums.foldable-small}
-use Rattle.ciborium_value.proofs.GoodItems.Bignums.{foldable-is, is-foldable, large-none}
-use Rattle.ciborium_value.proofs.GoodItems.Faults.{fault-break, fault-float, fault-simple}
-use Rattle.ciborium_value.proofs.GoodItems.Found.{kind_allowed, simple-front, read-good, parts-run}
-use Rattle.ciborium_value.proofs.{GoodItems.Introduced.{folding-reads, kind-below}, GoodItems.Parts.levels-below}
-use Rattle.ciborium_value.proofs.{GoodItems.Parts.in_order-is, GoodItems.Reader.{Answer, ends, refused, and_then, made}}
-use Rattle.ciborium_value.proofs.GoodItems.Reader.{given, past, allowed, string, chunk, piece, pieces, levels, break_at}
-use Rattle.ciborium_value.proofs.GoodItems.Reader.{end_at, or_end, is_unwanted, bignum, counted_item, opened_item}
-use Rattle.ciborium_value.proofs.{GoodItems.Reader.{next_part, read, parts}, GoodItems.Spelled.folds-front}
-use Rattle.ciborium_value.proofs.{GoodItems.Spelled.{seen-folds, not_so}, GoodItems.Steps.{checked-none, checked-some}}
-use Rattle.ciborium_value.proofs.GoodItems.Steps.{read-head, read-fault, read-counted, read-opened, opens-read, tag-at}
-use Rattle.ciborium_value.proofs.GoodItems.Steps.{pieces-run}
 use Rattle.ciborium_ll.specs.Refusal as refusal
 use Rattle.ciborium_value.specs.Tree as trees
 

@@ -2,17 +2,14 @@
 use Rattle.std.proofs.Common.{◌≡◌, ℕ, suc, ◌+◌, ◌*◌, ◌<◌, ◌≤◌, cond, leb, eqb, Bool, true, false, ◌&&◌, List, [], ◌∷◌}
 use Rattle.std.proofs.Common.{◌++◌, length, Option, Some, None, refl, ap, ◌∙◌, subst, arith, inl, inr, length-append}
 use Rattle.std.proofs.Common.{append_assoc, le-leb, leb-true, eqb-true, IsUtf8}
-use Rattle.std.proofs.lemmas.List.Elements.{All-from_recursion}
-use Rattle.std.specs.List.{AllByRecursion}
-use Rattle.ciborium_ll.specs.{Bytes.AreBytes, Head.IsHead, Item.{Item, unsigned, negative, bytes, text, array, map}}
-use Rattle.ciborium_ll.specs.{Item.{tag, simple, float, items_count, pairs_count}, Refusal.{IsUsable, HasHead}}
-use Rattle.ciborium_ll.specs.Spells.{IsString, IsContainer, Spells}
-use Rattle.ciborium_value.specs.{Meaning.{is_bignum_tag, short_string, folding_bytes}, Refuses.IsFoldingAt}
-use Rattle.ciborium_value.specs.lemmas.Descriptions.{both}
+use Rattle.std.{proofs.lemmas.List.Elements.All-from_recursion, specs.List.AllByRecursion}
 use Rattle.ciborium_ll.proofs.FrontHeads.{Front, nothing, counted, opened, plain, raw, front, front_open, front-simple}
 use Rattle.ciborium_ll.proofs.{FrontHeads.{front-head, head-length}, ReadHeads.{Face, faces}, UsableHeads.EachIsByte}
-use Rattle.ciborium_ll.proofs.UsableHeads.{stands-front}
-use Rattle.ciborium_value.proofs.GoodItems.Reader.{short, folding}
+use Rattle.ciborium_ll.{proofs.UsableHeads.stands-front, specs.{Bytes.AreBytes, Head.IsHead, Item.{Item, unsigned}}}
+use Rattle.ciborium_ll.specs.Item.{negative, bytes, text, array, map, tag, simple, float, items_count, pairs_count}
+use Rattle.ciborium_ll.specs.{Refusal.{IsUsable, HasHead}, Spells.{IsString, IsContainer, Spells}}
+use Rattle.ciborium_value.{proofs.GoodItems.Reader.{short, folding}, specs.Meaning.{is_bignum_tag, short_string}}
+use Rattle.ciborium_value.specs.{Meaning.folding_bytes, Refuses.IsFoldingAt, lemmas.Descriptions.both}
 
 string_of-pos : (o : Bool) (m : ℕ) (IsAllowed : List ℕ → Type 0) (s y : List ℕ) → IsString o m IsAllowed s y →
     0 < length s

@@ -1,9 +1,8 @@
 -- The encodings of values with parts, and of lists of values.
 use Rattle.std.proofs.Common.{◌≡◌, ℕ, suc, ◌+◌, ◌<◌, List, [], ◌∷◌, ◌++◌, length, take, drop, get_or, refl, sym, ap}
 use Rattle.std.proofs.Common.{◌∙◌, append_assoc, append-nil}
-use Rattle.ciborium_value.specs.{Encoding.encoding, View.tree_of, declared.tree.Value.Value}
-use Rattle.ciborium_value.specs.inner.EncodedLists.{encodings, pair_encodings}
-use Rattle.ciborium_value.proofs.Trees.Elements.{around, one_more}
+use Rattle.ciborium_value.{proofs.Trees.Elements.{around, one_more}, specs.{Encoding.encoding, View.tree_of}}
+use Rattle.ciborium_value.specs.{declared.tree.Value.Value, inner.EncodedLists.{encodings, pair_encodings}}
 
 -- ---- lists
 

@@ -2,13 +2,12 @@
 -- order of their encodings.
 use Rattle.std.proofs.Common.{◌≡◌, ℕ, ◌+◌, ◌^◌, ◌<◌, ◌≤◌, List, ◌++◌, length, refl, ap, ◌∙◌, sym, arith, length-append}
 use Rattle.std.proofs.{Common.{Ordering, Less, Equal, Greater, nat_cmp}, lemmas.Bool.Decides.nat_tests}
-use Rattle.std.proofs.lemmas.Cmp.{tied_itself, nat_cmp_total}
-use Rattle.std.specs.{Cmp.Lexicographic.slice_cmp, Ordering.ordering_then}
+use Rattle.std.{proofs.lemmas.Cmp.{tied_itself, nat_cmp_total}, specs.Cmp.Lexicographic.slice_cmp}
+use Rattle.std.specs.Ordering.{ordering_then}
 use Rattle.ciborium_ll.specs.Head.{Width, within, one_byte, two_bytes, four_bytes, eight_bytes, head_in, narrowest}
 use Rattle.ciborium_ll.specs.Head.{shortest_head}
-use Rattle.ciborium_value.specs.{Canonical.canonical_order, Tree.{Tree, bytes, text}, Visits.saturated}
-use Rattle.ciborium_value.specs.inner.SideBySide.{payload_order}
-use Rattle.ciborium_value.proofs.Orders.HeadsInOrder.{heads_decide}
+use Rattle.ciborium_value.{proofs.Orders.HeadsInOrder.heads_decide, specs.{Canonical.canonical_order, Tree.Tree}}
+use Rattle.ciborium_value.specs.{Tree.{bytes, text}, Visits.saturated, inner.SideBySide.payload_order}
 
 -- how many bytes a head has, by its width
 abbrev size_of : Width → ℕ

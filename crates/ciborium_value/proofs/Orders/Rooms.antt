@@ -1,13 +1,11 @@
 -- Encodings that are taken from a room, part by part.
 use Rattle.std.proofs.Common.{◌≡◌, ℕ, suc, ◌+◌, ◌-◌, ◌<◌, ◌≤◌, List, [], ◌++◌, length, take, drop, get_or, Option, Some}
-use Rattle.std.proofs.Common.{None, ap, ◌∙◌, length-append, arith}
-use Rattle.std.specs.Option.{SomeIff}
+use Rattle.std.{proofs.Common.{None, ap, ◌∙◌, length-append, arith}, specs.Option.SomeIff}
 use Rattle.ciborium_ll.specs.Head.{shortest_head}
-use Rattle.ciborium_value.specs.{Encoding.encoding, Tree.Tree, View.tree_of, declared.tree.Value.Value}
-use Rattle.ciborium_value.specs.{inner.EncodedLists.{encodings, pair_encodings}, inner.TreeHeads.tree_major}
-use Rattle.ciborium_value.specs.inner.TreeHeads.{argument_of, content_bytes}
 use Rattle.ciborium_value.proofs.Orders.Encodings.{encodings-around, pair_encodings-around}
-use Rattle.ciborium_value.proofs.Orders.TreeEncodings.{encoding-length}
+use Rattle.ciborium_value.{proofs.Orders.TreeEncodings.encoding-length, specs.{Encoding.encoding, Tree.Tree}}
+use Rattle.ciborium_value.specs.{View.tree_of, declared.tree.Value.Value, inner.EncodedLists.encodings}
+use Rattle.ciborium_value.specs.inner.{EncodedLists.pair_encodings, TreeHeads.{tree_major, argument_of, content_bytes}}
 
 -- one part, and then another
 SomeIff-then : (result : Option ℕ) (room left one other both : ℕ) → both ≡ one + other → (one ≤ room) ×

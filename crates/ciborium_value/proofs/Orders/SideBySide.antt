@@ -3,23 +3,20 @@
 use Rattle.std.proofs.Common.{◌≡◌, ℕ, suc, ◌+◌, ◌^◌, ◌<◌, ◌≤◌, List, [], ◌∷◌, ◌++◌, length, take, drop, get_or, map}
 use Rattle.std.proofs.Common.{Bool, true, false, ℤ, pos, negsuc, ◌⊎◌, inl, inr, Vec, vec_len, String, string_bytes, Box}
 use Rattle.std.proofs.Common.{Global, rules, refl, sym, ap, ◌∙◌, subst, lit<, arith, Ordering, Equal, nat_cmp}
-use Rattle.std.proofs.{Common.{append_assoc, append-nil}, lemmas.List.{map-append, take_all}, lemmas.Cmp.tied_itself}
-use Rattle.std.proofs.lemmas.Cmp.{nat_cmp_total, nat_list_cmp_total}
-use Rattle.std.specs.{Cmp.Lexicographic.slice_cmp, FinMap.{nat_cmp-IsAntisymmetric, slice_cmp-IsAntisymmetric}}
-use Rattle.std.specs.Ordering.{is_ne, ordering_then}
-use Rattle.ciborium_ll.specs.Head.{shortest_head}
-use Rattle.ciborium_value.specs.Encoding.{encoding, items_of, pairs_of, items_bytes, pairs_bytes}
-use Rattle.ciborium_value.specs.{inner.SideBySide.Decides, Tree.Tree, View.{tree_of, trees_from, tree_pairs_from}}
-use Rattle.ciborium_value.specs.{View.pair_trees, declared.tree.Value.{Value, the_lemmas}}
-use Rattle.ciborium_value.specs.{declared.tree.Value.TheOpen.Value-F, declared.tree.Value.TheViews.out-Value}
-use Rattle.ciborium_value.specs.{declared.tree.Value.TheViews.roll-Value, inner.TreeHeads.{tree_major, argument_of}}
-use Rattle.ciborium_value.specs.{inner.TreeHeads.{content_bytes, head_order}, inner.EncodedLists.encodings}
-use Rattle.ciborium_value.specs.inner.EncodedLists.{pair_encodings}
-use Rattle.ciborium_value.proofs.Trees.Views.{tree_of-Integer, tree_of-Bytes, tree_of-Text, tree_of-Bool, tree_of-Null}
-use Rattle.ciborium_value.proofs.{Trees.Elements.one_more, Orders.Encodings.{encodings-around, pair_encodings-around}}
+use Rattle.std.proofs.{Common.{append_assoc, append-nil}, lemmas.Cmp.{tied_itself, nat_cmp_total, nat_list_cmp_total}}
+use Rattle.std.{proofs.lemmas.List.{map-append, take_all}, specs.Cmp.Lexicographic.slice_cmp}
+use Rattle.std.specs.{FinMap.{nat_cmp-IsAntisymmetric, slice_cmp-IsAntisymmetric}, Ordering.{is_ne, ordering_then}}
+use Rattle.ciborium_ll.{proofs.HeadOrder.then_equal, specs.Head.shortest_head}
+use Rattle.ciborium_value.proofs.Orders.Encodings.{encodings-around, pair_encodings-around}
 use Rattle.ciborium_value.proofs.Orders.HeadsInOrder.{fronts_decide, heads_decide, one_length}
 use Rattle.ciborium_value.proofs.Orders.TreeEncodings.{encoding-is, argument_of-Array, argument_of-Map}
-use Rattle.ciborium_ll.proofs.HeadOrder.{then_equal}
+use Rattle.ciborium_value.proofs.Trees.{Elements.one_more, Views.{tree_of-Integer, tree_of-Bytes, tree_of-Text}}
+use Rattle.ciborium_value.{proofs.Trees.Views.{tree_of-Bool, tree_of-Null}, specs.Encoding.{encoding, items_of}}
+use Rattle.ciborium_value.specs.{Encoding.{pairs_of, items_bytes, pairs_bytes}, Tree.Tree, View.{tree_of, trees_from}}
+use Rattle.ciborium_value.specs.{View.{tree_pairs_from, pair_trees}, declared.tree.Value.{Value, the_lemmas}}
+use Rattle.ciborium_value.specs.declared.tree.Value.{TheOpen.Value-F, TheViews.{out-Value, roll-Value}}
+use Rattle.ciborium_value.specs.inner.{EncodedLists.{encodings, pair_encodings}, SideBySide.Decides}
+use Rattle.ciborium_value.specs.inner.TreeHeads.{tree_major, argument_of, content_bytes, head_order}
 use Rattle.ciborium_value.specs.Tree as trees
 use Rattle.ciborium_value.specs.declared.tree.Value as value
 

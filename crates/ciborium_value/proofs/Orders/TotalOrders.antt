@@ -1,14 +1,13 @@
 -- The orders of values by their encodings are total, and tie equal values alone.
 use Rattle.std.proofs.{Common.{◌≡◌, refl, sym, ap, ◌∙◌, Ordering, Less, Equal, Greater, is_eq}, lemmas.Cmp.tied_itself}
-use Rattle.std.proofs.lemmas.Cmp.{nat_cmp_total, nat_list_cmp_total, then_total, on_total}
-use Rattle.std.specs.{Cmp.IsTotalOrder, Ordering.ordering_then}
+use Rattle.std.{proofs.lemmas.Cmp.{nat_cmp_total, nat_list_cmp_total, then_total, on_total}, specs.Cmp.IsTotalOrder}
+use Rattle.std.specs.Ordering.{ordering_then}
+use Rattle.ciborium_value.proofs.Orders.{Derived.value_cmp_total, OrderedTrees.tied_where_equal}
 use Rattle.ciborium_value.specs.{Canonical.{bytewise_order, canonical_order, key_order}, Derived.{value_eq, value_cmp}}
-use Rattle.ciborium_value.specs.{Encoding.{encoding, encoded_size}, Tree.Tree, View.tree_of}
-use Rattle.ciborium_value.specs.{contracts.tree.ValueOrd.TheImpl.Laws.matches_eq-law, declared.tree.Value.Value}
-use Rattle.ciborium_value.specs.{lemmas.DerivedOrder.value_cmp-is, declared.key_order.KeyOrder.KeyOrder}
-use Rattle.ciborium_value.specs.declared.key_order.KeyOrder.TheVariants.{LengthFirst, Bytewise}
-use Rattle.ciborium_value.specs.OrderedValues.{ordered_value_cmp}
-use Rattle.ciborium_value.proofs.{Orders.Derived.value_cmp_total, Orders.OrderedTrees.tied_where_equal}
+use Rattle.ciborium_value.specs.{Encoding.{encoding, encoded_size}, OrderedValues.ordered_value_cmp, Tree.Tree}
+use Rattle.ciborium_value.specs.{View.tree_of, contracts.tree.ValueOrd.TheImpl.Laws.matches_eq-law}
+use Rattle.ciborium_value.specs.declared.key_order.KeyOrder.{KeyOrder, TheVariants.{LengthFirst, Bytewise}}
+use Rattle.ciborium_value.specs.{declared.tree.Value.Value, lemmas.DerivedOrder.value_cmp-is}
 
 pub canonical_order_total : IsTotalOrder canonical_order
 canonical_order_total = then_total (on_total encoded_size nat_cmp_total) (on_total encoding nat_list_cmp_total)

@@ -1,15 +1,13 @@
 -- What is read of a map, pair by pair, from any source.
 use Rattle.std.proofs.Common.{◌≡◌, ℕ, Bool, true, false, if◌then◌else◌, ◌&&◌, List, [], ◌∷◌, Ordering, sym, ◌∙◌, ap}
-use Rattle.std.proofs.Common.{subst}
-use Rattle.std.specs.BTreeMap.{insert_entry}
+use Rattle.std.{proofs.Common.subst, specs.BTreeMap.insert_entry}
 use Rattle.ciborium_ll.specs.Item.{Item}
-use Rattle.ciborium_value.specs.{Ahead.{Ahead, Rest, Span, item, after, pairs, entry, inside, end_of}, Nesting.Limit}
-use Rattle.ciborium_value.specs.{Places.{Shape, dictionary}, Sources.{Fault, of_kind, IsFaultOf, TakesAhead}}
-use Rattle.ciborium_value.specs.Sources.{RefusesAhead, EntersMap, GoesOn, Leaves, RefusesNext, TakesTo, TakesItem}
-use Rattle.ciborium_value.specs.{Sources.{OwesLess, OwesNothing}, Given.{Outcome, Steps, Given, chosen, deeper_if}}
-use Rattle.ciborium_value.specs.{Given.{outcome, refuse, refuses, then_read, then_take}, GivenParts.{has_key, put_each}}
-use Rattle.ciborium_value.specs.GivenParts.{given_map}
 use Rattle.ciborium_value.proofs.Sources.Sequences.{fault_then, fault_outside, Follows, so, IsBlamed, IsBefore, IsPast}
+use Rattle.ciborium_value.specs.{Ahead.{Ahead, Rest, Span, item, after, pairs, entry, inside, end_of}, Given.Outcome}
+use Rattle.ciborium_value.specs.Given.{Steps, Given, chosen, deeper_if, outcome, refuse, refuses, then_read, then_take}
+use Rattle.ciborium_value.specs.{GivenParts.{has_key, put_each, given_map}, Nesting.Limit, Places.{Shape, dictionary}}
+use Rattle.ciborium_value.specs.Sources.{Fault, of_kind, IsFaultOf, TakesAhead, RefusesAhead, EntersMap, GoesOn, Leaves}
+use Rattle.ciborium_value.specs.Sources.{RefusesNext, TakesTo, TakesItem, OwesLess, OwesNothing}
 use Rattle.ciborium_value.specs.declared.kind.Kind.TheVariants as kinds
 
 -- ---- from one place to the next

@@ -1,20 +1,19 @@
 -- What a source finds at a value.
 use Rattle.std.proofs.Common.{◌≡◌, ℕ, suc, ◌+◌, ◌<◌, ◌≤◌, List, [], ◌∷◌, ◌++◌, map, length, chars, IsUtf8, encode_utf8}
 use Rattle.std.proofs.Common.{slice_get, Option, Some, None, Result, Ok, Err, IfOk, IfErr, Vec, Global, refl, sym, Bool}
-use Rattle.std.proofs.{Common.{true, false, ap, ◌∙◌, arith, subst}, lemmas.Str.{chars_past_char, chars-nil}}
-use Rattle.std.proofs.lemmas.List.{nil_from_length}
+use Rattle.std.proofs.{Common.{true, false, ap, ◌∙◌, arith, subst}, lemmas.{List.nil_from_length, Str.chars_past_char}}
+use Rattle.std.{proofs.lemmas.Str.chars-nil, specs.Borrow.Bor}
 use Rattle.ciborium_ll.specs.Item.{Item, unsigned}
-use Rattle.ciborium_value.specs.Ahead.{Span, Rest, counted, inside, of_bytes, takes_level, until_break}
-use Rattle.ciborium_value.specs.{Encoding.{item_of, items_of, pairs_of}, Nesting.Limit, Given.{Outcome, Given, gives}}
-use Rattle.ciborium_value.specs.Given.{outcome, outcome_map, unpack, unpack_pairs, given_seq, given_pairs, bare_seq}
-use Rattle.ciborium_value.specs.Given.{bare_pairs, untagged, lone_character, bare_bytes, given_bytes, given_byte}
-use Rattle.ciborium_value.specs.{Given.take_each, inner.TreeSources.{IsDueValue, pair_items, value_weight, pending_due}}
-use Rattle.ciborium_value.specs.{inner.TreeSources.{pending_tree_weight, due_weight}, TreeAnswers.value_item, Tree.Tree}
-use Rattle.ciborium_value.specs.{View.{tree_of, trees_of, tree_pairs_of}, declared.tree.Value.Value, Counts.node_count}
-use Rattle.ciborium_value.specs.Counts.{payload_size, tree_pairs_node_count, tree_pairs_payload_size}
-use Rattle.std.specs.Borrow.{Bor}
-use Rattle.ciborium_value.proofs.{Writing.TreeSinkSteps.some_is, Trees.Views.{tree_of-Array, tree_of-Map}}
-use Rattle.ciborium_value.proofs.Trees.Views.{tree_of-Bytes}
+use Rattle.ciborium_value.proofs.Trees.Views.{tree_of-Array, tree_of-Map, tree_of-Bytes}
+use Rattle.ciborium_value.{proofs.Writing.TreeSinkSteps.some_is, specs.Ahead.{Span, Rest, counted, inside, of_bytes}}
+use Rattle.ciborium_value.specs.{Ahead.{takes_level, until_break}, Counts.{node_count, payload_size}}
+use Rattle.ciborium_value.specs.{Counts.{tree_pairs_node_count, tree_pairs_payload_size}, Encoding.{item_of, items_of}}
+use Rattle.ciborium_value.specs.{Encoding.pairs_of, Given.{Outcome, Given, gives, outcome, outcome_map, unpack}}
+use Rattle.ciborium_value.specs.Given.{unpack_pairs, given_seq, given_pairs, bare_seq, bare_pairs, untagged}
+use Rattle.ciborium_value.specs.{Given.{lone_character, bare_bytes, given_bytes, given_byte, take_each}, Nesting.Limit}
+use Rattle.ciborium_value.specs.{Tree.Tree, TreeAnswers.value_item, View.{tree_of, trees_of, tree_pairs_of}}
+use Rattle.ciborium_value.specs.{declared.tree.Value.Value, inner.TreeSources.{IsDueValue, pair_items, value_weight}}
+use Rattle.ciborium_value.specs.inner.TreeSources.{pending_due, pending_tree_weight, due_weight}
 use Rattle.ciborium_value.specs.Tree as trees
 use Rattle.ciborium_value.specs.declared.kind.Kind.TheVariants as kinds
 use Rattle.ciborium_value.specs.declared.tree.Value as value

@@ -1,8 +1,7 @@
 -- What is looked up in a list of values, and in their trees.
 use Rattle.std.proofs.Common.{◌≡◌, ◌∙◌, ℕ, zero, suc, ◌<◌, ◌≤◌, List, [], ◌∷◌, ◌++◌, length, get_or, take, drop, Option}
 use Rattle.std.proofs.Common.{Some, None, option_map, Bor, true, if◌then◌else◌, refl, sym, ap, arith, take-append-drop}
-use Rattle.std.proofs.{Common.drop-cons, lemmas.List.get_or_default}
-use Rattle.std.specs.{Option.option_or, Slice.IsItemAt}
+use Rattle.std.{proofs.{Common.drop-cons, lemmas.List.get_or_default}, specs.{Option.option_or, Slice.IsItemAt}}
 use Rattle.ciborium_value.specs.{Labels.{Label, is_label}, Lookups.{last_with, nth_tree, tree_label}, Tree.Tree}
 use Rattle.ciborium_value.specs.{View.{tree_of, trees_of, tree_pairs_of}, declared.tree.Value.Value}
 

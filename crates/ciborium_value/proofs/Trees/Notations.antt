@@ -2,18 +2,16 @@
 use Rattle.std.proofs.Common.{◌≡◌, ℕ, ◌+◌, ◌/◌, ◌%◌, ◌<◌, true, false, Option, List, [], ◌∷◌, ◌++◌, length, take, drop}
 use Rattle.std.proofs.Common.{get_or, slice_index, codes, decimal, refl, sym, ap, subst, ◌∙◌, arith, append-nil}
 use Rattle.std.proofs.Common.{append_assoc, add-one, suc, take-append-drop, drop-cons}
-use Rattle.std.proofs.{Output.{has_written_styled_append, has_written_styled_of_eq}, lemmas.Grind.flat_map-append}
-use Rattle.std.proofs.{lemmas.Bool.Decides.nat_tests, lemmas.List.Elements.{All-head, All-tail}}
-use Rattle.std.specs.{Fmt.{HasWrittenStyled, IsFlush, WritesInCalls}, Fmt.InlineText.{AppendsIfIntact, IsIntact}}
-use Rattle.std.specs.{Fmt.InlineText.inline_text, List.{FoldsTo, concat, flat_map}, declared.fmt.InlineText.InlineText}
-use Rattle.std.specs.declared.fmt.Formatter.{Formatter}
+use Rattle.std.proofs.{Output.{has_written_styled_append, has_written_styled_of_eq}, lemmas.Bool.Decides.nat_tests}
+use Rattle.std.{proofs.lemmas.{Grind.flat_map-append, List.Elements.{All-head, All-tail}}, specs.Fmt.HasWrittenStyled}
+use Rattle.std.specs.{Fmt.{IsFlush, WritesInCalls, InlineText.{AppendsIfIntact, IsIntact, inline_text}}, List.FoldsTo}
+use Rattle.std.specs.{List.{concat, flat_map}, declared.fmt.{Formatter.Formatter, InlineText.InlineText}}
 use Rattle.hex.specs.Hex.{encode_lower, encode_with, lower_digits}
+use Rattle.ciborium_value.proofs.Trees.{Elements.one_more, Views.{trees_count-trees_of, tree_pairs_count-tree_pairs_of}}
 use Rattle.ciborium_value.specs.Notation.{IsPlain, comma, one_level_more, escape, escaped, last_break, line_break}
 use Rattle.ciborium_value.specs.{Notation.{needs_escape, notation_on, notations_on, pair_notations_on}, Tree.Tree}
 use Rattle.ciborium_value.specs.{Tree.{array, map, tag}, View.{tree_of, trees_of, tree_pairs_of}}
 use Rattle.ciborium_value.specs.declared.tree.Value.{Value}
-use Rattle.ciborium_value.proofs.{Trees.Elements.one_more, Trees.Views.trees_count-trees_of}
-use Rattle.ciborium_value.proofs.Trees.Views.{tree_pairs_count-tree_pairs_of}
 
 -- ---- one write behind another
 

@@ -1,10 +1,9 @@
 -- A tag behind a `&mut` is cut in two: its number and its box are lent side by side.
-use Rattle.std.proofs.Common.{◌≡◌, ℕ, List, [], ◌∷◌, refl, sym, ap}
-use Rattle.std.specs.{Box.with_value, contracts.impls.GlobalAllocator.TheImpl.ghosts}
-use Rattle.ciborium_value.proofs.tree.Value.TheLaws.{the_alike, the_loose}
-use Rattle.ciborium_value.specs.{LentParts.{value_with_tag, level_with_tag}, contracts.tree.Value.{enum, the_type}}
-use Rattle.ciborium_value.specs.{contracts.tree.Value.the_row as R, declared.tree.Value.TheOpen.Value-F}
-use Rattle.ciborium_value.specs.declared.tree.Value.TheViews.{outs-Tag}
+use Rattle.std.{proofs.Common.{◌≡◌, ℕ, List, [], ◌∷◌, refl, sym, ap}, specs.Box.with_value}
+use Rattle.std.specs.contracts.impls.GlobalAllocator.TheImpl.{ghosts}
+use Rattle.ciborium_value.{proofs.tree.Value.TheLaws.{the_alike, the_loose}, specs.LentParts.value_with_tag}
+use Rattle.ciborium_value.specs.{LentParts.level_with_tag, contracts.tree.Value.{enum, the_type, the_row as R}}
+use Rattle.ciborium_value.specs.declared.tree.Value.{TheOpen.Value-F, TheViews.outs-Tag}
 use Prim.Native.Nat.{◌+◌}
 use base.Fml.{Fml, fex, Lft, GName, Share, flft, fobs, fauth, fres, fobor, fbor}
 use base.Fraction.{full_share}

@@ -1,16 +1,15 @@
 -- Places of a sink and the bytes that are out at them.
 use Rattle.std.proofs.Common.{Bool, true, false, cond, nat_lt, lit<, ◌≡◌, ℕ, zero, suc, ◌+◌, List, [], ◌∷◌, ◌++◌}
 use Rattle.std.proofs.Common.{length, ◌<◌, Option, Some, None, refl, sym, ◌∙◌, ap, subst, append_assoc, append-nil}
-use Rattle.std.proofs.Common.{arith}
-use Rattle.std.specs.Borrow.{GName}
-use Rattle.ciborium_ll.specs.Head.{shortest_head, open_byte, break_byte}
-use Rattle.ciborium_ll.specs.Item as item
-use Rattle.ciborium_ll.specs.Item.{Item, Items, Pairs, items_count, pairs_count}
+use Rattle.std.{proofs.Common.arith, specs.Borrow.GName}
+use Rattle.ciborium_ll.specs.{Head.{shortest_head, open_byte, break_byte}, Item.{Item, Items, Pairs, items_count}}
+use Rattle.ciborium_ll.specs.Item.{pairs_count}
 use Rattle.ciborium_value.specs.Encoding.{written_bytes, items_bytes, pairs_bytes, enclosed, string_bytes}
 use Rattle.ciborium_value.specs.Places.{Shape, sequence, dictionary, items_from, pairs_from, container, begin_bytes}
 use Rattle.ciborium_value.specs.Places.{end_bytes, is_open, Place, top, within, tagged, added, ended, IsFull, bytes_at}
 use Rattle.ciborium_value.specs.Places.{writer_at, IsBeginning, IsProperBeginning, Out, IsOutOf, IsOutAt, IsOutBetween}
 use Rattle.ciborium_value.specs.Places.{IsCutBetween}
+use Rattle.ciborium_ll.specs.Item as item
 
 -- ---- the bytes of items in a row
 

@@ -1,11 +1,10 @@
 -- What a `Value` names, level by level.
 use Rattle.std.proofs.Common.{◌≡◌, ℕ, false, List, [], ◌∷◌, map, Ok, Vec, Box, Global, refl, sym, ◌∙◌, ap}
 use Rattle.ciborium_ll.specs.Item.{Item}
-use Rattle.ciborium_value.specs.{Encoding.{item_of, items_of, pairs_of}, Places.{sequence, dictionary, items_from}}
-use Rattle.ciborium_value.specs.{Places.pairs_from, Sinks.{and_then, all_named, contained, container_of, in_turn}}
-use Rattle.ciborium_value.specs.{Sinks.{named_value, tag_of}, Tree.Tree, View.{tree_of, trees_from, tree_pairs_of}}
-use Rattle.ciborium_value.specs.declared.tree.Value.{Value}
-use Rattle.ciborium_value.proofs.Trees.Views.{tree_of-Tag, tree_of-Array, tree_of-Map}
+use Rattle.ciborium_value.{proofs.Trees.Views.{tree_of-Tag, tree_of-Array, tree_of-Map}, specs.Encoding.item_of}
+use Rattle.ciborium_value.specs.{Encoding.{items_of, pairs_of}, Places.{sequence, dictionary, items_from, pairs_from}}
+use Rattle.ciborium_value.specs.Sinks.{and_then, all_named, contained, container_of, in_turn, named_value, tag_of}
+use Rattle.ciborium_value.specs.{Tree.Tree, View.{tree_of, trees_from, tree_pairs_of}, declared.tree.Value.Value}
 use Rattle.ciborium_ll.specs.Item as item
 use Rattle.ciborium_value.specs.Tree as trees
 use Rattle.ciborium_value.specs.declared.tree.Value as value

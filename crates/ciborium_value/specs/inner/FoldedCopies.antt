@@ -1,10 +1,9 @@
 -- The copying of a tree, folded, by a walk that keeps what is open and what is still to come.
 use Rattle.std.specs.Prelude.{◌≡◌, ℕ, ◌+◌, ◌<◌, List, [], ◌∷◌, ◌++◌, map, reverse, Option, Some, None}
-use Rattle.ciborium_value.specs.{Counts.node_count, Folded.folded, inner.Frames.{TreeFrame, Placed, done, more, placed}}
-use Rattle.ciborium_value.specs.Sources.{Fault, of_kind, of_nesting, of_syntax, of_memory, of_device, of_end, of_length}
-use Rattle.ciborium_value.specs.{inner.Stack.begun_frame, Tree.Tree, View.tree_of}
-use Rattle.ciborium_value.specs.{declared.deserialized.folding.Coming.Coming, declared.deserialized.folding.Part.Part}
-use Rattle.ciborium_value.specs.declared.tree.Value.{Value}
+use Rattle.ciborium_value.specs.{Counts.node_count, Folded.folded, Sources.{Fault, of_kind, of_nesting, of_syntax}}
+use Rattle.ciborium_value.specs.{Sources.{of_memory, of_device, of_end, of_length}, Tree.Tree, View.tree_of}
+use Rattle.ciborium_value.specs.declared.{deserialized.folding.{Coming.Coming, Part.Part}, tree.Value.Value}
+use Rattle.ciborium_value.specs.inner.{Frames.{TreeFrame, Placed, done, more, placed}, Stack.begun_frame}
 use Rattle.ciborium_value.specs.declared.deserialized.folding.Coming.TheVariants as coming
 use Rattle.ciborium_value.specs.declared.deserialized.folding.Part.TheVariants as part
 use Rattle.ciborium_value.specs.declared.kind.Kind.TheVariants as kinds

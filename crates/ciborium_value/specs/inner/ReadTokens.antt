@@ -4,10 +4,8 @@ use Rattle.std.specs.Prelude.{if◌then◌else◌, true, Bool, false, map, rever
 use Rattle.ciborium_value.specs.Denotes.{Begins, BeginsItems, BeginsPairs, DenotesWithin, IsToken, MayRefuse}
 use Rattle.ciborium_value.specs.{Notation.needs_escape, Tokens.{Token, behind_blanks}, Tree.{Tree, Trees, TreePairs}}
 use Rattle.ciborium_value.specs.{View.{pair_trees, tree_of}, declared.from_notation.byte_strings.Group.Group}
-use Rattle.ciborium_value.specs.declared.from_notation.error.NotationError.{NotationError}
-use Rattle.ciborium_value.specs.{declared.from_notation.levels.Due.Due, declared.from_notation.levels.Level.Level}
-use Rattle.ciborium_value.specs.declared.from_notation.levels.Levels.{Levels}
-use Rattle.ciborium_value.specs.declared.from_notation.tokens.Token.{Token as Read}
+use Rattle.ciborium_value.specs.declared.from_notation.{error.NotationError.NotationError, levels.Due.Due}
+use Rattle.ciborium_value.specs.declared.from_notation.{levels.{Level.Level, Levels.Levels}, tokens.Token.Token as Read}
 use Rattle.ciborium_value.specs.Tokens as tokens
 use Rattle.ciborium_value.specs.Tree as trees
 use Rattle.ciborium_value.specs.declared.from_notation.levels.Due.TheVariants as due

@@ -1,13 +1,12 @@
 -- Where a source over a tree stands.
-use Rattle.std.specs.{Prelude.{◌≡◌, ℕ, ◌+◌, List, map, length, Option, Some, None}, Borrow.Bor}
+use Rattle.std.specs.{Borrow.Bor, Prelude.{◌≡◌, ℕ, ◌+◌, List, map, length, Option, Some, None}}
 use Rattle.ciborium_ll.specs.Item.{Item, simple, unsigned}
 use Rattle.ciborium_value.specs.Ahead.{Ahead, Rest, item, after, bottom, parts, pairs, entry, level_due}
 use Rattle.ciborium_value.specs.Counts.{node_count, payload_size, trees_node_count, trees_payload_size}
-use Rattle.ciborium_value.specs.{Counts.{tree_pairs_node_count, tree_pairs_payload_size}, Nesting.Limit, View.tree_of}
-use Rattle.ciborium_value.specs.{View.{trees_of, tree_pairs_of}, declared.deserialized.Pending.Pending}
-use Rattle.ciborium_value.specs.{declared.deserialized.Left.Left, declared.deserialized.TreeLevel.TreeLevel}
-use Rattle.ciborium_value.specs.{declared.deserialized.TreeSeq.TreeSeq, declared.deserialized.TreeSource.TreeSource}
-use Rattle.ciborium_value.specs.{declared.tree.Value.Value, TreeAnswers.value_item}
+use Rattle.ciborium_value.specs.{Counts.{tree_pairs_node_count, tree_pairs_payload_size}, Nesting.Limit}
+use Rattle.ciborium_value.specs.{TreeAnswers.value_item, View.{tree_of, trees_of, tree_pairs_of}}
+use Rattle.ciborium_value.specs.declared.deserialized.{Left.Left, Pending.Pending, TreeLevel.TreeLevel, TreeSeq.TreeSeq}
+use Rattle.ciborium_value.specs.declared.{deserialized.TreeSource.TreeSource, tree.Value.Value}
 use Rattle.ciborium_value.specs.declared.deserialized.Pending.TheVariants as pending
 use Rattle.ciborium_value.specs.declared.deserialized.Left.TheVariants as left
 

@@ -1,29 +1,28 @@
 -- The descriptions of the library's types, and of structs as maps, from those of their parts.
-use Rattle.std.proofs.Common.{ap, arith, subst, sym, ◌∙◌}
-use Rattle.std.specs.{List.All, Option.{option_map, unwrap_or}, Prelude.{◌≡◌, ◌<◌, ◌^◌, ◌+◌, ℕ, ℤ, suc, pos, max, Bool}}
-use Rattle.std.specs.Prelude.{true, false, List, [], ◌∷◌, Option, Some, None, Ok, Err, IfSome, length, map, nat_le}
-use Rattle.std.specs.{Prelude.{◌&&◌, if◌then◌else◌, refl}, declared.cmp.Ordering.Ordering}
+use Rattle.std.{proofs.Common.{ap, arith, subst, sym, ◌∙◌}, specs.{List.All, Option.{option_map, unwrap_or}}}
+use Rattle.std.specs.Prelude.{◌≡◌, ◌<◌, ◌^◌, ◌+◌, ℕ, ℤ, suc, pos, max, Bool, true, false, List, [], ◌∷◌, Option, Some}
+use Rattle.std.specs.Prelude.{None, Ok, Err, IfSome, length, map, nat_le, ◌&&◌, if◌then◌else◌, refl}
+use Rattle.std.specs.declared.cmp.Ordering.{Ordering}
 use Rattle.ciborium_ll.specs.Bytes.{greatest_offset}
 use Rattle.ciborium_value.specs.Described.{Description, FieldsDescription, IsDescribed, is_lawful, labeled_map}
-use Rattle.ciborium_value.specs.{Described.{labeled_parts, maybe_before, maybe_levels}, Labels.{Label, is_label}}
-use Rattle.ciborium_value.specs.{Labels.{is_proper, label_item, number_or, parts_or}, NeverWritten.{Avoided, IsNever}}
-use Rattle.ciborium_value.specs.NeverWritten.{byte_strings, never-container, never-number, never-option, nulls}
+use Rattle.ciborium_value.specs.{Described.{labeled_parts, maybe_before, maybe_levels}, Given.Given, Labels.Label}
+use Rattle.ciborium_value.specs.{Labels.{is_label, is_proper, label_item, number_or, parts_or}, NeverWritten.Avoided}
+use Rattle.ciborium_value.specs.NeverWritten.{IsNever, byte_strings, never-container, never-number, never-option, nulls}
 use Rattle.ciborium_value.specs.{Places.{Shape, dictionary, sequence}, Progress.counted_of, Readings.IsBounded}
 use Rattle.ciborium_value.specs.Readings.{Reading, below, bounded, list_of, option_of, ordered_by, read_as, such_that}
 use Rattle.ciborium_value.specs.{Readings.{tuple1_of, tuple2_of, tuple3_of, tuple4_of}, ReadsBack.IsNameRead}
 use Rattle.ciborium_value.specs.{ReadsBack.{IsReadBack, Way, name-back}, Sinks.{Named, container_of, number_item}}
 use Rattle.ciborium_value.specs.{Sinks.or_null, StructReadings.{Fields, FieldsGiven, end_of_fields, field_filled}}
 use Rattle.ciborium_value.specs.StructReadings.{no_field_given, no_other_given, optional_field, struct_of, given_struct}
-use Rattle.ciborium_value.specs.{Given.Given, WrittenContents.{AreFieldsAlike, IsWrittenByContent, field_alike}}
-use Rattle.ciborium_value.specs.WrittenContents.{list-alike, no_field_alike, option-alike, signed-alike, tuple1-alike}
-use Rattle.ciborium_value.specs.WrittenContents.{tuple2-alike, tuple3-alike, tuple4-alike, unsigned-alike}
-use Rattle.ciborium_value.specs.{declared.kind.Kind.Kind, declared.kind.Kind.TheVariants.Other}
-use Rattle.ciborium_value.specs.lemmas.ReadsBackNumbers.{IsSignedBack, IsUnsignedBack}
-use Rattle.ciborium_value.specs.{lemmas.ReadsBackOptions.{option-back, option_levels}, lemmas.ReadsBackParts.greatest}
-use Rattle.ciborium_value.specs.lemmas.ReadsBackParts.{list-back, such_that_back, tuple1-back, tuple2-back, tuple3-back}
-use Rattle.ciborium_value.specs.{lemmas.ReadsBackParts.tuple4-back, lemmas.ReadsBackStructs.{FieldsReadBack, are_apart}}
-use Rattle.ciborium_value.specs.lemmas.ReadsBackStructs.{end_back, field_filled_back, field_or_back, fields_read_back}
-use Rattle.ciborium_value.specs.lemmas.ReadsBackStructs.{is_named, left_out_back, neither}
+use Rattle.ciborium_value.specs.WrittenContents.{AreFieldsAlike, IsWrittenByContent, field_alike, list-alike}
+use Rattle.ciborium_value.specs.WrittenContents.{no_field_alike, option-alike, signed-alike, tuple1-alike, tuple2-alike}
+use Rattle.ciborium_value.specs.{WrittenContents.{tuple3-alike, tuple4-alike, unsigned-alike}, declared.kind.Kind.Kind}
+use Rattle.ciborium_value.specs.{declared.kind.Kind.TheVariants.Other, lemmas.ReadsBackNumbers.signed-back}
+use Rattle.ciborium_value.specs.lemmas.{ReadsBackNumbers.unsigned-back, ReadsBackOptions.{option-back, option_levels}}
+use Rattle.ciborium_value.specs.lemmas.ReadsBackParts.{greatest, list-back, such_that_back, tuple1-back, tuple2-back}
+use Rattle.ciborium_value.specs.lemmas.{ReadsBackParts.{tuple3-back, tuple4-back}, ReadsBackStructs.FieldsReadBack}
+use Rattle.ciborium_value.specs.lemmas.ReadsBackStructs.{are_apart, end_back, field_filled_back, field_or_back}
+use Rattle.ciborium_value.specs.lemmas.ReadsBackStructs.{fields_read_back, is_named, left_out_back, neither}
 
 -- ---- tests that hold together
 
@@ -87,14 +86,14 @@ scalar {C = C} r written IsValid avoids back alike never = record {
 }
 
 -- numbers from 0 on, of so many bits
-abbrev pub unsigned_description : (k : ℕ) → IsUnsignedBack k → Description ℕ
-unsigned_description k back = scalar (below (2 ^ k)) (λ n. Ok (number_item (pos n)))
-    (λ n. n < 2 ^ k) (λ a. true) back unsigned-alike (λ a h n. never-number a (pos n))
+abbrev pub unsigned_description : (k : ℕ) → k < 129 → Description ℕ
+unsigned_description k fits = scalar (below (2 ^ k)) (λ n. Ok (number_item (pos n)))
+    (λ n. n < 2 ^ k) (λ a. true) (unsigned-back k fits) unsigned-alike (λ a h n. never-number a (pos n))
 
 -- n and -1 - n, for n of so many bits
-abbrev pub signed_description : (k : ℕ) → IsSignedBack k → Description ℤ
-signed_description k back = scalar (bounded (2 ^ k)) (λ n. Ok (number_item n))
-    (IsBounded (2 ^ k)) (λ a. true) back signed-alike (λ a h n. never-number a n)
+abbrev pub signed_description : (k : ℕ) → k < 128 → Description ℤ
+signed_description k fits = scalar (bounded (2 ^ k)) (λ n. Ok (number_item n))
+    (IsBounded (2 ^ k)) (λ a. true) (signed-back k fits) signed-alike (λ a h n. never-number a n)
 
 -- ---- types that are written as another
 

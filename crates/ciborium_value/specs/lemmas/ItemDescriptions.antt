@@ -1,11 +1,10 @@
 -- The descriptions of structs as arrays, from those of their items.
-use Rattle.std.proofs.Common.{ap, ◌∙◌}
-use Rattle.std.specs.Prelude.{◌≡◌, suc, max, ◌+◌, true, [], ◌∷◌, ◌&&◌, nat_le, refl}
+use Rattle.std.{proofs.Common.{ap, ◌∙◌}, specs.Prelude.{◌≡◌, suc, max, ◌+◌, true, [], ◌∷◌, ◌&&◌, nat_le, refl}}
 use Rattle.ciborium_ll.specs.Bytes.{greatest_offset}
-use Rattle.ciborium_value.specs.{Described.{Description, ItemsDescription}, Places.sequence, Progress.counted_of}
-use Rattle.ciborium_value.specs.{Readings.{array_of, no_part, part}, ReadsBack.{IsNameRead, Way}, GivenParts.after_seq}
-use Rattle.ciborium_value.specs.lemmas.Descriptions.{both, chosen-back, counted-never}
-use Rattle.ciborium_value.specs.lemmas.ReadsBackParts.{array_back, no_part_back, part_back}
+use Rattle.ciborium_value.specs.{Described.{Description, ItemsDescription}, GivenParts.after_seq, Places.sequence}
+use Rattle.ciborium_value.specs.{Progress.counted_of, Readings.{array_of, no_part, part}, ReadsBack.{IsNameRead, Way}}
+use Rattle.ciborium_value.specs.lemmas.{Descriptions.{both, chosen-back, counted-never}, ReadsBackParts.array_back}
+use Rattle.ciborium_value.specs.lemmas.ReadsBackParts.{no_part_back, part_back}
 
 -- an item, which is this, before others
 abbrev pub then_item : {T V : Type 0} → (T → V) → Description V → ItemsDescription T → ItemsDescription T

@@ -1,6 +1,5 @@
 -- The item of a tree: it folds where the tree does, and it is written as that tree.
-use Rattle.std.proofs.Common.{ap, ◌∙◌}
-use Rattle.std.specs.Prelude.{◌≡◌, pos, negsuc, false, true, refl}
+use Rattle.std.{proofs.Common.{ap, ◌∙◌}, specs.Prelude.{◌≡◌, pos, negsuc, false, true, refl}}
 use Rattle.ciborium_value.specs.Encoding.{item_of, items_of, pairs_of, written_tree, written_trees, written_pairs}
 use Rattle.ciborium_value.specs.{Folded.short_bytes, Meaning.short_string, Tree.{Tree, Trees, TreePairs}}
 use Rattle.ciborium_value.specs.WrittenItems.{TreeIsWrittenAsItself}

@@ -1,25 +1,24 @@
 -- The descriptions of maps, from those of their keys and values.
-use Rattle.std.proofs.lemmas.Cmp.{int_cmp_total, nat_cmp_total}
-use Rattle.std.specs.{BTreeMap.BTreeMap, Ordering.{int_cmp, nat_cmp}, Prelude.{ℕ, ℤ, suc, Bool, true, List, ◌&&◌, refl}}
+use Rattle.std.{proofs.lemmas.Cmp.{int_cmp_total, nat_cmp_total}, specs.{BTreeMap.BTreeMap, Ordering.int_cmp}}
+use Rattle.std.specs.{Ordering.nat_cmp, Prelude.{ℕ, ℤ, ◌<◌, suc, Bool, true, List, ◌&&◌, refl}}
 use Rattle.ciborium_value.specs.{Described.{Description, KeyDescription}, NeverWritten.never-container}
 use Rattle.ciborium_value.specs.{Places.dictionary, Readings.map_by, Sinks.{container_of, in_turn}}
 use Rattle.ciborium_value.specs.{WrittenContents.map-alike, lemmas.Descriptions.{both, signed_description}}
-use Rattle.ciborium_value.specs.{lemmas.Descriptions.unsigned_description, lemmas.ReadsBackMaps.IsMapValid}
-use Rattle.ciborium_value.specs.{lemmas.ReadsBackMaps.{entry_levels, map-back}, lemmas.ReadsBackNumbers.IsSignedBack}
-use Rattle.ciborium_value.specs.{lemmas.ReadsBackNumbers.IsUnsignedBack, lemmas.ReadsBackParts.greatest}
+use Rattle.ciborium_value.specs.lemmas.{Descriptions.unsigned_description, ReadsBackMaps.{IsMapValid, entry_levels}}
+use Rattle.ciborium_value.specs.lemmas.{ReadsBackMaps.map-back, ReadsBackParts.greatest}
 
 -- numbers as keys
-abbrev pub unsigned_key : (k : ℕ) → IsUnsignedBack k → KeyDescription ℕ
-unsigned_key k back = record {
-  key = unsigned_description k back;
+abbrev pub unsigned_key : (k : ℕ) → k < 129 → KeyDescription ℕ
+unsigned_key k fits = record {
+  key = unsigned_description k fits;
   compare = nat_cmp;
   total = nat_cmp_total;
   orders = λ a b. refl;
 }
 
-abbrev pub signed_key : (k : ℕ) → IsSignedBack k → KeyDescription ℤ
-signed_key k back = record {
-  key = signed_description k back;
+abbrev pub signed_key : (k : ℕ) → k < 128 → KeyDescription ℤ
+signed_key k fits = record {
+  key = signed_description k fits;
   compare = int_cmp;
   total = int_cmp_total;
   orders = λ a b. refl;

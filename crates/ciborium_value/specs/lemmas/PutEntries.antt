@@ -1,18 +1,17 @@
 -- Entries that are put in by their keys, in turn: where no two keys are equal, their order makes no
 -- difference.
-use Rattle.std.proofs.Common.{sym, ap, ◌∙◌, append-nil, append_assoc, cond, is_eq, subst}
-use Rattle.std.specs.{BTreeMap.{insert_entry, is_at}, Cmp.IsTotalOrder, List.AllByRecursion}
-use Rattle.std.specs.{List.Sorted.IsStrictlySortedBy, Map.{keys_of, lookup}, Option.is_some, Ordering.match_ordering}
-use Rattle.std.specs.{Ordering.ordering_reverse, Prelude.{◌≡◌, Bool, true, false, List, [], ◌∷◌, ◌++◌, Option, Some}}
-use Rattle.std.specs.{Prelude.{None, if◌then◌else◌, ◌&&◌, refl}, declared.cmp.Ordering.Ordering}
-use Rattle.std.specs.declared.cmp.Ordering.TheVariants.{Less, Equal, Greater}
+use Rattle.std.{proofs.Common.{sym, ap, ◌∙◌, append-nil, append_assoc, cond, is_eq, subst}, specs.BTreeMap.insert_entry}
+use Rattle.std.specs.{BTreeMap.is_at, Cmp.IsTotalOrder, List.{AllByRecursion, Sorted.IsStrictlySortedBy}, Map.keys_of}
+use Rattle.std.specs.{Map.lookup, Option.is_some, Ordering.{match_ordering, ordering_reverse}, Prelude.{◌≡◌, Bool}}
+use Rattle.std.specs.Prelude.{true, false, List, [], ◌∷◌, ◌++◌, Option, Some, None, if◌then◌else◌, ◌&&◌, refl}
+use Rattle.std.specs.declared.cmp.Ordering.{Ordering, TheVariants.{Less, Equal, Greater}}
 use Rattle.ciborium_ll.specs.Item.{Item}
-use Rattle.ciborium_value.specs.{Nesting.Limit, lemmas.GivenOutcomes.{mapped_gives, one_given, then_gives}}
-use Rattle.ciborium_value.specs.{lemmas.ReadsBackStructs.nothing-twice, lemmas.Reordered.{AreReordered, all-reordered}}
-use Rattle.ciborium_value.specs.{lemmas.Reordered.{as_they_are, first_stays, neighbours, then_again}, Given.Outcome}
-use Rattle.ciborium_value.specs.Given.{Given, chosen, gives, outcome, outcome_map, refuse, refuses, take_each}
+use Rattle.ciborium_value.specs.Given.{Outcome, Given, chosen, gives, outcome, outcome_map, refuse, refuses, take_each}
 use Rattle.ciborium_value.specs.{Given.{then_read, then_take}, GivenParts.{has_key, put_all, put_each, take_entry}}
-use Rattle.ciborium_value.specs.WrittenContents.{contents}
+use Rattle.ciborium_value.specs.{Nesting.Limit, WrittenContents.contents, lemmas.GivenOutcomes.mapped_gives}
+use Rattle.ciborium_value.specs.lemmas.{GivenOutcomes.{one_given, then_gives}, ReadsBackStructs.nothing-twice}
+use Rattle.ciborium_value.specs.lemmas.Reordered.{AreReordered, all-reordered, as_they_are, first_stays, neighbours}
+use Rattle.ciborium_value.specs.lemmas.Reordered.{then_again}
 use Rattle.ciborium_value.specs.declared.kind.Kind.TheVariants as kinds
 
 -- ---- keys that rise

@@ -1,19 +1,18 @@
 -- What is written of a map is read back: a form has the same pairs in another order, and reading
 -- puts them in the order of the keys again.
-use Rattle.std.proofs.{Common.{ap, subst, ◌∙◌}, lemmas.List.Elements.{All-head, All-tail}}
-use Rattle.std.specs.{BTreeMap.{BTreeMap, IsOrdered}, Cmp.IsTotalOrder, List.All, Prelude.{◌≡◌, ℕ, suc, max, Bool}}
-use Rattle.std.specs.{Prelude.{true, false, List, [], ◌∷◌, Result, Ok, Err, IfOk, refl}, declared.cmp.Ordering.Ordering}
+use Rattle.std.{proofs.{Common.{ap, subst, ◌∙◌}, lemmas.List.Elements.{All-head, All-tail}}, specs.BTreeMap.BTreeMap}
+use Rattle.std.specs.{BTreeMap.IsOrdered, Cmp.IsTotalOrder, List.All, Prelude.{◌≡◌, ℕ, suc, max, Bool, true, false}}
+use Rattle.std.specs.{Prelude.{List, [], ◌∷◌, Result, Ok, Err, IfOk, refl}, declared.cmp.Ordering.Ordering}
 use Rattle.ciborium_ll.specs.Item.{Item}
-use Rattle.ciborium_value.specs.{Nesting.{Limit, IsWithin}, Places.{dictionary, pairs_from}, ReadsBack.IsItemRead}
-use Rattle.ciborium_value.specs.{ReadsBack.{IsNameRead, IsReadBack, Way, at, name-back}, lemmas.GivenOutcomes.and_take}
-use Rattle.ciborium_value.specs.{lemmas.MetItems.{ArePairsMet, inside, map-met}, lemmas.PutEntries.AreNew}
-use Rattle.ciborium_value.specs.lemmas.PutEntries.{apart-reordered, contents-apart, put-new, reordered-contents}
-use Rattle.ciborium_value.specs.{lemmas.PutEntries.sorted-apart, lemmas.ReadsBackParts.{greatest, within-left}}
-use Rattle.ciborium_value.specs.{lemmas.ReadsBackParts.within-right, lemmas.Reordered.{AreEach, AreReordered}}
-use Rattle.ciborium_value.specs.{lemmas.Reordered.each-reordered, Sinks.{Named, and_then, all_named, contained}}
-use Rattle.ciborium_value.specs.{Sinks.{container_of, in_turn}, Given.{Given, gives, outcome, take_each, then_take}}
-use Rattle.ciborium_value.specs.{Given.unpack_pairs, GivenParts.{given_map, put_all, put_each, take_entry}}
-use Rattle.ciborium_value.specs.{declared.kind.Kind.Kind, WrittenContents.contents}
+use Rattle.ciborium_value.specs.Given.{Given, gives, outcome, take_each, then_take, unpack_pairs}
+use Rattle.ciborium_value.specs.{GivenParts.{given_map, put_all, put_each, take_entry}, Nesting.{Limit, IsWithin}}
+use Rattle.ciborium_value.specs.{Places.{dictionary, pairs_from}, ReadsBack.{IsItemRead, IsNameRead, IsReadBack, Way}}
+use Rattle.ciborium_value.specs.{ReadsBack.{at, name-back}, Sinks.{Named, and_then, all_named, contained, container_of}}
+use Rattle.ciborium_value.specs.{Sinks.in_turn, WrittenContents.contents, declared.kind.Kind.Kind}
+use Rattle.ciborium_value.specs.lemmas.{GivenOutcomes.and_take, MetItems.{ArePairsMet, inside, map-met}}
+use Rattle.ciborium_value.specs.lemmas.PutEntries.{AreNew, apart-reordered, contents-apart, put-new, reordered-contents}
+use Rattle.ciborium_value.specs.lemmas.{PutEntries.sorted-apart, ReadsBackParts.{greatest, within-left, within-right}}
+use Rattle.ciborium_value.specs.lemmas.Reordered.{AreEach, AreReordered, each-reordered}
 
 -- what the entries are: their keys rise, and each key and value is valid
 abbrev pub IsMapValid : {K V : Type 0} → (K → K → Ordering) → (K → Type 0) → (V → Type 0) → BTreeMap K V → Type 0

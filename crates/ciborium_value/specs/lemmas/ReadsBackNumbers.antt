@@ -117,7 +117,7 @@ abbrev pub IsUnsignedBack : ℕ → Type 0
 IsUnsignedBack k = (way : Way) → IsReadBack way (λ n. n < 2 ^ k) (λ n. named (number_item (pos n)))
     (below (2 ^ k)).taken (λ n. n) (λ n. 0)
 
-unsigned-back : (k : ℕ) → k < 129 → IsUnsignedBack k
+pub unsigned-back : (k : ℕ) → k < 129 → IsUnsignedBack k
 unsigned-back k fits way n h =
     let wide = below-power n k 128 h (omega (arith, fits)) in
     item-back (number_item (pos n)) (below (2 ^ k)).taken
@@ -143,45 +143,7 @@ own-signed o k fits (pos n) h = own-unsigned o n (below-power n k 128 h (omega (
 own-signed o k fits (negsuc n) h =
     own-negative o n (below-power n k 127 h (omega (arith, fits))) (nat_lt n (2 ^ 64)) refl
 
-signed-back : (k : ℕ) → k < 128 → IsSignedBack k
+pub signed-back : (k : ℕ) → k < 128 → IsSignedBack k
 signed-back k fits way z h = item-back (number_item z) (bounded (2 ^ k)).taken
     (met-itself (number_item z) (definite-number z) (λ o. own-signed o k fits z h) way)
     (λ l none. signed-given k fits z h l)
-
--- ---- the types of numbers, by their names; `usize` and `isize` have 64 bits
-
-pub u8_back : IsUnsignedBack 8
-u8_back = unsigned-back 8 (lit< tt)
-
-pub u16_back : IsUnsignedBack 16
-u16_back = unsigned-back 16 (lit< tt)
-
-pub u32_back : IsUnsignedBack 32
-u32_back = unsigned-back 32 (lit< tt)
-
-pub u64_back : IsUnsignedBack 64
-u64_back = unsigned-back 64 (lit< tt)
-
-pub u128_back : IsUnsignedBack 128
-u128_back = unsigned-back 128 (lit< tt)
-
-pub usize_back : IsUnsignedBack 64
-usize_back = unsigned-back 64 (lit< tt)
-
-pub i8_back : IsSignedBack 7
-i8_back = signed-back 7 (lit< tt)
-
-pub i16_back : IsSignedBack 15
-i16_back = signed-back 15 (lit< tt)
-
-pub i32_back : IsSignedBack 31
-i32_back = signed-back 31 (lit< tt)
-
-pub i64_back : IsSignedBack 63
-i64_back = signed-back 63 (lit< tt)
-
-pub i128_back : IsSignedBack 127
-i128_back = signed-back 127 (lit< tt)
-
-pub isize_back : IsSignedBack 63
-isize_back = signed-back 63 (lit< tt)

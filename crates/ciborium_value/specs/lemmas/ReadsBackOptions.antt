@@ -1,17 +1,16 @@
 -- Options of what is never written as null or undefined are read back: what is not null is not null
 -- in its deterministic form either.
-use Rattle.std.proofs.Common.{ap, subst, sym, ◌∙◌}
-use Rattle.std.specs.{Option.option_map, Prelude.{◌≡◌, ℕ, ◌^◌, pos, negsuc, Bool, true, false, List, Option, Some}}
-use Rattle.std.specs.Prelude.{None, IfSome, if◌then◌else◌, ◌==◌, nat_lt, refl}
+use Rattle.std.{proofs.Common.{ap, subst, sym, ◌∙◌}, specs.{Option.option_map, Prelude.{◌≡◌, ℕ, ◌^◌, pos, negsuc}}}
+use Rattle.std.specs.Prelude.{Bool, true, false, List, Option, Some, None, IfSome, if◌then◌else◌, ◌==◌, nat_lt, refl}
 use Rattle.ciborium_ll.specs.Item.{Item}
 use Rattle.ciborium_value.specs.{DeterministicForms.{deterministic_form, tag_form}, Encoding.{item_of, written_tree}}
-use Rattle.ciborium_value.specs.{Folded.tree_folding_bytes, lemmas.GivenOutcomes.{mapped_gives, meaning_given}}
-use Rattle.ciborium_value.specs.{lemmas.GivenOutcomes.one_given, lemmas.MetItems.form-kept, Meaning.big_endian}
-use Rattle.ciborium_value.specs.Meaning.{bignum_meaning, negative_bignum, unsigned_bignum, without_zeros}
-use Rattle.ciborium_value.specs.{Nesting.Limit, NeverWritten.{IsNever, IsOther, nulls}, ReadsBack.IsNameRead}
-use Rattle.ciborium_value.specs.ReadsBack.{IsReadBack, Way, by_bytes, by_form, by_tree, item-back, met, met-null}
-use Rattle.ciborium_value.specs.{Sinks.{Named, or_null}, Given.{Outcome, Given, gives, is_null, outcome, outcome_map}}
-use Rattle.ciborium_value.specs.{GivenParts.given_option, Tree.Tree, declared.key_order.KeyOrder.KeyOrder}
+use Rattle.ciborium_value.specs.{Folded.tree_folding_bytes, Given.{Outcome, Given, gives, is_null, outcome}}
+use Rattle.ciborium_value.specs.{Given.outcome_map, GivenParts.given_option, Meaning.{big_endian, bignum_meaning}}
+use Rattle.ciborium_value.specs.{Meaning.{negative_bignum, unsigned_bignum, without_zeros}, Nesting.Limit}
+use Rattle.ciborium_value.specs.{NeverWritten.{IsNever, IsOther, nulls}, ReadsBack.{IsNameRead, IsReadBack, Way}}
+use Rattle.ciborium_value.specs.{ReadsBack.{by_bytes, by_form, by_tree, item-back, met, met-null}, Sinks.Named}
+use Rattle.ciborium_value.specs.{Sinks.or_null, Tree.Tree, declared.key_order.KeyOrder.KeyOrder}
+use Rattle.ciborium_value.specs.lemmas.{GivenOutcomes.{mapped_gives, meaning_given, one_given}, MetItems.form-kept}
 use Rattle.ciborium_ll.specs.Item as items
 use Rattle.ciborium_value.specs.Tree as trees
 use Rattle.ciborium_value.specs.declared.kind.Kind.TheVariants as kinds

@@ -1,15 +1,14 @@
 -- What is written is read back, for what is made of others: lists and tuples.
 use Rattle.std.proofs.{Common.{ap, ◌∙◌, arith, subst}, Math.Nat.{le-max_left, le-max_right, max-zero}}
-use Rattle.std.proofs.lemmas.List.Elements.{All-head, All-tail}
-use Rattle.std.specs.{List.All, Prelude.{◌≡◌, ℕ, suc, max, Bool, true, false, List, [], ◌∷◌, map, Some, None, Result}}
-use Rattle.std.specs.Prelude.{Ok, Err, IfOk, if◌then◌else◌, refl}
+use Rattle.std.{proofs.lemmas.List.Elements.{All-head, All-tail}, specs.{List.All, Prelude.{◌≡◌, ℕ, suc, max, Bool}}}
+use Rattle.std.specs.Prelude.{true, false, List, [], ◌∷◌, map, Some, None, Result, Ok, Err, IfOk, if◌then◌else◌, refl}
 use Rattle.ciborium_ll.specs.Item.{Item}
-use Rattle.ciborium_value.specs.{Nesting.{Limit, IsWithin}, Places.sequence, ReadsBack.{IsItemRead, IsNameRead}}
-use Rattle.ciborium_value.specs.{ReadsBack.{IsReadBack, Way, at, name-back}, Sinks.{Named, and_then, all_named}}
-use Rattle.ciborium_value.specs.{Sinks.{contained, container_of}, Given.{Steps, Given, chosen, give, gives, outcome}}
-use Rattle.ciborium_value.specs.Given.{outcome_map, refuse, refuses, take_each, then_take, unpack}
-use Rattle.ciborium_value.specs.GivenParts.{after_seq, given_then, given_list, no_part_given, part_given, given_tuple1}
-use Rattle.ciborium_value.specs.{GivenParts.{given_tuple2, given_tuple3, given_tuple4}, declared.kind.Kind.Kind}
+use Rattle.ciborium_value.specs.Given.{Steps, Given, chosen, give, gives, outcome, outcome_map, refuse, refuses}
+use Rattle.ciborium_value.specs.{Given.{take_each, then_take, unpack}, GivenParts.{after_seq, given_then, given_list}}
+use Rattle.ciborium_value.specs.GivenParts.{no_part_given, part_given, given_tuple1, given_tuple2, given_tuple3}
+use Rattle.ciborium_value.specs.{GivenParts.given_tuple4, Nesting.{Limit, IsWithin}, Places.sequence}
+use Rattle.ciborium_value.specs.{ReadsBack.{IsItemRead, IsNameRead, IsReadBack, Way, at, name-back}, Sinks.Named}
+use Rattle.ciborium_value.specs.{Sinks.{and_then, all_named, contained, container_of}, declared.kind.Kind.Kind}
 use Rattle.ciborium_value.specs.lemmas.MetItems.{AreMet, array-met, inside}
 
 -- the greatest of these levels, or 0

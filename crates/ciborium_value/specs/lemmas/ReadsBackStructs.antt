@@ -1,24 +1,22 @@
 -- What is written of a struct by the labels of its fields is read back: a form has the same pairs
 -- in another order, and of fields whose labels are apart no order makes a difference.
-use Rattle.std.proofs.{Common.{ap, sym, subst, ◌∙◌}, lemmas.Bool.Decides.Decides-int_eq}
-use Rattle.std.proofs.lemmas.Slice.Eq.{bytes_eq-Decides}
+use Rattle.std.proofs.{Common.{ap, sym, subst, ◌∙◌}, lemmas.{Bool.Decides.Decides-int_eq, Slice.Eq.bytes_eq-Decides}}
 use Rattle.std.specs.{List.AllByRecursion, Option.{is_some, unwrap_or}, Prelude.{◌≡◌, ℕ, suc, max, Bool, true, false}}
 use Rattle.std.specs.Prelude.{List, [], ◌∷◌, Option, Some, None, Result, Ok, Err, IfOk, if◌then◌else◌, ◌&&◌, pos}
 use Rattle.std.specs.Prelude.{negsuc, refl}
 use Rattle.ciborium_ll.specs.Item.{Item}
-use Rattle.ciborium_value.specs.{Nesting.{Limit, IsWithin}, Places.{dictionary, pairs_from}, Readings.Reading}
+use Rattle.ciborium_value.specs.Given.{Outcome, gives, outcome, outcome_map, refuses, settled, then_take, unpack_pairs}
 use Rattle.ciborium_value.specs.Labels.{Label, fields_of, is_label, is_proper, label_item, named, numbered, other}
-use Rattle.ciborium_value.specs.{Labels.given_label, ReadsBack.{IsItemRead, IsNameRead, Way, at, met, met-itself}}
-use Rattle.ciborium_value.specs.{ReadsBack.{met-text, name-back}, lemmas.GivenOutcomes.one_given}
-use Rattle.ciborium_value.specs.{lemmas.MetItems.{ArePairsMet, inside, map-met}, lemmas.ReadsBackParts.within-left}
-use Rattle.ciborium_value.specs.{lemmas.ReadsBackParts.within-right, lemmas.Reordered.{AreEach, AreReordered}}
-use Rattle.ciborium_value.specs.lemmas.Reordered.{all-reordered, as_they_are, each-reordered, first_stays, neighbours}
-use Rattle.ciborium_value.specs.{lemmas.Reordered.then_again, Sinks.{Named, all_named, and_then, bignum_item}}
+use Rattle.ciborium_value.specs.{Labels.given_label, Nesting.{Limit, IsWithin}, Places.{dictionary, pairs_from}}
+use Rattle.ciborium_value.specs.{Readings.Reading, ReadsBack.{IsItemRead, IsNameRead, Way, at, met, met-itself}}
+use Rattle.ciborium_value.specs.{ReadsBack.{met-text, name-back}, Sinks.{Named, all_named, and_then, bignum_item}}
 use Rattle.ciborium_value.specs.{Sinks.{contained, in_turn}, StructReadings.{Fields, FieldsGiven, end_of_fields, field}}
 use Rattle.ciborium_value.specs.StructReadings.{field_filled, field_or, field_given, given_struct, no_field}
-use Rattle.ciborium_value.specs.{StructReadings.{no_field_given, required, take_fields}, Given.{Outcome, gives}}
-use Rattle.ciborium_value.specs.Given.{outcome, outcome_map, refuses, settled, then_take, unpack_pairs}
-use Rattle.ciborium_value.specs.declared.kind.Kind.{Kind}
+use Rattle.ciborium_value.specs.{StructReadings.{no_field_given, required, take_fields}, declared.kind.Kind.Kind}
+use Rattle.ciborium_value.specs.lemmas.{GivenOutcomes.one_given, MetItems.{ArePairsMet, inside, map-met}}
+use Rattle.ciborium_value.specs.lemmas.{ReadsBackParts.{within-left, within-right}, Reordered.{AreEach, AreReordered}}
+use Rattle.ciborium_value.specs.lemmas.Reordered.{all-reordered, as_they_are, each-reordered, first_stays, neighbours}
+use Rattle.ciborium_value.specs.lemmas.Reordered.{then_again}
 use Rattle.ciborium_ll.specs.Item as items
 use Rattle.ciborium_value.specs.declared.kind.Kind.TheVariants as kinds
 

@@ -1,18 +1,17 @@
 -- What is written of a `Value` is read back, where folding changes nothing in it (RFC 8949, section
 -- 3.4.3).
-use Rattle.std.proofs.Common.{ap, ◌∙◌, arith, zero}
-use Rattle.std.specs.Prelude.{◌≡◌, ℕ, suc, max, pos, negsuc, false, true, List, Option, Some, None, option_map}
-use Rattle.std.specs.Prelude.{if◌then◌else◌, refl}
+use Rattle.std.{proofs.Common.{ap, ◌∙◌, arith, zero}, specs.Prelude.{◌≡◌, ℕ, suc, max, pos, negsuc, false, true, List}}
+use Rattle.std.specs.Prelude.{Option, Some, None, option_map, if◌then◌else◌, refl}
 use Rattle.ciborium_value.specs.{Encoding.{item_of, items_of, pairs_of}, Folded.{folded, trees_folded}}
-use Rattle.ciborium_value.specs.{Folded.tree_pairs_folded, lemmas.ItemsOfTrees.short_string-item_of}
-use Rattle.ciborium_value.specs.{lemmas.ItemsOfTrees.tree_is_written_as_itself, Meaning.{folding_bytes, is_bignum_tag}}
-use Rattle.ciborium_value.specs.{Meaning.{simple_meaning, tag_meaning, tree_pairs_more, trees_more}, Nesting.Limit}
-use Rattle.ciborium_value.specs.Nesting.{IsWithin, items_nesting, nesting, pairs_nesting, tag_nesting}
-use Rattle.ciborium_value.specs.ReadsBack.{IsNameRead, IsPlain, Way, by_bytes, by_form, by_tree, item-back, met, named}
-use Rattle.ciborium_value.specs.{lemmas.ReadsBackParts.{within-left, within-right}, Given.{Outcome, Steps, gives}}
-use Rattle.ciborium_value.specs.Given.{leveled, mapped, of_meaning, outcome, outcome_map, given_items, given_tag}
-use Rattle.ciborium_value.specs.{Given.{given_tree_pairs, given_value, then_read}, Tree.{Tree, Trees, TreePairs}}
-use Rattle.ciborium_value.specs.lemmas.GivenOutcomes.{pair_first, tree_first}
+use Rattle.ciborium_value.specs.{Folded.tree_pairs_folded, Given.{Outcome, Steps, gives, leveled, mapped, of_meaning}}
+use Rattle.ciborium_value.specs.Given.{outcome, outcome_map, given_items, given_tag, given_tree_pairs, given_value}
+use Rattle.ciborium_value.specs.{Given.then_read, Meaning.{folding_bytes, is_bignum_tag, simple_meaning, tag_meaning}}
+use Rattle.ciborium_value.specs.{Meaning.{tree_pairs_more, trees_more}, Nesting.{Limit, IsWithin, items_nesting}}
+use Rattle.ciborium_value.specs.{Nesting.{nesting, pairs_nesting, tag_nesting}, ReadsBack.{IsNameRead, IsPlain, Way}}
+use Rattle.ciborium_value.specs.{ReadsBack.{by_bytes, by_form, by_tree, item-back, met, named}, Tree.{Tree, Trees}}
+use Rattle.ciborium_value.specs.{Tree.TreePairs, lemmas.GivenOutcomes.{pair_first, tree_first}}
+use Rattle.ciborium_value.specs.lemmas.ItemsOfTrees.{short_string-item_of, tree_is_written_as_itself}
+use Rattle.ciborium_value.specs.lemmas.ReadsBackParts.{within-left, within-right}
 use Rattle.ciborium_value.specs.Tree as trees
 use Rattle.ciborium_value.specs.declared.kind.Kind.TheVariants as kinds
 

@@ -1,12 +1,11 @@
 -- The same elements in another order, as the pairs of a deterministic form are those of the tree.
-use Rattle.std.proofs.Common.{subst}
-use Rattle.std.specs.{List.AllByRecursion, Prelude.{◌≡◌, List, [], ◌∷◌}, declared.cmp.Ordering.Ordering}
-use Rattle.std.specs.declared.cmp.Ordering.TheVariants.{Less, Equal, Greater}
+use Rattle.std.{proofs.Common.subst, specs.{List.AllByRecursion, Prelude.{◌≡◌, List, [], ◌∷◌}}}
+use Rattle.std.specs.declared.cmp.Ordering.{Ordering, TheVariants.{Less, Equal, Greater}}
 use Rattle.ciborium_ll.specs.Item.{Item}
 use Rattle.ciborium_value.specs.{Canonical.key_order, DeterministicForms.{inserted, placed_pair, sorted_pairs}}
-use Rattle.ciborium_value.specs.{Encoding.{item_of, pairs_of}, lemmas.GivenOutcomes.{mapped_gives, one_given}}
-use Rattle.ciborium_value.specs.{lemmas.GivenOutcomes.then_gives, Given.{gives, unpack_pairs}, Tree.{Tree, TreePairs}}
+use Rattle.ciborium_value.specs.{Encoding.{item_of, pairs_of}, Given.{gives, unpack_pairs}, Tree.{Tree, TreePairs}}
 use Rattle.ciborium_value.specs.{Tree.{no_tree_pairs, tree_pair}, declared.key_order.KeyOrder.KeyOrder}
+use Rattle.ciborium_value.specs.lemmas.GivenOutcomes.{mapped_gives, one_given, then_gives}
 
 pub data AreReordered {X : Type 0} : List X → List X → Type 0 where
   as_they_are : {xs : List X} → AreReordered xs xs

@@ -1,13 +1,11 @@
 //! What is written in its deterministic form.
 
+ghost use Rattle.std.proofs.Common.{lit<};
+ghost use Rattle.ciborium_value.specs.lemmas.ReadsBackNumbers.{signed-back, unsigned-back};
 ghost use Rattle.std.specs.Prelude.{false};
 ghost use Rattle.ciborium_value.specs.ReadsBack.{boolean-back, by_form, bytes-back};
 ghost use Rattle.ciborium_value.specs.ReadsBack.{character-back, string_back, unit-back};
 ghost use Rattle.ciborium_value.specs.lemmas.ReadsBackMaps.{map-back};
-ghost use Rattle.ciborium_value.specs.lemmas.ReadsBackNumbers.{i128_back, i16_back, i32_back};
-ghost use Rattle.ciborium_value.specs.lemmas.ReadsBackNumbers.{i64_back, i8_back, isize_back};
-ghost use Rattle.ciborium_value.specs.lemmas.ReadsBackNumbers.{u128_back, u16_back, u32_back};
-ghost use Rattle.ciborium_value.specs.lemmas.ReadsBackNumbers.{u64_back, u8_back, usize_back};
 ghost use Rattle.ciborium_value.specs.lemmas.ReadsBackOptions.{option-back};
 ghost use Rattle.ciborium_value.specs.lemmas.ReadsBackParts.{list-back, tuple1-back, tuple2-back};
 ghost use Rattle.ciborium_value.specs.lemmas.ReadsBackParts.{tuple3-back, tuple4-back};
@@ -75,49 +73,49 @@ impl<K: Key + FormReadsBack, V: FormReadsBack> FormReadsBack for BTreeMap<K, V> 
 }
 
 impl FormReadsBack for u8 {
-    ghost form_reads_back = { λ o. u8_back (by_form o) };
+    ghost form_reads_back = { λ o. unsigned-back 8 (lit< tt) (by_form o) };
 }
 
 impl FormReadsBack for u16 {
-    ghost form_reads_back = { λ o. u16_back (by_form o) };
+    ghost form_reads_back = { λ o. unsigned-back 16 (lit< tt) (by_form o) };
 }
 
 impl FormReadsBack for u32 {
-    ghost form_reads_back = { λ o. u32_back (by_form o) };
+    ghost form_reads_back = { λ o. unsigned-back 32 (lit< tt) (by_form o) };
 }
 
 impl FormReadsBack for u64 {
-    ghost form_reads_back = { λ o. u64_back (by_form o) };
+    ghost form_reads_back = { λ o. unsigned-back 64 (lit< tt) (by_form o) };
 }
 
 impl FormReadsBack for u128 {
-    ghost form_reads_back = { λ o. u128_back (by_form o) };
+    ghost form_reads_back = { λ o. unsigned-back 128 (lit< tt) (by_form o) };
 }
 
 impl FormReadsBack for usize {
-    ghost form_reads_back = { λ o. usize_back (by_form o) };
+    ghost form_reads_back = { λ o. unsigned-back 64 (lit< tt) (by_form o) };
 }
 
 impl FormReadsBack for i8 {
-    ghost form_reads_back = { λ o. i8_back (by_form o) };
+    ghost form_reads_back = { λ o. signed-back 7 (lit< tt) (by_form o) };
 }
 
 impl FormReadsBack for i16 {
-    ghost form_reads_back = { λ o. i16_back (by_form o) };
+    ghost form_reads_back = { λ o. signed-back 15 (lit< tt) (by_form o) };
 }
 
 impl FormReadsBack for i32 {
-    ghost form_reads_back = { λ o. i32_back (by_form o) };
+    ghost form_reads_back = { λ o. signed-back 31 (lit< tt) (by_form o) };
 }
 
 impl FormReadsBack for i64 {
-    ghost form_reads_back = { λ o. i64_back (by_form o) };
+    ghost form_reads_back = { λ o. signed-back 63 (lit< tt) (by_form o) };
 }
 
 impl FormReadsBack for i128 {
-    ghost form_reads_back = { λ o. i128_back (by_form o) };
+    ghost form_reads_back = { λ o. signed-back 127 (lit< tt) (by_form o) };
 }
 
 impl FormReadsBack for isize {
-    ghost form_reads_back = { λ o. isize_back (by_form o) };
+    ghost form_reads_back = { λ o. signed-back 63 (lit< tt) (by_form o) };
 }

@@ -10,6 +10,7 @@ ghost use Rattle.ciborium_value.specs.Sinks.{in_turn};
 use super::{Avoidable, ByteString, NeverWrites, Null};
 use crate::byte_buf::ByteBuf;
 use crate::serialize::Serialize;
+use crate::unique_keys::UniqueKeys;
 use std::collections::BTreeMap;
 
 impl NeverWrites<ByteString> for () {
@@ -63,6 +64,11 @@ impl<A: Serialize, B: Serialize, C: Serialize, D: Serialize, I: Avoidable> Never
 impl<K: Serialize + Ord, V: Serialize, I: Avoidable> NeverWrites<I> for BTreeMap<K, V> {
     ghost never = { λ m. never-container I.avoided dictionary
         (in_turn K.written V.written m.entries) };
+}
+
+impl<K: Serialize + Ord, V: Serialize, I: Avoidable> NeverWrites<I> for UniqueKeys<K, V> {
+    ghost never = { λ m. never-container I.avoided dictionary
+        (in_turn K.written V.written m.0.entries) };
 }
 
 impl<I: Avoidable> NeverWrites<I> for u8 {

@@ -1,11 +1,9 @@
 //! Numbers.
 
+ghost use Rattle.std.proofs.Common.{lit<};
+ghost use Rattle.ciborium_value.specs.lemmas.ReadsBackNumbers.{signed-back, unsigned-back};
 ghost use Rattle.std.specs.Prelude.{◌<◌, ◌^◌};
 ghost use Rattle.ciborium_value.specs.Readings.{IsBounded};
-ghost use Rattle.ciborium_value.specs.lemmas.ReadsBackNumbers.{i128_back, i16_back, i32_back};
-ghost use Rattle.ciborium_value.specs.lemmas.ReadsBackNumbers.{i64_back, i8_back, isize_back};
-ghost use Rattle.ciborium_value.specs.lemmas.ReadsBackNumbers.{u128_back, u16_back, u32_back};
-ghost use Rattle.ciborium_value.specs.lemmas.ReadsBackNumbers.{u64_back, u8_back, usize_back};
 
 use super::ReadsBack;
 
@@ -14,7 +12,7 @@ impl ReadsBack for u8 {
 
     ghost levels = { λ n. 0 };
 
-    ghost reads_back = { λ way plain. u8_back way };
+    ghost reads_back = { λ way plain. unsigned-back 8 (lit< tt) way };
 }
 
 impl ReadsBack for u16 {
@@ -22,7 +20,7 @@ impl ReadsBack for u16 {
 
     ghost levels = { λ n. 0 };
 
-    ghost reads_back = { λ way plain. u16_back way };
+    ghost reads_back = { λ way plain. unsigned-back 16 (lit< tt) way };
 }
 
 impl ReadsBack for u32 {
@@ -30,7 +28,7 @@ impl ReadsBack for u32 {
 
     ghost levels = { λ n. 0 };
 
-    ghost reads_back = { λ way plain. u32_back way };
+    ghost reads_back = { λ way plain. unsigned-back 32 (lit< tt) way };
 }
 
 impl ReadsBack for u64 {
@@ -38,7 +36,7 @@ impl ReadsBack for u64 {
 
     ghost levels = { λ n. 0 };
 
-    ghost reads_back = { λ way plain. u64_back way };
+    ghost reads_back = { λ way plain. unsigned-back 64 (lit< tt) way };
 }
 
 impl ReadsBack for u128 {
@@ -46,7 +44,7 @@ impl ReadsBack for u128 {
 
     ghost levels = { λ n. 0 };
 
-    ghost reads_back = { λ way plain. u128_back way };
+    ghost reads_back = { λ way plain. unsigned-back 128 (lit< tt) way };
 }
 
 impl ReadsBack for usize {
@@ -54,7 +52,7 @@ impl ReadsBack for usize {
 
     ghost levels = { λ n. 0 };
 
-    ghost reads_back = { λ way plain. usize_back way };
+    ghost reads_back = { λ way plain. unsigned-back 64 (lit< tt) way };
 }
 
 impl ReadsBack for i8 {
@@ -62,7 +60,7 @@ impl ReadsBack for i8 {
 
     ghost levels = { λ n. 0 };
 
-    ghost reads_back = { λ way plain. i8_back way };
+    ghost reads_back = { λ way plain. signed-back 7 (lit< tt) way };
 }
 
 impl ReadsBack for i16 {
@@ -70,7 +68,7 @@ impl ReadsBack for i16 {
 
     ghost levels = { λ n. 0 };
 
-    ghost reads_back = { λ way plain. i16_back way };
+    ghost reads_back = { λ way plain. signed-back 15 (lit< tt) way };
 }
 
 impl ReadsBack for i32 {
@@ -78,7 +76,7 @@ impl ReadsBack for i32 {
 
     ghost levels = { λ n. 0 };
 
-    ghost reads_back = { λ way plain. i32_back way };
+    ghost reads_back = { λ way plain. signed-back 31 (lit< tt) way };
 }
 
 impl ReadsBack for i64 {
@@ -86,7 +84,7 @@ impl ReadsBack for i64 {
 
     ghost levels = { λ n. 0 };
 
-    ghost reads_back = { λ way plain. i64_back way };
+    ghost reads_back = { λ way plain. signed-back 63 (lit< tt) way };
 }
 
 impl ReadsBack for i128 {
@@ -94,7 +92,7 @@ impl ReadsBack for i128 {
 
     ghost levels = { λ n. 0 };
 
-    ghost reads_back = { λ way plain. i128_back way };
+    ghost reads_back = { λ way plain. signed-back 127 (lit< tt) way };
 }
 
 impl ReadsBack for isize {
@@ -102,5 +100,5 @@ impl ReadsBack for isize {
 
     ghost levels = { λ n. 0 };
 
-    ghost reads_back = { λ way plain. isize_back way };
+    ghost reads_back = { λ way plain. signed-back 63 (lit< tt) way };
 }

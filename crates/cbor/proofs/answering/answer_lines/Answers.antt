@@ -1,5 +1,4 @@
-use Rattle.cbor.specs.Lines.{AreAnswered}
-use Rattle.cbor.proofs.AnsweredLines.{answered-still, begins-with, held-empty, sent-each}
+use Rattle.cbor.{proofs.AnsweredLines.{answered-still, begins-with, held-empty, sent-each}, specs.Lines.AreAnswered}
 use Rattle.cbor.proofs.answering.answer_lines.Goals as goal
 
 pub returns : goal.returns

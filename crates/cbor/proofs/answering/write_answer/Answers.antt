@@ -1,6 +1,5 @@
 use Rattle.std.proofs.Common.{inr, refl}
-use Rattle.cbor.specs.Lines.{memory_text}
-use Rattle.cbor.proofs.AnsweredLines.{line-held}
+use Rattle.cbor.{proofs.AnsweredLines.line-held, specs.Lines.memory_text}
 use Rattle.cbor.proofs.answering.write_answer.Goals as goal
 
 pub returns-in_ok-put_text-in-Ok-2 : goal.returns-in_ok-put_text-in-Ok-2

@@ -1,6 +1,5 @@
 use Rattle.std.proofs.Common.{◌≡◌, ◌*◌, take, drop}
-use Rattle.hex.specs.Hex.{decode_pairs}
-use Rattle.hex.proofs.Pairs.{prepend}
+use Rattle.hex.{proofs.Pairs.prepend, specs.Hex.decode_pairs}
 use Rattle.cbor.proofs.digits.decode_pairs.Given as goal
 
 -- the bytes of the pairs so far stand in the buffer, and the other pairs are left

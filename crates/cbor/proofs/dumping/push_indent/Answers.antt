@@ -1,5 +1,4 @@
-use Rattle.std.proofs.{Common.{◌∙◌, ap, ◌++◌, List, ℕ, codes}, lemmas.List.append_assoc}
-use Rattle.std.specs.List.{repeat}
+use Rattle.std.{proofs.{Common.{◌∙◌, ap, ◌++◌, List, ℕ, codes}, lemmas.List.append_assoc}, specs.List.repeat}
 use Rattle.cbor.proofs.DumpedHeads.{one-more-time}
 use Rattle.cbor.proofs.dumping.push_indent.Goals as goal
 

@@ -1,5 +1,4 @@
-use Rattle.std.proofs.Common.{◌≡◌, ◌++◌, codes}
-use Rattle.std.specs.List.{repeat}
+use Rattle.std.{proofs.Common.{◌≡◌, ◌++◌, codes}, specs.List.repeat}
 use Rattle.cbor.proofs.dumping.push_indent.Given as goal
 
 -- the spaces of so many levels stand behind the text

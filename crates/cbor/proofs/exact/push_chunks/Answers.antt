@@ -1,7 +1,6 @@
 use Rattle.std.proofs.Common.{◌++◌, List, ℕ, ap, arith, ◌∙◌}
-use Rattle.cbor.specs.Exact.{kind_of}
-use Rattle.cbor.proofs.{ExactLevels.chunk-read, DumpedHeads.less-unread, ExactNotation.{all-chunks, no-chunks}}
-use Rattle.cbor.proofs.ExactNotation.{one-more-chunk}
+use Rattle.cbor.proofs.{DumpedHeads.less-unread, ExactLevels.chunk-read, ExactNotation.{all-chunks, no-chunks}}
+use Rattle.cbor.{proofs.ExactNotation.one-more-chunk, specs.Exact.kind_of}
 use Rattle.cbor.proofs.exact.push_chunks.Goals as goal
 
 pub chunks-init : goal.chunks-init

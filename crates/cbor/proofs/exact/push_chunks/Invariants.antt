@@ -1,7 +1,6 @@
 use Rattle.std.proofs.Common.{◌≡◌, ◌+◌, ◌∷◌, ◌≤◌, List, length}
 use Rattle.ciborium_ll.specs.{ItemHeads.{open_in, unread}, declared.levels.Level.Level}
-use Rattle.cbor.specs.Exact.{chunk_level, kind_of}
-use Rattle.cbor.proofs.ExactNotation.{AreChunksBegun}
+use Rattle.cbor.{proofs.ExactNotation.AreChunksBegun, specs.Exact.{chunk_level, kind_of}}
 use Rattle.cbor.proofs.exact.push_chunks.Given as goal
 
 -- the parts so far were shown, each of a byte at least, and the string is still open

@@ -1,5 +1,4 @@
-use Rattle.std.proofs.Common.{◌≡◌, ℕ, List, Some}
-use Rattle.std.specs.{Io.Buffered.reader_remaining, Io.KnownBytes.append_known}
+use Rattle.std.{proofs.Common.{◌≡◌, ℕ, List, Some}, specs.Io.{Buffered.reader_remaining, KnownBytes.append_known}}
 use Rattle.cbor.proofs.ExactlyStreamed.{AreLinesSoFar}
 use Rattle.cbor.proofs.exact_streams.show_stream.Given as goal
 

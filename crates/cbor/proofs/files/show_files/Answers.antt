@@ -1,8 +1,7 @@
 use Rattle.std.proofs.Common.{◌≡◌, ℕ, List, get_or, length, map, string_bytes, take, sym, subst, ap, ◌∙◌, arith}
 use Rattle.std.proofs.lemmas.List.{get_or-map, take_all}
 use Rattle.ciborium_value.proofs.Writing.Progress.{length-map}
-use Rattle.cbor.specs.Files.{AreInputsShown, Input}
-use Rattle.cbor.proofs.ShownFiles.{none-shown, one-more}
+use Rattle.cbor.{proofs.ShownFiles.{none-shown, one-more}, specs.Files.{AreInputsShown, Input}}
 use Rattle.cbor.proofs.files.show_files.Goals as goal
 
 -- as many inputs as names

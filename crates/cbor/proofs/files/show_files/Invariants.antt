@@ -1,6 +1,5 @@
 use Rattle.std.proofs.Common.{◌≡◌, ℕ, List, map, Some, string_bytes}
-use Rattle.cbor.specs.Files.{AreInputs, Input}
-use Rattle.cbor.proofs.ShownFiles.{AreShownSoFar}
+use Rattle.cbor.{proofs.ShownFiles.AreShownSoFar, specs.Files.{AreInputs, Input}}
 use Rattle.cbor.proofs.files.show_files.Given as goal
 
 -- the files so far are shown

@@ -1,5 +1,4 @@
-use Rattle.cbor.specs.Files.{AreFilesShown}
-use Rattle.cbor.proofs.AnsweredLines.{flushed-each, still}
+use Rattle.cbor.{proofs.AnsweredLines.{flushed-each, still}, specs.Files.AreFilesShown}
 use Rattle.cbor.proofs.run.perform_on_files.Goals as goal
 
 pub returns : goal.returns

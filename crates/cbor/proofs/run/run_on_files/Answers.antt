@@ -1,6 +1,5 @@
 use Rattle.std.proofs.Common.{◌≡◌, map, string_bytes}
-use Rattle.cbor.specs.Files.{Input}
-use Rattle.cbor.proofs.AskedWords.{asks-for-one}
+use Rattle.cbor.{proofs.AskedWords.asks-for-one, specs.Files.Input}
 use Rattle.cbor.proofs.run.run_on_files.Goals as goal
 
 pub returns-clause-wrong : goal.returns-clause-wrong

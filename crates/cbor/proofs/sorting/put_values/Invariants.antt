@@ -1,5 +1,4 @@
-use Rattle.std.proofs.Common.{◌≡◌, ◌++◌, ℕ, List, Some, map, take, flat_map}
-use Rattle.std.specs.Io.KnownBytes.{append_known}
+use Rattle.std.{proofs.Common.{◌≡◌, ◌++◌, ℕ, List, Some, map, take, flat_map}, specs.Io.KnownBytes.append_known}
 use Rattle.ciborium_value.specs.View.{tree_of}
 use Rattle.cbor.specs.SortedLines.{hex_line}
 use Rattle.cbor.proofs.sorting.put_values.Given as goal

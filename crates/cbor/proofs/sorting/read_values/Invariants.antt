@@ -1,5 +1,4 @@
-use Rattle.std.proofs.Common.{◌≡◌, ℕ, List, Some, map}
-use Rattle.std.specs.Io.Buffered.{reader_remaining}
+use Rattle.std.{proofs.Common.{◌≡◌, ℕ, List, Some, map}, specs.Io.Buffered.reader_remaining}
 use Rattle.ciborium_value.specs.View.{tree_of}
 use Rattle.cbor.proofs.MeantLines.{AreRead}
 use Rattle.cbor.proofs.sorting.read_values.Given as goal

@@ -1,9 +1,8 @@
-use Rattle.std.proofs.Common.{[], Err, Ok, Some}
-use Rattle.std.specs.declared.io.Error.{Error}
+use Rattle.std.{proofs.Common.{[], Err, Ok, Some}, specs.declared.io.Error.Error}
 use Rattle.ciborium_value.specs.{Spelling.any, View.tree_of}
 use Rattle.ciborium.proofs.Readers.KnownReaders.{whole-of}
-use Rattle.cbor.specs.declared.reading.Spelling.TheVariants.{Any}
 use Rattle.cbor.proofs.{ReadBytes.named-anyway, StreamedItems.{taken-size, what-is-left}}
+use Rattle.cbor.specs.declared.reading.Spelling.TheVariants.{Any}
 use Rattle.cbor.proofs.streams.read_any.Goals as goal
 
 pub judge_error-requires : goal.judge_error-requires

@@ -1,5 +1,4 @@
-use Rattle.std.proofs.Common.{◌++◌, ap, sym, Some, ◌∙◌}
-use Rattle.std.specs.Io.KnownBytes.{prepend_known}
+use Rattle.std.{proofs.Common.{◌++◌, ap, sym, Some, ◌∙◌}, specs.Io.KnownBytes.prepend_known}
 use Rattle.cbor.proofs.StreamedItems.{front-read, nothing-before}
 use Rattle.cbor.proofs.streams.read_behind.Goals as goal
 

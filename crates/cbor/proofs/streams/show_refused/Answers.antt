@@ -1,6 +1,5 @@
 use Rattle.std.proofs.Common.{◌++◌, arith, ◌≡◌}
-use Rattle.cbor.specs.Answer.{refusal_behind}
-use Rattle.cbor.proofs.StreamedItems.{refused-shown}
+use Rattle.cbor.{proofs.StreamedItems.refused-shown, specs.Answer.refusal_behind}
 use Rattle.cbor.proofs.streams.show_refused.Goals as goal
 
 pub returns : goal.returns

@@ -1,8 +1,7 @@
 use Rattle.std.proofs.Common.{◌≡◌, ◌-◌, false, List, ℕ, length, map, take, string_bytes, ap, subst, sym, ◌∙◌}
 use Rattle.std.proofs.lemmas.List.{take-map}
 use Rattle.ciborium_value.proofs.Writing.Progress.{length-map}
-use Rattle.cbor.specs.Words.{AskFor, takes_files, words_before, words_behind}
-use Rattle.cbor.proofs.AskedWords.{asks-for-one}
+use Rattle.cbor.{proofs.AskedWords.asks-for-one, specs.Words.{AskFor, takes_files, words_before, words_behind}}
 use Rattle.cbor.proofs.words.judge_files.Goals as goal
 
 -- the words before the names

@@ -1,6 +1,5 @@
 -- What the source took was taken from the reader that was lent, whatever its offset.
-use Rattle.std.proofs.Common.{None, rules, refl, sym, ◌∙◌}
-use Rattle.std.specs.declared.io.Error.{Error}
+use Rattle.std.{proofs.Common.{None, rules, refl, sym, ◌∙◌}, specs.declared.io.Error.Error}
 use Rattle.ciborium.proofs.Readers.HandedReaders.{handed-all, handed-ended}
 use Rattle.ciborium.proofs.de.read_at.Goals as goal
 

@@ -1,9 +1,7 @@
 -- What the sink put out is in the writer that it was lent.
-use Rattle.std.proofs.Common.{Ok, Err, ap, sym, ◌∙◌, subst}
-use Rattle.std.specs.declared.io.Error.{Error as IoError}
-use Rattle.ciborium.specs.{Writes.WritesNamed, declared.ser.error.Error.Error, declared.ser.error.Error.TheVariants.Io}
-use Rattle.ciborium.specs.declared.ser.error.Error.TheVariants.{Memory}
+use Rattle.std.{proofs.Common.{Ok, Err, ap, sym, ◌∙◌, subst}, specs.declared.io.Error.Error as IoError}
 use Rattle.ciborium.proofs.Writing.ByteSinks.{begins_ready, wrote, wrote_part, named_written}
+use Rattle.ciborium.specs.{Writes.WritesNamed, declared.ser.error.Error.{Error, TheVariants.{Io, Memory}}}
 use Rattle.ciborium.proofs.ser.into_writer.Goals as goal
 
 pub serialize-requires : goal.serialize-requires

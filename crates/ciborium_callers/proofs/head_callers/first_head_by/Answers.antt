@@ -1,5 +1,4 @@
-use Rattle.std.proofs.Common.{ℕ, List, rules, subst}
-use Rattle.std.specs.Io.KnownBytes.{Consumes}
+use Rattle.std.{proofs.Common.{ℕ, List, rules, subst}, specs.Io.KnownBytes.Consumes}
 use Rattle.ciborium.specs.ReaderSteps.{IsHeadTaken}
 use Rattle.ciborium_ll.proofs.Decoders.{first-taken}
 use Rattle.ciborium_callers.proofs.head_callers.first_head_by.Goals as goal

@@ -1,5 +1,4 @@
-use Rattle.std.proofs.Common.{rules, arith, subst, take}
-use Rattle.std.specs.Io.BufRead.{FillKeeps}
+use Rattle.std.{proofs.Common.{rules, arith, subst, take}, specs.Io.BufRead.FillKeeps}
 use Rattle.ciborium_ll.proofs.{CopiedItems.none-held, HeldBytes.dropped}
 use Rattle.ciborium_ll.proofs.item_bytes.copy_held.Goals as goal
 

@@ -1,6 +1,5 @@
 use Rattle.std.proofs.{Common.{◌≡◌, List, ℕ, ◌++◌, IsTrue, [], rules, subst, ◌∙◌}, lemmas.List.drop_at}
-use Rattle.ciborium_ll.specs.ItemBytes.{IsCopyOf}
-use Rattle.ciborium_ll.proofs.{CopiedItems.taken-judged, HeadsRead.behind-bytes}
+use Rattle.ciborium_ll.{proofs.{CopiedItems.taken-judged, HeadsRead.behind-bytes}, specs.ItemBytes.IsCopyOf}
 use Rattle.ciborium_ll.proofs.item_bytes.copy_item.Goals as goal
 
 pub returns : goal.returns

@@ -1,6 +1,5 @@
 use Rattle.std.proofs.Common.{arith, ◌≡◌, ℕ, ◌-◌, List, ◌++◌, length, take, drop, subst, sym, ap, ◌∙◌, take_all}
-use Rattle.std.proofs.{Common.length-drop, KnownBytes.Appends-trans}
-use Rattle.std.specs.Io.KnownBytes.{Appends}
+use Rattle.std.{proofs.{Common.length-drop, KnownBytes.Appends-trans}, specs.Io.KnownBytes.Appends}
 use lib.Seq.{take-add}
 use Rattle.ciborium_ll.proofs.writing.write_all.Goals as goal
 

@@ -1,5 +1,4 @@
-use Rattle.std.proofs.Common.{length, take, ◌-◌, ◌≤◌}
-use Rattle.std.specs.Io.KnownBytes.{Appends}
+use Rattle.std.{proofs.Common.{length, take, ◌-◌, ◌≤◌}, specs.Io.KnownBytes.Appends}
 use Rattle.ciborium_ll.proofs.writing.write_all.Given as goal
 
 -- the bytes that went out are a beginning

@@ -1,7 +1,6 @@
 use Rattle.std.proofs.Common.{◌≤◌, ◌∙◌, ap, subst, sym}
 use Rattle.ciborium.specs.{Encoding.item_of, Nesting.nesting, View.tree_of}
-use Rattle.ciborium_uses.proofs.{Exits.exit_by, WholeMessages.whole}
-use Rattle.ciborium_uses.specs.Envelopes.{IsMessage, wrapped_tree}
+use Rattle.ciborium_uses.{proofs.{Exits.exit_by, WholeMessages.whole}, specs.Envelopes.{IsMessage, wrapped_tree}}
 use Rattle.ciborium_uses.proofs.envelopes.read_wrapped.Goals as goal
 
 pub returns-in_err-value-clause-refused : goal.returns-in_err-value-clause-refused

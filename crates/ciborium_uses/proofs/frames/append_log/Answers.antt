@@ -2,9 +2,8 @@
 use Rattle.std.proofs.{Common.{map, subst}, lemmas.Result.err_from_is_err_and}
 use Rattle.std.specs.declared.io.Error.{Error as IoError}
 use Rattle.ciborium_value.proofs.Writing.Progress.{next_part, no_part}
-use Rattle.ciborium.specs.declared.ser.error.Error.{Error}
 use Rattle.ciborium.proofs.Writing.WrittenSequences.{HasWritten, all-out, all-written, none-written, one-more-written}
-use Rattle.ciborium.proofs.Writing.WrittenSequences.{part-out}
+use Rattle.ciborium.{proofs.Writing.WrittenSequences.part-out, specs.declared.ser.error.Error.Error}
 use Rattle.ciborium_uses.proofs.frames.append_log.Goals as goal
 
 pub loop-message-init : goal.loop-message-init

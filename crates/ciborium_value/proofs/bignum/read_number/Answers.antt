@@ -1,8 +1,7 @@
 use Rattle.std.proofs.Common.{◌≡◌, ◌+◌, ◌*◌, ◌<◌, take, get_or, sym, ap, ◌∙◌, arith, lit<, subst, add-zero, Fits}
-use Rattle.std.specs.Int.{w128}
-use Rattle.std.proofs.lemmas.List.{take_more}
-use Rattle.ciborium_value.specs.Meaning.{big_endian}
+use Rattle.std.{proofs.lemmas.List.take_more, specs.Int.w128}
 use Rattle.ciborium_value.proofs.FoldedTrees.BigEndian.{big_endian_behind-more, big_endian-none, bound-more, bound-fits}
+use Rattle.ciborium_value.specs.Meaning.{big_endian}
 use Rattle.ciborium_value.proofs.bignum.read_number.Goals as goal
 
 pub loop-byte-init : goal.loop-byte-init

@@ -1,11 +1,10 @@
 use Rattle.std.proofs.Common.{length, refl, sym, ap, ◌∙◌, arith}
-use Rattle.ciborium_value.specs.Visits.{saturated}
 use Rattle.ciborium_value.proofs.Orders.TreeEncodings.{encoded_size-is, encoded_size-head, content_bytes-none}
 use Rattle.ciborium_value.proofs.Orders.TreeEncodings.{content_bytes-Array, content_bytes-Map, encodings-more-length}
-use Rattle.ciborium_value.proofs.Orders.TreeEncodings.{pair_encodings-more-length}
+use Rattle.ciborium_value.proofs.Orders.{TreeEncodings.pair_encodings-more-length, VisitCounts.AddsVisits-then}
+use Rattle.ciborium_value.proofs.Orders.VisitCounts.{trees_node_count-more, tree_pairs_node_count-more}
 use Rattle.ciborium_value.proofs.Trees.ProperValues.{AreProperTrees-more, AreProperTreePairs-more, is_proper-Bytes}
-use Rattle.ciborium_value.proofs.Trees.ProperValues.{is_proper-Text}
-use Rattle.ciborium_value.proofs.Orders.VisitCounts.{AddsVisits-then, trees_node_count-more, tree_pairs_node_count-more}
+use Rattle.ciborium_value.{proofs.Trees.ProperValues.is_proper-Text, specs.Visits.saturated}
 use Rattle.ciborium_value.proofs.canonical.+measure.Goals as goal
 
 pub measure-returns-in-Bytes-clause-proper : goal.measure-returns-in-Bytes-clause-proper

@@ -1,16 +1,15 @@
 use Rattle.std.proofs.Common.{◌≡◌, ◌<◌, length, get_or, set, Some, None, rules, refl, sym, ap, ◌∙◌, subst, arith}
-use Rattle.std.proofs.{lemmas.List.{get_or_default, get_or-set_other, length-set}, lemmas.Result.IfOk-weaker}
-use Rattle.std.proofs.lemmas.Result.{IfErr-weaker}
-use Rattle.ciborium_value.specs.{DeterministicForms.{deterministic_form, deterministic_forms, pair_forms}, Given.gives}
-use Rattle.ciborium_value.specs.{Given.refuses, Folded.tree_folding_bytes, Meaning.{bignum_meaning, without_zeros}}
-use Rattle.ciborium_value.specs.{SameContents.{AreAlike, PairsAreAlike}, View.{tree_of, trees_of, tree_pairs_of}}
-use Rattle.ciborium_value.specs.declared.tree.Value.{Value, the_lemmas}
+use Rattle.std.proofs.lemmas.{List.{get_or_default, get_or-set_other, length-set}, Result.{IfOk-weaker, IfErr-weaker}}
 use Rattle.ciborium_value.proofs.Forms.MadeForms.{AreAlike-refl, AreAlike-set, PairsAreAlike-set, all_made}
 use Rattle.ciborium_value.proofs.Forms.MadeForms.{all_pairs_made, one_refused, one_key_refused, one_value_refused}
 use Rattle.ciborium_value.proofs.Forms.MadeForms.{all_written, one_more_made, made_as, alike_as, made-tag, made-bignum}
 use Rattle.ciborium_value.proofs.Forms.MadeForms.{alike-bignum, alike-tag, alike-array, alike-map, refused-pairs}
-use Rattle.ciborium_value.proofs.{Forms.MadeForms.{refused-order, made-map}, Forms.ReorderedPairs.PairsAreAlike-refl}
+use Rattle.ciborium_value.proofs.Forms.{MadeForms.{refused-order, made-map}, ReorderedPairs.PairsAreAlike-refl}
 use Rattle.ciborium_value.proofs.Trees.Views.{tree_of-Tag, tree_of-Array, tree_of-Map, tree_of-Integer}
+use Rattle.ciborium_value.specs.DeterministicForms.{deterministic_form, deterministic_forms, pair_forms}
+use Rattle.ciborium_value.specs.{Folded.tree_folding_bytes, Given.{gives, refuses}, Meaning.bignum_meaning}
+use Rattle.ciborium_value.specs.{Meaning.without_zeros, SameContents.{AreAlike, PairsAreAlike}, View.tree_of}
+use Rattle.ciborium_value.specs.{View.{trees_of, tree_pairs_of}, declared.tree.Value.{Value, the_lemmas}}
 use Rattle.ciborium_value.specs.SameContents as same
 use Rattle.ciborium_value.specs.Tree as trees
 use Rattle.ciborium_value.proofs.deterministic.+make.Goals as goal

@@ -1,7 +1,6 @@
-use Rattle.std.proofs.Common.{◌≡◌, [], take}
-use Rattle.std.specs.Fmt.{HasWrittenStyled, IsFlush}
-use Rattle.ciborium_value.specs.{Notation.{notations_on, pair_notations_on}, View.{trees_of, tree_pairs_of}}
-use Rattle.ciborium_value.proofs.Trees.Notations.{lead_behind}
+use Rattle.std.{proofs.Common.{◌≡◌, [], take}, specs.Fmt.{HasWrittenStyled, IsFlush}}
+use Rattle.ciborium_value.{proofs.Trees.Notations.lead_behind, specs.Notation.{notations_on, pair_notations_on}}
+use Rattle.ciborium_value.specs.View.{trees_of, tree_pairs_of}
 use denote.Text.{Utf8}
 use denote.Shadow.{shadow}
 use Rattle.ciborium_value.proofs.notation.+write_value.Given as goal

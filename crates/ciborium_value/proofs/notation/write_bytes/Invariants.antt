@@ -1,5 +1,4 @@
-use Rattle.std.proofs.Common.{◌≡◌, ℕ, List, ◌++◌, codes, length}
-use Rattle.std.specs.Fmt.{HasWrittenStyled, IsFlush}
+use Rattle.std.{proofs.Common.{◌≡◌, ℕ, List, ◌++◌, codes, length}, specs.Fmt.{HasWrittenStyled, IsFlush}}
 use Rattle.hex.specs.Hex.{encode_lower}
 use Rattle.ciborium_value.proofs.notation.write_bytes.Given as goal
 

@@ -1,5 +1,4 @@
-use Rattle.std.proofs.{Common.{◌∙◌, ap}, Math.Facts.to_z-of_z}
-use Rattle.std.specs.Fmt.{signed_decimal}
+use Rattle.std.{proofs.{Common.{◌∙◌, ap}, Math.Facts.to_z-of_z}, specs.Fmt.signed_decimal}
 use Rattle.ciborium_value.proofs.Trees.Notations.{as_bytes, digits_held}
 use Rattle.ciborium_value.proofs.notation.write_integer.Goals as goal
 

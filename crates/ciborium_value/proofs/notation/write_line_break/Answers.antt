@@ -1,6 +1,5 @@
 use Rattle.std.proofs.Common.{refl, sym, ap}
-use Rattle.ciborium_value.specs.Notation.{line_break}
-use Rattle.ciborium_value.proofs.Trees.Notations.{then, as_bytes}
+use Rattle.ciborium_value.{proofs.Trees.Notations.{then, as_bytes}, specs.Notation.line_break}
 use Rattle.ciborium_value.proofs.notation.write_line_break.Goals as goal
 
 pub returns-in_ok-write_str-in-Some : goal.returns-in_ok-write_str-in-Some

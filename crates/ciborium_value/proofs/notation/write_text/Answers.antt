@@ -1,8 +1,7 @@
 use Rattle.std.proofs.Common.{rules, ◌≡◌, ◌<◌, ◌+◌, ◌∷◌, [], ◌++◌, codes, length, take, drop, get_or, true, refl, sym}
 use Rattle.std.proofs.{Common.{ap, subst, ◌∙◌, append_assoc}, lemmas.Str.IsCharBoundary-after_ascii}
-use Rattle.ciborium_value.specs.Notation.{IsPlain, escape, needs_escape}
 use Rattle.ciborium_value.proofs.Trees.Notations.{then, as_bytes, around_byte, escaped_is_ascii, escaped-last}
-use Rattle.ciborium_value.proofs.Trees.Notations.{escaped-more}
+use Rattle.ciborium_value.{proofs.Trees.Notations.escaped-more, specs.Notation.{IsPlain, escape, needs_escape}}
 use Rattle.ciborium_value.proofs.notation.write_text.Goals as goal
 
 pub range_from-rest-requires : goal.range_from-rest-requires

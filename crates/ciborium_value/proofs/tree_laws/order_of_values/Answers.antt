@@ -1,6 +1,5 @@
-use Rattle.ciborium_value.proofs.Orders.Derived.{value_cmp_total, value_eq_equivalence}
-use Rattle.ciborium_value.proofs.Orders.OrderedTrees.{equal_as_trees, ordered_as_trees, partly_ordered_as_trees}
-use Rattle.ciborium_value.proofs.Orders.OrderedTrees.{tied_where_equal}
+use Rattle.ciborium_value.proofs.Orders.{Derived.{value_cmp_total, value_eq_equivalence}, OrderedTrees.equal_as_trees}
+use Rattle.ciborium_value.proofs.Orders.OrderedTrees.{ordered_as_trees, partly_ordered_as_trees, tied_where_equal}
 use Rattle.ciborium_value.proofs.tree_laws.order_of_values.Goals as goal
 
 pub returns : goal.returns

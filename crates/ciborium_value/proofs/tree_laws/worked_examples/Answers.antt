@@ -1,9 +1,8 @@
-use Rattle.std.proofs.Common.{refl, lit<, inl}
-use Rattle.std.specs.Fmt.{digits}
+use Rattle.std.{proofs.Common.{refl, lit<, inl}, specs.Fmt.digits}
 use Rattle.hex.specs.Hex.{encode_with}
 use Rattle.ciborium_ll.specs.Head.{one_byte, shortest_head}
-use Rattle.ciborium_ll.specs.Item as item
 use Rattle.ciborium_value.specs.Meaning.{big_endian_behind, bignum_meaning, simple_meaning}
+use Rattle.ciborium_ll.specs.Item as item
 use Rattle.ciborium_value.proofs.tree_laws.worked_examples.Goals as goal
 
 pub returns : goal.returns

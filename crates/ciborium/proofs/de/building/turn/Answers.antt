@@ -1,9 +1,8 @@
 use Rattle.std.proofs.{Common.{◌++◌, ◌-◌, ◌∙◌, Some, Ok, Err, ap, refl}, lemmas.Result.err_from_is_err_and}
 use Rattle.ciborium_ll.specs.Decoding.{with_left}
-use Rattle.ciborium_value.specs.{inner.Stack.frames_of, View.tree_of}
-use Rattle.ciborium.specs.declared.de.front.Part.TheVariants.{Whole, Begun, Ended}
+use Rattle.ciborium_value.specs.{View.tree_of, inner.Stack.frames_of}
 use Rattle.ciborium.proofs.Turns.Turned.{turn-refused, turn-whole, turn-begun, turn-ended, turn-break, depth-placed}
-use Rattle.ciborium.proofs.Turns.Turned.{depth-closed}
+use Rattle.ciborium.{proofs.Turns.Turned.depth-closed, specs.declared.de.front.Part.TheVariants.{Whole, Begun, Ended}}
 use Rattle.ciborium.proofs.de.building.turn.Goals as goal
 
 pub returns-in_err-value-clause-turn : goal.returns-in_err-value-clause-turn

@@ -1,10 +1,8 @@
 -- What the decoder took was taken from the reader that it was lent.
-use Rattle.std.proofs.Common.{Err, Ok, rules, sym, subst, ◌∙◌}
-use Rattle.std.specs.declared.io.Error.{Error}
+use Rattle.std.{proofs.Common.{Err, Ok, rules, sym, subst, ◌∙◌}, specs.declared.io.Error.Error}
 use Rattle.ciborium_ll.specs.Decoding.{TakesBeforeAny}
 use Rattle.ciborium_value.specs.View.{tree_of}
-use Rattle.ciborium.proofs.{Readers.KnownReaders.whole-of, Readers.PutAside.back-tree, Readers.WhateverFollows.TreeSo}
-use Rattle.ciborium.proofs.Readers.WhateverFollows.{taken-lent}
+use Rattle.ciborium.proofs.Readers.{KnownReaders.whole-of, PutAside.back-tree, WhateverFollows.{TreeSo, taken-lent}}
 use Rattle.ciborium.proofs.de.deterministic.read_by.Goals as goal
 
 pub returns-in-Ok : goal.returns-in-Ok

@@ -1,8 +1,7 @@
 use Rattle.std.proofs.{Common.{Some, Ok, Err}, lemmas.Result.err_from_is_err_and}
-use Rattle.ciborium_ll.specs.{Refusal.HeadRefuses, Decoding.with_left}
-use Rattle.ciborium.specs.Errors.{from_ll}
-use Rattle.ciborium.proofs.{Turns.Fronts.PullsSo, Readers.WhateverFollows.{so-map, head-pulled, PullsAll}}
-use Rattle.ciborium.proofs.Turns.Pulled.{refused-from, head-read, fewer-heads}
+use Rattle.ciborium_ll.specs.{Decoding.with_left, Refusal.HeadRefuses}
+use Rattle.ciborium.proofs.{Readers.WhateverFollows.{so-map, head-pulled, PullsAll}, Turns.Fronts.PullsSo}
+use Rattle.ciborium.{proofs.Turns.Pulled.{refused-from, head-read, fewer-heads}, specs.Errors.from_ll}
 use Rattle.ciborium.proofs.de.front.pull.Goals as goal
 
 pub returns-in_err-pull_keeping-clause-head : goal.returns-in_err-pull_keeping-clause-head

@@ -1,6 +1,5 @@
 -- What was written is all of the bytes.
-use Rattle.ciborium.specs.DeterministicWrites.{named_form}
-use Rattle.ciborium.proofs.Readers.Loading.{written-all}
+use Rattle.ciborium.{proofs.Readers.Loading.written-all, specs.DeterministicWrites.named_form}
 use Rattle.ciborium.proofs.de.loading.find_difference.Goals as goal
 
 pub returns-then-eq-clause-ok : goal.returns-then-eq-clause-ok

@@ -1,7 +1,6 @@
 -- A refusal of deterministic reading stands for itself.
 use Rattle.std.proofs.Common.{refl, rules}
-use Rattle.ciborium.specs.LoadedAnswers.{RefusesSpelling}
-use Rattle.ciborium.proofs.Readers.Loading.{spelled-refused}
+use Rattle.ciborium.{proofs.Readers.Loading.spelled-refused, specs.LoadedAnswers.RefusesSpelling}
 use Rattle.ciborium.proofs.de.loading.refuse_other.Goals as goal
 
 pub returns-in-Err-Semantic-Some-default : goal.returns-in-Err-Semantic-Some-default

@@ -1,14 +1,12 @@
 use Rattle.std.proofs.Common.{◌≡◌, ℕ, List, ◌++◌, ap, sym, ◌∙◌, Some, Ok, Err, subst, false, true}
 use Rattle.std.proofs.lemmas.Result.{err_from_is_err_and}
 use Rattle.ciborium_ll.specs.{Decoding.with_left, Refusal.semantic, StringRefusal.{of_bytes, of_text}}
-use Rattle.ciborium_value.specs.View.{tree_of}
-use Rattle.ciborium_value.proofs.Trees.Views.{tree_of-Integer}
-use Rattle.ciborium.specs.{ValueAnswers.IsRefusedBy, inner.Parts.{IsHeadAccepted, IsPartRead, RefusesPart}}
-use Rattle.ciborium.specs.inner.Rules.{head_fault}
-use Rattle.ciborium.proofs.{Turns.Contents.{got-string, string-fault}, Turns.Heads.{ahead-of, faulty-head}}
-use Rattle.ciborium.proofs.{Turns.Heads.{head-refused, part-behind-head, part-of-head}, Turns.Leaves.container-part}
-use Rattle.ciborium.proofs.Turns.Leaves.{float-refuses, got-end, got-negative, got-positive, got-simple, simple-refuses}
-use Rattle.ciborium.proofs.Readers.WhateverFollows.{StringSo}
+use Rattle.ciborium_value.{proofs.Trees.Views.tree_of-Integer, specs.View.tree_of}
+use Rattle.ciborium.proofs.{Readers.WhateverFollows.StringSo, Turns.Contents.{got-string, string-fault}}
+use Rattle.ciborium.proofs.Turns.Heads.{ahead-of, faulty-head, head-refused, part-behind-head, part-of-head}
+use Rattle.ciborium.proofs.Turns.Leaves.{container-part, float-refuses, got-end, got-negative, got-positive, got-simple}
+use Rattle.ciborium.{proofs.Turns.Leaves.simple-refuses, specs.{ValueAnswers.IsRefusedBy, inner.Parts.IsHeadAccepted}}
+use Rattle.ciborium.specs.inner.{Parts.{IsPartRead, RefusesPart}, Rules.head_fault}
 use Rattle.ciborium_ll.specs.declared.header.Header.TheVariants as header
 use Rattle.ciborium_ll.specs.Refusal as refusal
 use Rattle.ciborium_value.specs.Tree as trees

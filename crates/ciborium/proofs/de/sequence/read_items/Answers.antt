@@ -1,7 +1,6 @@
 -- A sequence is read item by item.
 use Rattle.std.proofs.{Common.{◌∷◌, [], Some, map, sym, ap, ◌∙◌, subst}, lemmas.List.map-append}
-use Rattle.std.proofs.lemmas.Result.{err_from_is_err_and}
-use Rattle.std.specs.declared.io.Error.{Error as IoError}
+use Rattle.std.{proofs.lemmas.Result.err_from_is_err_and, specs.declared.io.Error.Error as IoError}
 use Rattle.ciborium_ll.specs.Accesses.{left_at_failure}
 use Rattle.ciborium.proofs.Readers.ReadSequences.{HasRead, more-taken, no-memory-behind, none-read, none-taken}
 use Rattle.ciborium.proofs.Readers.ReadSequences.{one-more-read, refused-behind}

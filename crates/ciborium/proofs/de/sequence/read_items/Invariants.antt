@@ -1,6 +1,5 @@
 use Rattle.std.proofs.Common.{Some, map}
-use Rattle.ciborium.specs.TypedAnswers.{TakesBeginning}
-use Rattle.ciborium.proofs.Readers.ReadSequences.{HasRead}
+use Rattle.ciborium.{proofs.Readers.ReadSequences.HasRead, specs.TypedAnswers.TakesBeginning}
 use Rattle.ciborium.proofs.de.sequence.read_items.Given as goal
 
 -- the items that were read are the first, and nothing else was taken

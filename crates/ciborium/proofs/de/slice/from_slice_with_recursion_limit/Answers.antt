@@ -1,6 +1,5 @@
 -- What is left behind the item decides.
-use Rattle.std.proofs.{Common.rules, lemmas.Result.err_from_is_err_and}
-use Rattle.std.specs.declared.io.Error.{Error}
+use Rattle.std.{proofs.{Common.rules, lemmas.Result.err_from_is_err_and}, specs.declared.io.Error.Error}
 use Rattle.ciborium.proofs.Readers.WholeSlices.{all-given, all-refused, all-trailing}
 use Rattle.ciborium.proofs.de.slice.from_slice_with_recursion_limit.Goals as goal
 

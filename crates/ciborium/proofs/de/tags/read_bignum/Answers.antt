@@ -1,8 +1,7 @@
 use Rattle.std.proofs.Common.{◌≡◌, ◌∙◌, ◌+◌, length, refl, rules, sym, ap, subst}
 use Rattle.ciborium_ll.specs.Decoding.{with_left}
-use Rattle.ciborium.specs.inner.Parts.{IsFolded}
+use Rattle.ciborium.{proofs.Turns.AfterTag.{bignum-folded, bignum-unwanted}, specs.inner.Parts.IsFolded}
 use Rattle.ciborium_value.specs.Spelling.{IsUnwanted}
-use Rattle.ciborium.proofs.Turns.AfterTag.{bignum-folded, bignum-unwanted}
 use Rattle.ciborium.proofs.de.tags.read_bignum.Goals as goal
 
 pub returns-then-refuses_bignum-clause-bignum : goal.returns-then-refuses_bignum-clause-bignum

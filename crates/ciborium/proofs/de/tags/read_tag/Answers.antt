@@ -1,10 +1,8 @@
 use Rattle.std.proofs.{Common.{◌++◌, Some, Ok, Err, ap, sym, ◌∙◌, subst}, lemmas.Result.err_from_is_err_and}
-use Rattle.ciborium_ll.specs.Decoding.{ReadsNothing, with_left}
-use Rattle.ciborium_ll.proofs.Decoders.{unread-with}
-use Rattle.ciborium.specs.{inner.Parts.IsFolding, inner.Rules.head_fault}
-use Rattle.ciborium.proofs.Turns.AfterTag.{BignumSo, bignum-refused, got-bignum, tag-faulty, tag-no-level, tag-begun}
-use Rattle.ciborium.proofs.{Turns.AfterTag.tag-refused, Turns.Fronts.PullsSo, Readers.WhateverFollows.so-both}
-use Rattle.ciborium.proofs.Readers.WhateverFollows.{so-unread}
+use Rattle.ciborium_ll.{proofs.Decoders.unread-with, specs.Decoding.{ReadsNothing, with_left}}
+use Rattle.ciborium.proofs.{Readers.WhateverFollows.{so-both, so-unread}, Turns.AfterTag.{BignumSo, bignum-refused}}
+use Rattle.ciborium.proofs.Turns.AfterTag.{got-bignum, tag-faulty, tag-no-level, tag-begun, tag-refused}
+use Rattle.ciborium.{proofs.Turns.Fronts.PullsSo, specs.inner.{Parts.IsFolding, Rules.head_fault}}
 use Rattle.ciborium.proofs.de.tags.read_tag.Goals as goal
 
 pub returns-in_err-next-clause-part : goal.returns-in_err-next-clause-part

@@ -1,11 +1,10 @@
 -- A sequence is written value by value.
 use Rattle.std.proofs.{Common.{map, subst}, lemmas.Result.err_from_is_err_and}
 use Rattle.std.specs.declared.io.Error.{Error as IoError}
-use Rattle.ciborium_value.specs.Progress.{IsOwedAmong}
-use Rattle.ciborium_value.proofs.Writing.Progress.{exits, next_part, no_part}
-use Rattle.ciborium.specs.{Writes.cause_of, declared.ser.error.Error.Error}
+use Rattle.ciborium_value.{proofs.Writing.Progress.{exits, next_part, no_part}, specs.Progress.IsOwedAmong}
 use Rattle.ciborium.proofs.Writing.WrittenSequences.{HasWritten, all-out, all-written, none-written, one-more-written}
-use Rattle.ciborium.proofs.Writing.WrittenSequences.{owed-among, part-out}
+use Rattle.ciborium.{proofs.Writing.WrittenSequences.{owed-among, part-out}, specs.Writes.cause_of}
+use Rattle.ciborium.specs.declared.ser.error.Error.{Error}
 use Rattle.ciborium.proofs.ser.sequence.write_sequence.Goals as goal
 
 pub loop-value-init : goal.loop-value-init

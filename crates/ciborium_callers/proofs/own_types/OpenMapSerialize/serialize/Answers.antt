@@ -1,9 +1,8 @@
 -- A map is written entry by entry, each key before its value.
 use Rattle.ciborium_callers.proofs.OwnTypes.{named_number}
-use Rattle.std.proofs.{Common.{None, refl, ◌≡◌, length, subst, rules}, lemmas.Result.{on_ok_weaker, on_err_weaker}}
-use Rattle.std.proofs.lemmas.Map.Iter.{rest_more, rest_all}
-use Rattle.std.specs.Map.Iter.{deref_pair}
-use Rattle.ciborium.specs.{Places.dictionary, Sinks.{IsOwed, open_container_of, in_turn}, Progress.Owes}
+use Rattle.std.proofs.{Common.{None, refl, ◌≡◌, length, subst, rules}, lemmas.Map.Iter.{rest_more, rest_all}}
+use Rattle.std.{proofs.lemmas.Result.{on_ok_weaker, on_err_weaker}, specs.Map.Iter.deref_pair}
+use Rattle.ciborium.specs.{Places.dictionary, Progress.Owes, Sinks.{IsOwed, open_container_of, in_turn}}
 use Rattle.ciborium_value.proofs.Writing.Progress.{exits, on_err, owes_begin, owes_broken_begin, owes_ready, owes_more}
 use Rattle.ciborium_value.proofs.Writing.Progress.{owes_broken, owes_owed, owes_can_end, owes_ends, owes_broken_end}
 use Rattle.ciborium_value.proofs.Writing.Progress.{length-in_turn}

@@ -1,5 +1,4 @@
-use Rattle.std.proofs.Common.{rules, subst}
-use Rattle.std.specs.Io.BufRead.{FillKeeps}
+use Rattle.std.{proofs.Common.{rules, subst}, specs.Io.BufRead.FillKeeps}
 use Rattle.ciborium_ll.proofs.HeldBytes.{consumed}
 use Rattle.ciborium_ll.proofs.access.BufferedAccess.take_head.Goals as goal
 

@@ -1,7 +1,6 @@
 use Rattle.std.proofs.Common.{◌≡◌, ◌-◌}
-use Rattle.ciborium_ll.specs.{Bytes.greatest_offset, inner.Cursors.{IsSameCursor, count_at, left_at}}
-use Rattle.ciborium_ll.specs.Strings.{string_kind_of}
-use Rattle.ciborium_ll.proofs.OpenStrings.{GoodParts}
+use Rattle.ciborium_ll.{proofs.OpenStrings.GoodParts, specs.{Bytes.greatest_offset, Strings.string_kind_of}}
+use Rattle.ciborium_ll.specs.inner.Cursors.{IsSameCursor, count_at, left_at}
 use Rattle.ciborium_ll.proofs.cursor.Cursor.append_chunks.Given as goal
 
 -- good chunks were taken, and their payloads appended

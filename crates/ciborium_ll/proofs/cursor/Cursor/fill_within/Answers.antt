@@ -1,7 +1,6 @@
 use Rattle.std.proofs.Common.{◌≡◌, ℕ, ◌+◌, ◌-◌, ◌<◌, ◌≤◌, List, ◌++◌, rules, arith, length, take, slice_range, sym, ap}
-use Rattle.std.proofs.{Common.{◌∙◌, subst, le_refl, drop_at, length-take-le}, lemmas.List.Elements.All-take}
-use Rattle.std.proofs.{lemmas.Slice.take-put_mid_below, KnownBytes.Consumes-trans}
-use Rattle.std.specs.Io.KnownBytes.{Consumes}
+use Rattle.std.proofs.{Common.{◌∙◌, subst, le_refl, drop_at, length-take-le}, KnownBytes.Consumes-trans}
+use Rattle.std.{proofs.lemmas.{List.Elements.All-take, Slice.take-put_mid_below}, specs.Io.KnownBytes.Consumes}
 use Rattle.ciborium_ll.proofs.Cursors.{are-bytes}
 use borrow.Rule.Slice.PartMut.{put_mid, post_of}
 use lib.Seq.{take-add, take-append-le}

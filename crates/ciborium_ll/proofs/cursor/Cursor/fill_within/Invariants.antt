@@ -1,5 +1,4 @@
-use Rattle.std.proofs.Common.{length, take, ◌+◌, ◌-◌, ◌≡◌, ◌≤◌}
-use Rattle.std.specs.Io.KnownBytes.{Consumes}
+use Rattle.std.{proofs.Common.{length, take, ◌+◌, ◌-◌, ◌≡◌, ◌≤◌}, specs.Io.KnownBytes.Consumes}
 use Rattle.ciborium_ll.specs.{Bytes.AreBytes, inner.Cursors.{IsSameCursor, count_at, left_at}}
 use Rattle.ciborium_ll.proofs.cursor.Cursor.fill_within.Given as goal
 

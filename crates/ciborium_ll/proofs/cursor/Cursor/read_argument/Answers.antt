@@ -1,6 +1,5 @@
 use Rattle.std.proofs.{Common.{arith, ◌≡◌, ◌%◌, length}, lemmas.Result.err_from_is_err_and}
-use Rattle.ciborium_ll.specs.Refusal.{argument_length}
-use Rattle.ciborium_ll.proofs.Advancing.{argument-fails, argument-whole, argument-end}
+use Rattle.ciborium_ll.{proofs.Advancing.{argument-fails, argument-whole, argument-end}, specs.Refusal.argument_length}
 use Rattle.ciborium_ll.proofs.cursor.Cursor.read_argument.Goals as goal
 
 pub returns-in_err-fill-clause-head : goal.returns-in_err-fill-clause-head

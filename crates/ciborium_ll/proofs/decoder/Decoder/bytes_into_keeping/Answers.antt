@@ -1,6 +1,5 @@
 use Rattle.std.proofs.Common.{rules}
-use Rattle.ciborium_ll.specs.StringRefusal.{of_bytes}
-use Rattle.ciborium_ll.proofs.Unread.{refused-string}
+use Rattle.ciborium_ll.{proofs.Unread.refused-string, specs.StringRefusal.of_bytes}
 use Rattle.ciborium_ll.proofs.decoder.Decoder.bytes_into_keeping.Goals as goal
 
 pub returns : goal.returns

@@ -1,6 +1,5 @@
 use Rattle.std.proofs.Common.{None, refl, subst}
-use Rattle.ciborium_ll.specs.Decoding.{IsAheadBy}
-use Rattle.ciborium_ll.proofs.FirstHeads.{first-empty, pulls-first}
+use Rattle.ciborium_ll.{proofs.FirstHeads.{first-empty, pulls-first}, specs.Decoding.IsAheadBy}
 use Rattle.ciborium_ll.proofs.decoder.Decoder.pull_first.Goals as goal
 
 pub returns-in-Ok-Some-clause-empty : goal.returns-in-Ok-Some-clause-empty

@@ -1,6 +1,5 @@
 use Rattle.std.proofs.Common.{◌≡◌, None, refl, subst}
-use Rattle.ciborium_ll.specs.Decoding.{IsAheadBy}
-use Rattle.ciborium_ll.proofs.Unread.{pulls-head}
+use Rattle.ciborium_ll.{proofs.Unread.pulls-head, specs.Decoding.IsAheadBy}
 use Rattle.ciborium_ll.proofs.decoder.Decoder.pull_next_keeping.Goals as goal
 
 pub returns-then-is_ok-clause-ahead : goal.returns-then-is_ok-clause-ahead

@@ -1,7 +1,5 @@
-use Rattle.std.proofs.{Common.{rules, sym, subst}, lemmas.Str.IsUtf8-string_bytes}
-use Rattle.std.specs.Prelude.{IsUtf8}
-use Rattle.ciborium_ll.specs.StringRefusal.{of_text}
-use Rattle.ciborium_ll.proofs.Unread.{refused-string, grown-utf8}
+use Rattle.std.{proofs.{Common.{rules, sym, subst}, lemmas.Str.IsUtf8-string_bytes}, specs.Prelude.IsUtf8}
+use Rattle.ciborium_ll.{proofs.Unread.{refused-string, grown-utf8}, specs.StringRefusal.of_text}
 use Rattle.ciborium_ll.proofs.decoder.Decoder.text_into_keeping.Goals as goal
 
 pub from_utf8_unchecked-requires : goal.from_utf8_unchecked-requires

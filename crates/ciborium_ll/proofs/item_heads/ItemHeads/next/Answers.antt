@@ -1,11 +1,10 @@
 use Rattle.std.proofs.Common.{ap, refl, subst, ◌-◌, ◌≡◌, ◌≤◌, true, take, length}
-use Rattle.ciborium_ll.specs.{Bytes.AreBytes, Header.SpellsHeader, ItemHeads.open_in, ItemLengths.Misfits}
-use Rattle.ciborium_ll.specs.{Levels.IsPayloadOf, Refusal.is_ill_formed, inner.Fronts.{IsCut, IsCutPayload, IsNoChunk}}
-use Rattle.ciborium_ll.specs.inner.Fronts.{IsNoText, MayBeChunk}
 use Rattle.ciborium_ll.proofs.HeadsRead.{behind-bytes, cut-inside-head, cut-inside-payload, ends-in-head}
 use Rattle.ciborium_ll.proofs.HeadsRead.{ends-in-payload, front-behind, head-read, malformed, misplaced, no-chunk}
 use Rattle.ciborium_ll.proofs.HeadsRead.{no-text, opens-too-many, some-open, too-deep, was-misplaced, was-too-deep}
-use Rattle.ciborium_ll.proofs.HeadsRead.{whole-read}
+use Rattle.ciborium_ll.{proofs.HeadsRead.whole-read, specs.{Bytes.AreBytes, Header.SpellsHeader, ItemHeads.open_in}}
+use Rattle.ciborium_ll.specs.{ItemLengths.Misfits, Levels.IsPayloadOf, Refusal.is_ill_formed, inner.Fronts.IsCut}
+use Rattle.ciborium_ll.specs.inner.Fronts.{IsCutPayload, IsNoChunk, IsNoText, MayBeChunk}
 use Rattle.ciborium_ll.proofs.item_heads.ItemHeads.next.Goals as goal
 
 pub returns-then-is_empty : goal.returns-then-is_empty

@@ -1,8 +1,7 @@
 use Rattle.std.proofs.Common.{sym, ap, subst, ◌∙◌, ◌≡◌, Some}
-use Rattle.ciborium_ll.specs.{Levels.behind_head, inner.KeptLevels.levels_in}
 use Rattle.ciborium_ll.proofs.KeptLevels.{IsStep, kept-opened, kept-within, not-zero, one-too-many, step-here}
 use Rattle.ciborium_ll.proofs.{KeptLevels.top-within, levels.Levels.pass.Goals.{in-Within, in-Opens+else-self-eq0}}
-use Rattle.ciborium_ll.proofs.levels.Levels.pass.Goals.{in-Ends}
+use Rattle.ciborium_ll.{proofs.levels.Levels.pass.Goals.in-Ends, specs.{Levels.behind_head, inner.KeptLevels.levels_in}}
 use Rattle.ciborium_ll.proofs.levels.Levels.pass.Goals as goal
 
 pub returns-then-self-eq0 : goal.returns-then-self-eq0

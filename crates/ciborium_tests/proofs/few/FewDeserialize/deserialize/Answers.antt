@@ -1,10 +1,9 @@
 -- Few numbers are read one by one; where five were read a further item is refused.
 use Rattle.std.proofs.Common.{arith, ◌≡◌, ◌+◌, ◌-◌, ◌++◌, suc, [], ◌∷◌, length, sym, subst}
-use Rattle.ciborium_value.specs.{Sources.{RefusesAhead, of_kind}, Given.given_byte}
 use Rattle.ciborium_value.proofs.Sources.Sequences.{so, Follows, IsBefore, IsInside, takes, blames, blames_next}
-use Rattle.ciborium_value.proofs.Sources.Sequences.{owed_more, owed_all, passes_on}
-use Rattle.ciborium_tests.specs.Few.{given_few}
-use Rattle.ciborium_tests.proofs.FewItems.{few_from, few_more, few_blames, few_refuses, few_ends}
+use Rattle.ciborium_value.{proofs.Sources.Sequences.{owed_more, owed_all, passes_on}, specs.Given.given_byte}
+use Rattle.ciborium_value.specs.Sources.{RefusesAhead, of_kind}
+use Rattle.ciborium_tests.{proofs.FewItems.{few_from, few_more, few_blames, few_refuses, few_ends}, specs.Few.given_few}
 use Rattle.ciborium_value.specs.declared.kind.Kind.TheVariants as kinds
 use Rattle.ciborium_tests.proofs.few.FewDeserialize.deserialize.Goals as goal
 

@@ -1,8 +1,7 @@
 use Rattle.std.proofs.Common.{◌+◌, ◌-◌, ◌<◌, ◌≤◌, length}
-use Rattle.ciborium_value.specs.{Places.sequence, Sources.{TakesOnly, TakesTo}, Given.given_byte}
-use Rattle.ciborium_value.proofs.Sources.Sequences.{Follows, IsBefore, IsInside}
-use Rattle.ciborium_tests.specs.Few.{given_few}
-use Rattle.ciborium_tests.proofs.FewItems.{few_from}
+use Rattle.ciborium_value.{proofs.Sources.Sequences.{Follows, IsBefore, IsInside}, specs.Given.given_byte}
+use Rattle.ciborium_value.specs.{Places.sequence, Sources.{TakesOnly, TakesTo}}
+use Rattle.ciborium_tests.{proofs.FewItems.few_from, specs.Few.given_few}
 use Rattle.ciborium_tests.proofs.few.FewDeserialize.deserialize.Given as goal
 
 -- the numbers that were read are the first of at most five, and the others are left

@@ -1,7 +1,6 @@
 use Rattle.std.proofs.Common.{subst}
 use Rattle.ciborium.specs.View.{tree_of}
-use Rattle.ciborium_uses.proofs.{Exits.{exit_by, refused_by}, KeptLabels.one-map}
-use Rattle.ciborium_uses.specs.Envelopes.{AreClaims}
+use Rattle.ciborium_uses.{proofs.{Exits.{exit_by, refused_by}, KeptLabels.one-map}, specs.Envelopes.AreClaims}
 use Rattle.ciborium_uses.proofs.envelopes.claims.read_claims.Goals as goal
 
 pub returns-in_err-labels-clause-refused : goal.returns-in_err-labels-clause-refused

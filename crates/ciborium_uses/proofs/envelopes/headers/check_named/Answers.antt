@@ -1,7 +1,6 @@
 use Rattle.std.proofs.Common.{ap, rules, sym, ◌∙◌, ◌≡◌, []}
 use Rattle.ciborium.specs.View.{trees_of}
-use Rattle.ciborium_uses.proofs.CriticalLabels.{crit_of}
-use Rattle.ciborium_uses.specs.Envelopes.{are_critical, entry_trees}
+use Rattle.ciborium_uses.{proofs.CriticalLabels.crit_of, specs.Envelopes.{are_critical, entry_trees}}
 use Rattle.ciborium_uses.proofs.envelopes.headers.check_named.Goals as goal
 
 pub returns : goal.returns

@@ -1,6 +1,5 @@
 use Rattle.std.proofs.Common.{subst, sym}
-use Rattle.ciborium_uses.proofs.Exits.{exit_by, refused_by}
-use Rattle.ciborium_uses.specs.Envelopes.{AreLabels}
+use Rattle.ciborium_uses.{proofs.Exits.{exit_by, refused_by}, specs.Envelopes.AreLabels}
 use Rattle.ciborium_uses.proofs.envelopes.labels.read_labels.Goals as goal
 
 pub returns-in_err-map-clause-refused : goal.returns-in_err-map-clause-refused

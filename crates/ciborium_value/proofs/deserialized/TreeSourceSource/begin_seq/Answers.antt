@@ -1,8 +1,7 @@
 -- The items of the array are ahead.
 use Rattle.std.proofs.Common.{◌≡◌, sym, ap, ◌∙◌, subst}
-use Rattle.ciborium_value.specs.{Ahead.counted, Given.{given_seq, untagged}, inner.TreeSources.IsPending}
-use Rattle.ciborium_value.specs.TreeAnswers.{value_item}
-use Rattle.ciborium_value.proofs.Sources.TreeReading.{begun, seq_of}
+use Rattle.ciborium_value.{proofs.Sources.TreeReading.{begun, seq_of}, specs.{Ahead.counted, Given.given_seq}}
+use Rattle.ciborium_value.specs.{Given.untagged, TreeAnswers.value_item, inner.TreeSources.IsPending}
 use Rattle.ciborium_value.proofs.deserialized.TreeSourceSource.begin_seq.Goals as goal
 
 pub returns-in-Array-clause-ok : goal.returns-in-Array-clause-ok

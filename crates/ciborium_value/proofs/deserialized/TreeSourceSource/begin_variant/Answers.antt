@@ -1,13 +1,12 @@
 -- A map of one pair is a variant, its key a name.
 use Rattle.std.proofs.Common.{◌≡◌, ◌+◌, None, refl, sym, ap, ◌∙◌, subst, arith}
-use Rattle.ciborium_value.specs.{Ahead.end_of, Sources.{RefusesAhead, IsFaultOf}, Given.{given_variant, given_name}}
-use Rattle.ciborium_value.specs.{Given.{untagged, deeper, outcome, outcome_map}, inner.TreeSources.IsTreeAt}
-use Rattle.ciborium_value.specs.inner.TreeSources.{IsPending, IsDueValue, value_weight, pending_tree_weight, due_weight}
-use Rattle.ciborium_value.specs.{TreeAnswers.{tree_fault, value_item}, Counts.tree_pairs_node_count}
-use Rattle.ciborium_value.specs.{Counts.tree_pairs_payload_size, View.tree_pairs_of}
-use Rattle.ciborium_value.proofs.{Writing.Progress.exits, Sources.Sequences.fault_map}
-use Rattle.ciborium_value.proofs.{Sources.TreeReading.pairs_weigh_less, Sources.TreeFaults.fault_error}
-use Rattle.ciborium_value.proofs.Sources.TreeLevels.{variant_of_map}
+use Rattle.ciborium_value.proofs.Sources.{Sequences.fault_map, TreeFaults.fault_error, TreeLevels.variant_of_map}
+use Rattle.ciborium_value.{proofs.{Sources.TreeReading.pairs_weigh_less, Writing.Progress.exits}, specs.Ahead.end_of}
+use Rattle.ciborium_value.specs.{Counts.{tree_pairs_node_count, tree_pairs_payload_size}, Given.given_variant}
+use Rattle.ciborium_value.specs.{Given.{given_name, untagged, deeper, outcome, outcome_map}, Sources.RefusesAhead}
+use Rattle.ciborium_value.specs.{Sources.IsFaultOf, TreeAnswers.{tree_fault, value_item}, View.tree_pairs_of}
+use Rattle.ciborium_value.specs.inner.TreeSources.{IsTreeAt, IsPending, IsDueValue, value_weight, pending_tree_weight}
+use Rattle.ciborium_value.specs.inner.TreeSources.{due_weight}
 use Rattle.ciborium_value.proofs.deserialized.TreeSourceSource.begin_variant.Goals as goal
 
 pub returns-in_err-name-in-Some-clause-refused : goal.returns-in_err-name-in-Some-clause-refused

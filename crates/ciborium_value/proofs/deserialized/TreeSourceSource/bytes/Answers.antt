@@ -1,5 +1,4 @@
-use Rattle.ciborium_value.specs.Given.{given_bytes}
-use Rattle.ciborium_value.proofs.Sources.TreeCalls.{taken-there}
+use Rattle.ciborium_value.{proofs.Sources.TreeCalls.taken-there, specs.Given.given_bytes}
 use Rattle.ciborium_value.proofs.deserialized.TreeSourceSource.bytes.Goals as goal
 
 pub returns-in-Whole : goal.returns-in-Whole

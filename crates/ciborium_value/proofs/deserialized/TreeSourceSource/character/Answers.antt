@@ -1,5 +1,4 @@
-use Rattle.ciborium_value.specs.Given.{given_character}
-use Rattle.ciborium_value.proofs.Sources.TreeCalls.{taken-there}
+use Rattle.ciborium_value.{proofs.Sources.TreeCalls.taken-there, specs.Given.given_character}
 use Rattle.ciborium_value.proofs.deserialized.TreeSourceSource.character.Goals as goal
 
 pub returns-in-Whole-clause-takes : goal.returns-in-Whole-clause-takes

@@ -1,5 +1,4 @@
-use Rattle.ciborium_value.specs.Labels.{label_place}
-use Rattle.ciborium_value.proofs.Sources.TreeCalls.{taken-there}
+use Rattle.ciborium_value.{proofs.Sources.TreeCalls.taken-there, specs.Labels.label_place}
 use Rattle.ciborium_value.proofs.deserialized.TreeSourceSource.label.Goals as goal
 
 pub returns-in-Whole : goal.returns-in-Whole

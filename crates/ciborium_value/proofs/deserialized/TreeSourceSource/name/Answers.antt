@@ -1,6 +1,5 @@
-use Rattle.ciborium_value.specs.Given.{given_name}
+use Rattle.ciborium_value.{proofs.Sources.TreeCalls.taken-there, specs.Given.given_name}
 use Rattle.std.proofs.Common.{string_bytes}
-use Rattle.ciborium_value.proofs.Sources.TreeCalls.{taken-there}
 use Rattle.ciborium_value.proofs.deserialized.TreeSourceSource.name.Goals as goal
 
 pub returns-in-Whole : goal.returns-in-Whole

@@ -1,8 +1,7 @@
 -- The numbers of an array, behind its tags.
 use Rattle.std.proofs.Common.{◌≡◌, None, IfOk, IfErr, map, sym, ap, ◌∙◌, subst}
-use Rattle.ciborium_value.specs.Given.{gives, outcome, take_each, given_byte, given_bytes}
-use Rattle.ciborium_value.specs.TreeAnswers.{IsErrorOf, value_item}
-use Rattle.ciborium_value.proofs.Sources.TreeReading.{numbers_of}
+use Rattle.ciborium_value.{proofs.Sources.TreeReading.numbers_of, specs.Given.{gives, outcome, take_each, given_byte}}
+use Rattle.ciborium_value.specs.{Given.given_bytes, TreeAnswers.{IsErrorOf, value_item}}
 use Rattle.ciborium_value.proofs.deserialized.parts.copy_bytes.Goals as goal
 
 pub returns-in-Array-clause-ok : goal.returns-in-Array-clause-ok

@@ -1,6 +1,5 @@
 use Rattle.std.proofs.Common.{None, ap, sym, ◌∙◌}
-use Rattle.ciborium_value.specs.{Given.gives, TreeAnswers.value_item}
-use Rattle.ciborium_value.proofs.Sources.SkippedItems.{other-place}
+use Rattle.ciborium_value.{proofs.Sources.SkippedItems.other-place, specs.{Given.gives, TreeAnswers.value_item}}
 use Rattle.ciborium_value.proofs.deserialized.parts.find_place.Goals as goal
 
 pub returns-in-Other-clause-ok : goal.returns-in-Other-clause-ok

@@ -1,6 +1,5 @@
 use Rattle.std.proofs.Common.{rules, arith, drop, get_or, ap, sym, ◌∙◌}
-use Rattle.ciborium_value.specs.Tokens.{digits_behind}
-use Rattle.ciborium_value.proofs.Denoting.Texts.{front_of, too_large}
+use Rattle.ciborium_value.{proofs.Denoting.Texts.{front_of, too_large}, specs.Tokens.digits_behind}
 use Rattle.ciborium_value.proofs.from_notation.numbers.read_digits.Goals as goal
 
 pub returns-in_default-push_digit-clause-refused : goal.returns-in_default-push_digit-clause-refused

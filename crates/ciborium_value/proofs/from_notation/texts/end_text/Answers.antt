@@ -1,7 +1,6 @@
 use Rattle.std.proofs.Common.{◌≡◌, ◌∙◌, rules, ap, subst, sym, Some, string_bytes, IsUtf8}
 use Rattle.std.proofs.lemmas.Str.{IsUtf8-string_bytes}
-use Rattle.ciborium_value.specs.{Tokens.leaf, Tree.text}
-use Rattle.ciborium_value.proofs.Denoting.Texts.{no_utf8_token, utf8_token}
+use Rattle.ciborium_value.{proofs.Denoting.Texts.{no_utf8_token, utf8_token}, specs.{Tokens.leaf, Tree.text}}
 use Rattle.ciborium_value.proofs.from_notation.texts.end_text.Goals as goal
 
 pub returns-in-Ok-clause-found : goal.returns-in-Ok-clause-found

@@ -1,6 +1,5 @@
 use Rattle.std.proofs.Common.{encode_utf8, rules, ◌∙◌, ap}
-use Rattle.ciborium_value.specs.Tokens.{prepended, text_at}
-use Rattle.ciborium_value.proofs.Denoting.Texts.{prepended_twice}
+use Rattle.ciborium_value.{proofs.Denoting.Texts.prepended_twice, specs.Tokens.{prepended, text_at}}
 use Rattle.ciborium_value.proofs.from_notation.texts.push_escape.Goals as goal
 
 pub returns-clause-character : goal.returns-clause-character

@@ -1,8 +1,7 @@
 -- An item is written before the items behind it.
 use Rattle.std.proofs.lemmas.Result.{on_ok_weaker, on_err_weaker}
-use Rattle.ciborium_value.specs.Places.{sequence}
 use Rattle.ciborium_value.proofs.Writing.Progress.{on_err, ready_for_one, one_taken, breaks_at_one, takes_one_more}
-use Rattle.ciborium_value.proofs.Writing.Progress.{breaks_behind_one}
+use Rattle.ciborium_value.{proofs.Writing.Progress.breaks_behind_one, specs.Places.sequence}
 use Rattle.ciborium_value.proofs.items.ItemPartsOfArray.write_parts.Goals as goal
 
 pub serialize-requires : goal.serialize-requires

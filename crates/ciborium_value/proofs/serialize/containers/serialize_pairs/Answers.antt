@@ -1,10 +1,9 @@
 -- Pairs are written one after the other, each key before its value.
 use Rattle.std.proofs.{Common.{Some, ap, length, subst, rules}, lemmas.Result.{on_ok_weaker, on_err_weaker}}
-use Rattle.ciborium_value.specs.{Places.dictionary, Sinks.{AddsNamed, BreaksNamed, IsOwed, container_of, in_turn}}
-use Rattle.ciborium_value.specs.Progress.{Owes}
 use Rattle.ciborium_value.proofs.Writing.Progress.{exits, on_err, owes_begin, owes_broken_begin, owes_ready, owes_more}
 use Rattle.ciborium_value.proofs.Writing.Progress.{owes_broken, owes_owed, owes_can_end, owes_ends, owes_broken_end}
-use Rattle.ciborium_value.proofs.Writing.Progress.{length-in_turn, next_pair, no_pair}
+use Rattle.ciborium_value.{proofs.Writing.Progress.{length-in_turn, next_pair, no_pair}, specs.Places.dictionary}
+use Rattle.ciborium_value.specs.{Progress.Owes, Sinks.{AddsNamed, BreaksNamed, IsOwed, container_of, in_turn}}
 use Rattle.ciborium_value.proofs.serialize.containers.serialize_pairs.Goals as goal
 
 pub returns-in_err-begin_map-clause-err : goal.returns-in_err-begin_map-clause-err

@@ -1,6 +1,5 @@
 use Rattle.std.proofs.Common.{◌∙◌, pos}
-use Rattle.ciborium_value.specs.Sinks.{number_item}
-use Rattle.ciborium_value.proofs.Writing.TreeSinkSteps.{put_adds, number-tree}
+use Rattle.ciborium_value.{proofs.Writing.TreeSinkSteps.{put_adds, number-tree}, specs.Sinks.number_item}
 use Rattle.ciborium_value.proofs.serialized.TreeSinkSink.unsigned.Goals as goal
 
 pub returns-clause-ok : goal.returns-clause-ok

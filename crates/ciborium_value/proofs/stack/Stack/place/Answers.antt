@@ -1,6 +1,5 @@
 use Rattle.std.proofs.Common.{rules, sym, ◌∙◌, ap}
-use Rattle.ciborium_value.specs.{inner.Stack.{filled_of, frame_of}, View.tree_of}
-use Rattle.ciborium_value.proofs.Trees.Stacked.{still-placed}
+use Rattle.ciborium_value.{proofs.Trees.Stacked.still-placed, specs.{View.tree_of, inner.Stack.{filled_of, frame_of}}}
 use Rattle.ciborium_value.proofs.stack.Stack.place.Goals as goal
 
 pub returns-in-None : goal.returns-in-None

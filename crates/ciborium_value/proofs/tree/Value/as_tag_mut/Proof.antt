@@ -1,13 +1,12 @@
 -- `as_tag_mut` cuts the borrow of a tag in two, and lends its number and what its box holds.
 use Rattle.std.proofs.{Common.{◌≡◌, ℕ, List, [], ◌∷◌, rules, refl, sym, ap, ◌∙◌, subst}, raw_atomic.Walks.proved}
 use Rattle.std.specs.{Box.with_value, Prelude.⊤, declared.option.Option.TheVariants.{None, Some}}
-use Rattle.ciborium_value.proofs.{Trees.TagParts.{B, Tag, tag_with, tags, lends_two, then₂}, Trees.Views.tree_of-Tag}
-use Rattle.ciborium_value.proofs.{tree.Value.as_tag_mut.Statement.statement, tree.accessors.lend_content.Met.met}
+use Rattle.ciborium_value.proofs.Trees.{TagParts.{B, Tag, tag_with, tags, lends_two, then₂}, Views.tree_of-Tag}
+use Rattle.ciborium_value.proofs.tree.{Value.as_tag_mut.Statement.statement, accessors.lend_content.Met.met}
 use Rattle.ciborium_value.specs.{LentParts.value_with_tag, Tree.Tree, TreeVariants.IsTagTree, Variants.{IsTag, IsTagOf}}
 use Rattle.ciborium_value.specs.{View.{tree_of, level_tree}, contracts.tree.Value.{the_type, the_row as R, enum}}
-use Rattle.ciborium_value.specs.{declared.tree.Value.the_lemmas, declared.tree.Value.TheOpen.Value-F}
-use Rattle.ciborium_value.specs.{declared.tree.Value.TheFolds.map-Value, declared.tree.Value.TheViews.out-Value}
-use Rattle.ciborium_value.specs.declared.tree.Value.TheViews.{roll-Value}
+use Rattle.ciborium_value.specs.declared.tree.Value.{the_lemmas, TheFolds.map-Value, TheOpen.Value-F}
+use Rattle.ciborium_value.specs.declared.tree.Value.TheViews.{out-Value, roll-Value}
 use Prim.Native.Nat.{◌+◌}
 use base.Fml.{ftrue, flft, GName, fsep, feq, fex}
 use base.Fraction.{full_share}

@@ -1,5 +1,4 @@
-use Rattle.ciborium_value.specs.View.{tree_of}
-use Rattle.ciborium_value.proofs.Forms.OwnForms.{own_where_formed}
+use Rattle.ciborium_value.{proofs.Forms.OwnForms.own_where_formed, specs.View.tree_of}
 use Rattle.ciborium_value.proofs.tree.Value.is_deterministic.Goals as goal
 
 pub returns : goal.returns

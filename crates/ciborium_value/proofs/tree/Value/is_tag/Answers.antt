@@ -1,6 +1,5 @@
 use Rattle.std.proofs.Common.{◌∙◌, ap, refl}
-use Rattle.ciborium_value.specs.View.{tree_of}
-use Rattle.ciborium_value.proofs.Trees.Views.{tree_of-Tag}
+use Rattle.ciborium_value.{proofs.Trees.Views.tree_of-Tag, specs.View.tree_of}
 use Rattle.ciborium_value.proofs.tree.Value.is_tag.Goals as goal
 
 pub returns-in-Tag-clause-tree : goal.returns-in-Tag-clause-tree

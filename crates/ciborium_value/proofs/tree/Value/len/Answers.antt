@@ -1,7 +1,6 @@
 use Rattle.std.proofs.Common.{Some, ap, sym, ◌∙◌}
-use Rattle.ciborium_value.specs.{Lookups.parts_of, View.tree_of}
 use Rattle.ciborium_value.proofs.Trees.Views.{tree_of-Array, tree_of-Map, tree_pairs_count-tree_pairs_of}
-use Rattle.ciborium_value.proofs.Trees.Views.{trees_count-trees_of}
+use Rattle.ciborium_value.{proofs.Trees.Views.trees_count-trees_of, specs.{Lookups.parts_of, View.tree_of}}
 use Rattle.ciborium_value.proofs.tree.Value.len.Goals as goal
 
 pub returns-in-Array : goal.returns-in-Array

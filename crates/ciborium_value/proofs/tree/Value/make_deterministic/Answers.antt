@@ -1,5 +1,4 @@
-use Rattle.ciborium_value.specs.View.{tree_of}
-use Rattle.ciborium_value.proofs.Forms.RefusedForms.{refused_with_reasons}
+use Rattle.ciborium_value.{proofs.Forms.RefusedForms.refused_with_reasons, specs.View.tree_of}
 use Rattle.ciborium_value.proofs.tree.Value.make_deterministic.Goals as goal
 
 pub returns-clause-kinds : goal.returns-clause-kinds

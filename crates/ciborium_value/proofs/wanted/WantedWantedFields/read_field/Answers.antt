@@ -1,9 +1,7 @@
 -- A place behind the first field is one of the fields behind it.
-use Rattle.std.proofs.{Common.{ap, ◌∙◌}, lemmas.Result.on_ok_weaker}
-use Rattle.std.specs.Option.{option_map}
+use Rattle.std.{proofs.{Common.{ap, ◌∙◌}, lemmas.Result.on_ok_weaker}, specs.Option.option_map}
+use Rattle.ciborium_value.proofs.Sources.{NamedFields.behind_first, Sequences.fault_map, TreeReading.if_err_so}
 use Rattle.ciborium_value.specs.Given.{outcome_map}
-use Rattle.ciborium_value.proofs.{Sources.NamedFields.behind_first, Sources.Sequences.fault_map}
-use Rattle.ciborium_value.proofs.Sources.TreeReading.{if_err_so}
 use Rattle.ciborium_value.proofs.wanted.WantedWantedFields.read_field.Goals as goal
 
 pub returns-in-Behind-clause-ok : goal.returns-in-Behind-clause-ok

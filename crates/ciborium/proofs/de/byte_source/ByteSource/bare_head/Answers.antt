@@ -1,9 +1,8 @@
 use Rattle.std.proofs.{Common.{subst, refl}, lemmas.Result.err_from_is_err_and}
 use Rattle.ciborium_value.specs.Sources.{of_kind}
-use Rattle.ciborium.specs.{inner.ByteSources.{IsUnread, end_at, fault_at}, inner.FrontItems.TakesHead}
-use Rattle.ciborium.specs.inner.Skips.{IsEndTag}
 use Rattle.ciborium.proofs.Items.SkippedTags.{bare-head, bare-behind, skips-none, skips-more, denies-item, denies-break}
-use Rattle.ciborium.proofs.{Items.SkippedTags.denies-behind, Items.TakenOnly.same-end}
+use Rattle.ciborium.{proofs.Items.{SkippedTags.denies-behind, TakenOnly.same-end}, specs.inner.ByteSources.IsUnread}
+use Rattle.ciborium.specs.inner.{ByteSources.{end_at, fault_at}, FrontItems.TakesHead, Skips.IsEndTag}
 use Rattle.ciborium_ll.specs.declared.header.Header.TheVariants as header
 use Rattle.ciborium_value.specs.declared.kind.Kind.TheVariants as kinds
 use Rattle.ciborium.proofs.de.byte_source.ByteSource.bare_head.Goals as goal

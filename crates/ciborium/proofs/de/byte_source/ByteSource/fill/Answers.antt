@@ -1,8 +1,7 @@
 use Rattle.std.proofs.{Common.{arith, subst, false}, lemmas.Result.err_from_is_err_and}
 use Rattle.ciborium_ll.specs.Accesses.{left_at_failure}
-use Rattle.ciborium.proofs.{Items.FrontReads.granted-fill, Payloads.LoneCharacters.just-taken}
-use Rattle.ciborium.proofs.{Payloads.ReadDigits.{fill-fewer, fill-outside}, Items.TakenOnly.takes-only}
-use Rattle.ciborium.specs.inner.ByteSources.{IsUnreadBy}
+use Rattle.ciborium.proofs.{Items.{FrontReads.granted-fill, TakenOnly.takes-only}, Payloads.LoneCharacters.just-taken}
+use Rattle.ciborium.{proofs.Payloads.ReadDigits.{fill-fewer, fill-outside}, specs.inner.ByteSources.IsUnreadBy}
 use Rattle.ciborium.proofs.de.byte_source.ByteSource.fill.Goals as goal
 
 pub returns-clause-ok : goal.returns-clause-ok

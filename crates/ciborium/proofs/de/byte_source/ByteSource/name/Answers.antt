@@ -1,13 +1,11 @@
 use Rattle.std.proofs.{Common.{◌≡◌, ap, sym, Some, false, subst, string_bytes}, lemmas.Result.err_from_is_err_and}
-use Rattle.std.proofs.lemmas.Str.{IsUtf8-string_bytes}
-use Rattle.std.specs.Str.{IsUtf8}
+use Rattle.std.{proofs.lemmas.Str.IsUtf8-string_bytes, specs.Str.IsUtf8}
 use Rattle.ciborium_ll.specs.StringRefusal.{of_bytes, of_text}
 use Rattle.ciborium_value.specs.{Given.{bare_name, given_name, outcome, settled}, Places.is_open}
-use Rattle.ciborium.specs.{inner.ByteSources.{IsUnread, end_at, fault_at}, inner.Skips.TakesBare}
-use Rattle.ciborium.specs.inner.StringContents.{string_item}
 use Rattle.ciborium.proofs.Containers.NamedVariants.{bytes-name, bytes-no-name, name-other}
-use Rattle.ciborium.proofs.{Items.SkippedTags.untagged-under, Items.BareHeads.{head-denied, other-denied}}
-use Rattle.ciborium.proofs.Items.BareHeads.{string-denied, string-read}
+use Rattle.ciborium.proofs.Items.BareHeads.{head-denied, other-denied, string-denied, string-read}
+use Rattle.ciborium.{proofs.Items.SkippedTags.untagged-under, specs.inner.ByteSources.{IsUnread, end_at, fault_at}}
+use Rattle.ciborium.specs.inner.{Skips.TakesBare, StringContents.string_item}
 use Rattle.ciborium_value.specs.declared.kind.Kind.TheVariants as kinds
 use Rattle.ciborium.proofs.de.byte_source.ByteSource.name.Goals as goal
 

@@ -1,15 +1,13 @@
 use Rattle.std.proofs.{Common.{◌≡◌, ◌∙◌, ap, sym, Some, false, subst}, lemmas.Result.err_from_is_err_and}
 use Rattle.std.specs.Str.{IsUtf8}
 use Rattle.ciborium_ll.specs.StringRefusal.{of_bytes, of_text}
-use Rattle.ciborium_value.specs.{Given.{bare_name, gives, outcome_map, given_name, outcome, settled}, Sources.of_kind}
-use Rattle.ciborium_value.specs.{Labels.{name_place, placed}, declared.labels.LabelKind.TheVariants.Name}
-use Rattle.ciborium_value.specs.Places.{is_open}
-use Rattle.ciborium_value.proofs.Sources.Sequences.{fault_map}
-use Rattle.ciborium.specs.{inner.ByteSources.{IsUnread, end_at, fault_at}, inner.Skips.TakesBare}
-use Rattle.ciborium.specs.inner.StringContents.{string_item}
+use Rattle.ciborium_value.{proofs.Sources.Sequences.fault_map, specs.Given.{bare_name, gives, outcome_map, given_name}}
+use Rattle.ciborium_value.specs.{Given.{outcome, settled}, Labels.{name_place, placed}, Places.is_open, Sources.of_kind}
+use Rattle.ciborium_value.specs.declared.labels.LabelKind.TheVariants.{Name}
 use Rattle.ciborium.proofs.Containers.NamedVariants.{bytes-name, bytes-no-name, name-other}
-use Rattle.ciborium.proofs.{Items.SkippedTags.untagged-under, Items.BareHeads.{head-denied, other-denied}}
-use Rattle.ciborium.proofs.Items.BareHeads.{string-denied, string-read}
+use Rattle.ciborium.proofs.Items.BareHeads.{head-denied, other-denied, string-denied, string-read}
+use Rattle.ciborium.{proofs.Items.SkippedTags.untagged-under, specs.inner.ByteSources.{IsUnread, end_at, fault_at}}
+use Rattle.ciborium.specs.inner.{Skips.TakesBare, StringContents.string_item}
 use Rattle.ciborium_value.specs.declared.kind.Kind.TheVariants as kinds
 use Rattle.ciborium.proofs.de.byte_source.ByteSource.named_place.Goals as goal
 

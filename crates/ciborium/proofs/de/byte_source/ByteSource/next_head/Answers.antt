@@ -1,8 +1,7 @@
 use Rattle.std.proofs.{Common.{◌∙◌, sym, subst, ◌≡◌, ◌≤◌, arith, false, ◌+◌}, lemmas.Result.err_from_is_err_and}
-use Rattle.ciborium.specs.{inner.ByteSources.{IsUnreadBy, bytes_weight, weight_left, known_end}, Errors.from_ll}
 use Rattle.ciborium.proofs.Items.FrontReads.{ahead-unpushed, counted-pending, counted-pulled, fewer-bytes, head-outside}
-use Rattle.ciborium.proofs.Items.FrontReads.{ended-ll, failed-fault, granted-head, weighs-none}
-use Rattle.ciborium.proofs.Items.TakenOnly.{takes-only}
+use Rattle.ciborium.proofs.Items.{FrontReads.{ended-ll, failed-fault, granted-head, weighs-none}, TakenOnly.takes-only}
+use Rattle.ciborium.specs.{Errors.from_ll, inner.ByteSources.{IsUnreadBy, bytes_weight, weight_left, known_end}}
 use Rattle.ciborium_ll.specs.{Accesses.left_at_failure, Decoding.left_of}
 use Rattle.ciborium_value.specs.Sources.{IsOutsideFault}
 use Rattle.ciborium.proofs.de.byte_source.ByteSource.next_head.Goals as goal

@@ -1,8 +1,7 @@
-use Rattle.std.proofs.{Common.{sym, Some, subst}, lemmas.Result.err_from_is_err_and}
-use Rattle.std.specs.Int.{complement_if}
-use Rattle.ciborium_value.specs.{Labels.{numbered, other, placed}, Given.{given_integer, given_skip}}
-use Rattle.ciborium.specs.{inner.ByteSources.{IsUnread, end_at, fault_at}, inner.FrontItems.Denies}
-use Rattle.ciborium.proofs.Containers.Labels.{denies-mapped}
+use Rattle.std.{proofs.{Common.{sym, Some, subst}, lemmas.Result.err_from_is_err_and}, specs.Int.complement_if}
+use Rattle.ciborium_value.specs.{Given.{given_integer, given_skip}, Labels.{numbered, other, placed}}
+use Rattle.ciborium.{proofs.Containers.Labels.denies-mapped, specs.inner.ByteSources.{IsUnread, end_at, fault_at}}
+use Rattle.ciborium.specs.inner.FrontItems.{Denies}
 use Rattle.ciborium.proofs.de.byte_source.ByteSource.place_of_kind.Goals as goal
 
 pub returns-in_err-negative-in-Number-clause-answer : goal.returns-in_err-negative-in-Number-clause-answer

@@ -1,12 +1,11 @@
 use Rattle.std.proofs.Common.{◌≡◌, ◌⊎◌, Bool, Ok, ℕ, inl, inr, sym, ap, ◌∙◌, subst, Some, true, ◌==◌}
 use Rattle.std.proofs.lemmas.Result.{err_from_is_err_and}
-use Rattle.ciborium_ll.specs.{declared.header.Header.Header, Item.{unsigned, negative}}
-use Rattle.ciborium_value.specs.{Sources.of_kind, Given.given_integer}
-use Rattle.ciborium.specs.{inner.ByteSources.{IsUnread, end_at, fault_at}, inner.FrontItems.Reads}
-use Rattle.ciborium.specs.inner.Skips.{TakesBare, IsBare}
-use Rattle.ciborium.proofs.Items.BareScalars.{integer-gives, integer-other, bignum-behind, bignum-denied}
-use Rattle.ciborium.proofs.{Items.SkippedTags.{denies-bare, reads-bare, reads-whole}, Items.TakenOnly.same-end}
-use Rattle.ciborium.proofs.Items.BareHeads.{head-denied}
+use Rattle.ciborium_ll.specs.{Item.{unsigned, negative}, declared.header.Header.Header}
+use Rattle.ciborium_value.specs.{Given.given_integer, Sources.of_kind}
+use Rattle.ciborium.proofs.Items.{BareHeads.head-denied, BareScalars.{integer-gives, integer-other, bignum-behind}}
+use Rattle.ciborium.proofs.Items.{BareScalars.bignum-denied, SkippedTags.{denies-bare, reads-bare, reads-whole}}
+use Rattle.ciborium.{proofs.Items.TakenOnly.same-end, specs.inner.ByteSources.{IsUnread, end_at, fault_at}}
+use Rattle.ciborium.specs.inner.{FrontItems.Reads, Skips.{TakesBare, IsBare}}
 use Rattle.ciborium_ll.specs.declared.header.Header.TheVariants as header
 use Rattle.ciborium_value.specs.declared.kind.Kind.TheVariants as kinds
 use Rattle.ciborium.proofs.de.byte_source.ByteSource.read_integer.Goals as goal

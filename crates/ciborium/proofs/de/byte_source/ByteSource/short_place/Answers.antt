@@ -1,9 +1,8 @@
 use Rattle.std.proofs.{Common.{◌≡◌, None, Some, ap, ◌∙◌}, lemmas.Result.err_from_is_err_and}
 use Rattle.ciborium_ll.specs.StringRefusal.{of_text}
 use Rattle.ciborium_value.specs.Sources.{of_syntax}
+use Rattle.ciborium.proofs.Payloads.{ShortNames.{just-denied, no-text-denied}, VisitedPayloads.content-denied-then}
 use Rattle.ciborium.specs.inner.ByteSources.{IsUnread, end_at, fault_at}
-use Rattle.ciborium.proofs.Payloads.ShortNames.{just-denied, no-text-denied}
-use Rattle.ciborium.proofs.Payloads.VisitedPayloads.{content-denied-then}
 use Rattle.ciborium.proofs.de.byte_source.ByteSource.short_place.Goals as goal
 
 pub returns-in_err-place-clause-denied : goal.returns-in_err-place-clause-denied

@@ -1,11 +1,10 @@
 use Rattle.std.proofs.{Common.{[], ◌∷◌, IfOk, OnOk, Result, Ok, Err, refl}, lemmas.Result.err_from_is_err_and}
 use Rattle.std.proofs.lemmas.Result.{MatchResult-from_both}
 use Rattle.ciborium_ll.specs.declared.levels.Level.TheVariants.{Items}
-use Rattle.ciborium_value.specs.Given.{given_skip}
-use Rattle.ciborium_value.proofs.Sources.TreeReading.{if_err_so}
+use Rattle.ciborium_value.{proofs.Sources.TreeReading.if_err_so, specs.Given.given_skip}
+use Rattle.ciborium.proofs.{Containers.HeadsAside.answers-aside, Items.PassedOver.{head-denied, item-denied}}
+use Rattle.ciborium.proofs.Items.{PassedOver.{item-passed, lone-passed, payload-denied}, TakenOnly.same-end}
 use Rattle.ciborium.specs.inner.ByteSources.{IsUnread, end_at, fault_at}
-use Rattle.ciborium.proofs.{Containers.HeadsAside.answers-aside, Items.TakenOnly.same-end, Items.PassedOver.head-denied}
-use Rattle.ciborium.proofs.Items.PassedOver.{item-denied, item-passed, lone-passed, payload-denied}
 use Rattle.ciborium.proofs.de.byte_source.ByteSource.skip.Goals as goal
 
 ok-if : {T E Q : Type 0} {P : T → Type 0} (r : Result T E) → (Q → (v : T) → P v) → OnOk r Q → IfOk r P

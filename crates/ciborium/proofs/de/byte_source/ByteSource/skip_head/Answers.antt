@@ -1,10 +1,9 @@
 use Rattle.std.proofs.{Common.{◌∷◌, refl, sym, ap, ◌∙◌, subst, arith}, lemmas.Result.err_from_is_err_and}
 use Rattle.ciborium_ll.specs.Levels.{levels_by}
-use Rattle.ciborium.specs.{inner.ByteSources.{IsUnread, end_at, fault_at}, inner.PassedOver.{PassesHeads, around_in}}
-use Rattle.ciborium.specs.inner.PassedOver.{levels_in}
-use Rattle.ciborium.proofs.{Items.TakenOnly.same-end, Items.PassedOver.{bignum-denied, bignum-passed, fits}}
-use Rattle.ciborium.proofs.Items.PassedOver.{head-denied, head-passed, is-end, misplaced-denied, open-levels}
-use Rattle.ciborium.proofs.Items.PassedOver.{passed-ended, payload-denied, stays}
+use Rattle.ciborium.proofs.Items.PassedOver.{bignum-denied, bignum-passed, fits, head-denied, head-passed, is-end}
+use Rattle.ciborium.proofs.Items.PassedOver.{misplaced-denied, open-levels, passed-ended, payload-denied, stays}
+use Rattle.ciborium.{proofs.Items.TakenOnly.same-end, specs.inner.ByteSources.{IsUnread, end_at, fault_at}}
+use Rattle.ciborium.specs.inner.PassedOver.{PassesHeads, around_in, levels_in}
 use Rattle.ciborium.proofs.de.byte_source.ByteSource.skip_head.Goals as goal
 
 pub returns-in_err-header-clause-denied : goal.returns-in_err-header-clause-denied

@@ -1,9 +1,8 @@
 use Rattle.std.proofs.{Common.{◌∷◌, [], sym, ◌∙◌, subst, arith}, lemmas.Result.err_from_is_err_and}
 use Rattle.ciborium_ll.specs.declared.levels.Level.TheVariants.{Items}
-use Rattle.ciborium.specs.{inner.ByteSources.{IsUnread, end_at, fault_at}, inner.PassedOver.{DeniesLevels, PassesHeads}}
-use Rattle.ciborium.specs.inner.PassedOver.{levels_in}
-use Rattle.ciborium.proofs.{Items.TakenOnly.same-end, Items.PassedOver.{denied-before, item-denied, item-passed}}
-use Rattle.ciborium.proofs.Items.PassedOver.{passed-incomplete, passed-then}
+use Rattle.ciborium.proofs.Items.PassedOver.{denied-before, item-denied, item-passed, passed-incomplete, passed-then}
+use Rattle.ciborium.{proofs.Items.TakenOnly.same-end, specs.inner.ByteSources.{IsUnread, end_at, fault_at}}
+use Rattle.ciborium.specs.inner.PassedOver.{DeniesLevels, PassesHeads, levels_in}
 use Rattle.ciborium.proofs.de.byte_source.ByteSource.skip_heads.Goals as goal
 
 pub heads-preserved : goal.heads-preserved

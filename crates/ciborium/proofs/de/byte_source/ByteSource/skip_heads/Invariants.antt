@@ -1,8 +1,7 @@
 use Rattle.std.proofs.Common.{◌≡◌, ◌≤◌, ◌∷◌, []}
 use Rattle.ciborium_ll.specs.{Decoding.HasSameReader, Levels.incomplete, declared.levels.Level.TheVariants.Items}
 use Rattle.ciborium_value.specs.Sources.{TakesOnly}
-use Rattle.ciborium.specs.{inner.ByteSources.{HasTaken, IsUnread, weight_left}, inner.PassedOver.PassesHeads}
-use Rattle.ciborium.specs.inner.PassedOver.{levels_in}
+use Rattle.ciborium.specs.inner.{ByteSources.{HasTaken, IsUnread, weight_left}, PassedOver.{PassesHeads, levels_in}}
 use Rattle.ciborium.proofs.de.byte_source.ByteSource.skip_heads.Given as goal
 
 abbrev pub invariant-heads : goal.invariant-heads

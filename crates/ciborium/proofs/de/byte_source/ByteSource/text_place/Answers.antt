@@ -1,8 +1,7 @@
 use Rattle.std.proofs.{Common.{sym, subst}, lemmas.Result.err_from_is_err_and}
 use Rattle.ciborium_ll.specs.StringRefusal.{of_text}
 use Rattle.ciborium_value.specs.Labels.{name_place}
-use Rattle.ciborium.specs.{inner.ByteSources.{IsUnread, end_at, fault_at}, inner.StringContents.DeniesContent}
-use Rattle.ciborium.specs.inner.StringContents.{TakesPlace}
+use Rattle.ciborium.specs.inner.{ByteSources.{IsUnread, end_at, fault_at}, StringContents.{DeniesContent, TakesPlace}}
 use Rattle.ciborium.proofs.de.byte_source.ByteSource.text_place.Goals as goal
 
 pub returns-in_err-place-clause-denied : goal.returns-in_err-place-clause-denied

@@ -1,6 +1,5 @@
 use Rattle.std.proofs.Common.{◌≡◌, ◌++◌, Some, drop, length, refl, sym, ◌∙◌, subst, take, take-append-drop, IsUtf8}
-use Rattle.std.specs.Str.Lossy.{utf8_error_len}
-use Rattle.std.proofs.lemmas.Str.{IsUtf8-append}
+use Rattle.std.{proofs.lemmas.Str.IsUtf8-append, specs.Str.Lossy.utf8_error_len}
 use Rattle.ciborium_ll.proofs.BegunTexts.{none-begun}
 use Rattle.ciborium.proofs.de.byte_source.payloads.whole_len.Goals as goal
 

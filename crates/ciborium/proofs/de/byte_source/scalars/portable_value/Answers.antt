@@ -1,7 +1,6 @@
 use Rattle.std.proofs.Common.{sym, subst, ◌∙◌}
 use Rattle.ciborium_value.proofs.Trees.Views.{tree_of-Integer, tree_of-Null}
-use Rattle.ciborium.specs.inner.ByteSources.{MeansTree}
-use Rattle.ciborium.proofs.Items.WholeValues.{portable-null, portable-number}
+use Rattle.ciborium.{proofs.Items.WholeValues.{portable-null, portable-number}, specs.inner.ByteSources.MeansTree}
 use Rattle.ciborium.proofs.de.byte_source.scalars.portable_value.Goals as goal
 
 pub returns-in-Positive : goal.returns-in-Positive

@@ -1,7 +1,6 @@
 use Rattle.std.proofs.Common.{rules, subst}
 use Rattle.ciborium_value.specs.{Encoding.boolean_item, WrittenItems.IsWritten}
-use Rattle.ciborium.specs.Writes.{PutsOut}
-use Rattle.ciborium.proofs.{Writing.ByteSinks.{adds_as, breaks_as}, Writing.WritingSteps.OnOk-always}
+use Rattle.ciborium.{proofs.Writing.{ByteSinks.{adds_as, breaks_as}, WritingSteps.OnOk-always}, specs.Writes.PutsOut}
 use Rattle.ciborium.proofs.ser.byte_sink.ByteSinkSink.boolean.Goals as goal
 
 pub returns-clause-ok : goal.returns-clause-ok

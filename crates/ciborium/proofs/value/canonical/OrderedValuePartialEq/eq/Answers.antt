@@ -1,6 +1,5 @@
 use Rattle.std.proofs.Common.{IsTrue, ◌≡◌, ◌↔◌, sym, subst, rules}
-use Rattle.ciborium_value.specs.{Derived.value_eq, View.tree_of}
-use Rattle.ciborium_value.proofs.Orders.OrderedTrees.{equal_as_trees}
+use Rattle.ciborium_value.{proofs.Orders.OrderedTrees.equal_as_trees, specs.{Derived.value_eq, View.tree_of}}
 use Rattle.ciborium.proofs.value.canonical.OrderedValuePartialEq.eq.Goals as goal
 
 pub returns-clause-same : goal.returns-clause-same

@@ -1,9 +1,8 @@
 -- A list is read item by item.
 use Rattle.std.proofs.{Common.{arith, map, [], ◌∷◌, sym, ap, ◌∙◌, subst}, lemmas.List.map-append}
-use Rattle.ciborium_value.specs.GivenParts.{given_list}
 use Rattle.ciborium_value.proofs.Sources.Sequences.{so, Follows, IsBefore, IsInside, takes, blames, blames_next}
 use Rattle.ciborium_value.proofs.Sources.Sequences.{list_from, list_begins, list_more, list_blames, list_ends}
-use Rattle.ciborium_value.proofs.Sources.Sequences.{owed_more, owed_all, passes_on}
+use Rattle.ciborium_value.{proofs.Sources.Sequences.{owed_more, owed_all, passes_on}, specs.GivenParts.given_list}
 use Rattle.ciborium_value.proofs.deserialize.sequences.VecDeserialize.deserialize.Goals as goal
 
 pub loop-values-init : goal.loop-values-init

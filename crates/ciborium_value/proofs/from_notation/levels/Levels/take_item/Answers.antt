@@ -1,7 +1,6 @@
 use Rattle.std.proofs.Common.{rules}
-use Rattle.ciborium_value.specs.inner.ReadTokens.{token_read}
 use Rattle.ciborium_value.proofs.Denoting.BegunLevels.{array_begun, leaf_read, map_begun, no_item_begun, tag_begun}
-use Rattle.ciborium_value.proofs.{Denoting.BegunLevels.too_deep, Denoting.Steps.begun}
+use Rattle.ciborium_value.{proofs.Denoting.{BegunLevels.too_deep, Steps.begun}, specs.inner.ReadTokens.token_read}
 use Rattle.ciborium_value.proofs.from_notation.levels.Levels.take_item.Goals as goal
 
 pub returns-in-Leaf-clause-taken : goal.returns-in-Leaf-clause-taken

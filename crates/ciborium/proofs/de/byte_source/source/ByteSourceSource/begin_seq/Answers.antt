@@ -1,12 +1,11 @@
 use Rattle.std.proofs.Common.{rules, arith, ◌+◌, ◌<◌, refl, Some, false, sym, subst, ◌∙◌}
-use Rattle.std.proofs.lemmas.Result.{err_from_is_err_and}
-use Rattle.std.specs.Vec.Iter.{into_iter_items}
+use Rattle.std.{proofs.lemmas.Result.err_from_is_err_and, specs.Vec.Iter.into_iter_items}
 use Rattle.ciborium_ll.specs.StringRefusal.{of_bytes}
-use Rattle.ciborium_value.specs.{Given.{bare_seq, given_seq, give}, Ahead.takes_level}
-use Rattle.ciborium.specs.{inner.ByteSources.{IsUnread, seq_left, weight_left}, inner.Skips.TakesBare}
+use Rattle.ciborium_value.specs.{Ahead.takes_level, Given.{bare_seq, given_seq, give}}
 use Rattle.ciborium.proofs.Containers.ByteItems.{head-refuses, nested-refuses, other-refuses, string-refuses}
 use Rattle.ciborium.proofs.Containers.EnteredContainers.{IsEntered, entered-kept, items-stand, array-entered}
 use Rattle.ciborium.proofs.Containers.EnteredContainers.{array-nests, bytes-entered, bytes-had, seq-given, seq-other}
+use Rattle.ciborium.specs.inner.{ByteSources.{IsUnread, seq_left, weight_left}, Skips.TakesBare}
 use Rattle.ciborium_ll.specs.declared.header.Header.TheVariants as header
 use Rattle.ciborium.proofs.de.byte_source.source.ByteSourceSource.begin_seq.Goals as goal
 

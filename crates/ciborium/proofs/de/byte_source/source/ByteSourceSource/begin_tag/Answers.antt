@@ -1,14 +1,13 @@
 use Rattle.std.proofs.Common.{None, ◌≡◌, ap, ◌∙◌, sym, Some, false, subst, arith, ◌++◌, refl}
 use Rattle.std.proofs.lemmas.Result.{err_from_is_err_and}
 use Rattle.ciborium_ll.specs.Header.{SpellsHeader}
-use Rattle.ciborium_value.specs.{Sources.of_kind, Given.given_outer_tag}
+use Rattle.ciborium_value.specs.{Given.given_outer_tag, Sources.of_kind}
+use Rattle.ciborium.proofs.Containers.{ByteItems.refuses-denied, DueLevels.{completes-begun, holds-begun, none-begun}}
+use Rattle.ciborium.proofs.Containers.{DueLevels.{tag-begun, tag-refused}, EnteredContainers.same-unread}
+use Rattle.ciborium.proofs.{Containers.NextParts.aside-unread, Items.SkippedTags.{denies-item, denies-break}}
+use Rattle.ciborium.proofs.Items.{SkippedTags.{denies-of-item, skips-none}, TakenOnly.kept-alone}
 use Rattle.ciborium.specs.inner.ByteSources.{IsUnread, IsUnreadBy, end_at, fault_at, pending_head_weight}
 use Rattle.ciborium.specs.inner.FrontItems.{TakesHead}
-use Rattle.ciborium.proofs.{Items.TakenOnly.kept-alone, Containers.EnteredContainers.same-unread}
-use Rattle.ciborium.proofs.{Containers.ByteItems.refuses-denied, Containers.DueLevels.{completes-begun, holds-begun}}
-use Rattle.ciborium.proofs.Containers.DueLevels.{none-begun, tag-begun, tag-refused}
-use Rattle.ciborium.proofs.{Containers.NextParts.aside-unread, Items.SkippedTags.{denies-item, denies-break}}
-use Rattle.ciborium.proofs.Items.SkippedTags.{denies-of-item, skips-none}
 use Rattle.ciborium_value.specs.declared.kind.Kind.TheVariants as kinds
 use Rattle.ciborium.proofs.de.byte_source.source.ByteSourceSource.begin_tag.Goals as goal
 

@@ -2,15 +2,14 @@ use Rattle.std.proofs.Common.{rules, ◌≡◌, ◌≢◌, ◌≤◌, ◌+◌, l
 use Rattle.std.proofs.lemmas.Result.{err_from_is_err_and}
 use Rattle.ciborium_ll.specs.StringRefusal.{of_text}
 use Rattle.ciborium_value.specs.Given.{deeper, given_name, given_variant}
-use Rattle.ciborium.specs.{inner.ByteSources.{IsUnread, end_at, reader_of, fault_at}, inner.FrontItems.{Denies, Reads}}
+use Rattle.ciborium.proofs.Containers.ByteItems.{head-refuses, nested-refuses, other-refuses, refuses-denied}
+use Rattle.ciborium.proofs.Containers.{DueLevels.{completes-begun, holds-begun}, EnteredContainers.deeper-is}
+use Rattle.ciborium.proofs.Containers.{EnteredContainers.same-unread, NamedVariants.{key-denied, map-no-text}}
+use Rattle.ciborium.proofs.Containers.NamedVariants.{map-not-one, null-unread, pair-nests, pair-begun, text-nests}
+use Rattle.ciborium.proofs.{Containers.NamedVariants.{text-begun, variant-other}, Items.SkippedTags.denies-of-item}
+use Rattle.ciborium.proofs.{Items.TakenOnly.{kept-alone, same-end}, Payloads.StringPayloads.denies-content}
+use Rattle.ciborium.specs.inner.{ByteSources.{IsUnread, end_at, reader_of, fault_at}, FrontItems.{Denies, Reads}}
 use Rattle.ciborium.specs.inner.Skips.{TakesBare}
-use Rattle.ciborium.proofs.{Containers.EnteredContainers.{deeper-is, same-unread}, Containers.ByteItems.head-refuses}
-use Rattle.ciborium.proofs.Containers.ByteItems.{nested-refuses, other-refuses, refuses-denied}
-use Rattle.ciborium.proofs.{Containers.DueLevels.{completes-begun, holds-begun}, Containers.NamedVariants.key-denied}
-use Rattle.ciborium.proofs.Containers.NamedVariants.{map-no-text, map-not-one, null-unread, pair-nests, pair-begun}
-use Rattle.ciborium.proofs.Containers.NamedVariants.{text-nests, text-begun, variant-other}
-use Rattle.ciborium.proofs.{Items.SkippedTags.denies-of-item, Payloads.StringPayloads.denies-content}
-use Rattle.ciborium.proofs.Items.TakenOnly.{kept-alone, same-end}
 use Rattle.ciborium_ll.specs.declared.header.Header.TheVariants as header
 use Rattle.ciborium.proofs.de.byte_source.source.ByteSourceSource.begin_variant.Goals as goal
 

@@ -1,11 +1,10 @@
 use Rattle.std.proofs.{Common.{◌≡◌, ◌∙◌, Some, ap, arith, false, subst, sym, true}, lemmas.Result.err_from_is_err_and}
 use Rattle.std.specs.Int.{complement_if}
 use Rattle.ciborium_ll.specs.{Header.SpellsHeader, Item.{negative, unsigned}}
-use Rattle.ciborium_value.specs.{Labels.{numbered, placed}, Given.gives}
-use Rattle.ciborium.specs.{inner.ByteSources.{IsUnread, end_at, fault_at}, inner.FrontItems.{Denies, Reads}}
-use Rattle.ciborium.proofs.{Containers.ByteItems.{takes-denied, takes-given}, Containers.Labels.{key-of-kind, key-text}}
-use Rattle.ciborium.proofs.Containers.Labels.{key-whole, no-key, no-key-of-kind, no-key-text}
-use Rattle.ciborium.proofs.Items.Weights.{taken-fewer}
+use Rattle.ciborium_value.specs.{Given.gives, Labels.{numbered, placed}}
+use Rattle.ciborium.proofs.Containers.{ByteItems.{takes-denied, takes-given}, Labels.{key-of-kind, key-text, key-whole}}
+use Rattle.ciborium.proofs.{Containers.Labels.{no-key, no-key-of-kind, no-key-text}, Items.Weights.taken-fewer}
+use Rattle.ciborium.specs.inner.{ByteSources.{IsUnread, end_at, fault_at}, FrontItems.{Denies, Reads}}
 use Rattle.ciborium.proofs.de.byte_source.source.ByteSourceSource.label.Goals as goal
 
 pub returns-in_err-header : goal.returns-in_err-header

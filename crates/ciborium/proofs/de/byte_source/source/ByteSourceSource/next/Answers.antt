@@ -1,11 +1,10 @@
 use Rattle.std.proofs.Common.{rules, length, Some, arith, ◌++◌, ◌-◌, ◌≡◌, ◌∷◌, refl, sym, ap, ◌∙◌, subst}
-use Rattle.std.proofs.{lemmas.List.nil_from_length, lemmas.Result.err_from_is_err_and}
-use Rattle.std.specs.Vec.Iter.{into_iter_items}
+use Rattle.std.{proofs.lemmas.{List.nil_from_length, Result.err_from_is_err_and}, specs.Vec.Iter.into_iter_items}
 use Rattle.ciborium_ll.specs.Header.{SpellsHeader}
-use Rattle.ciborium.specs.{inner.ByteSources.{IsUnread, IsUnreadBy, fault_at}, inner.FrontItems.TakesHead}
 use Rattle.ciborium.proofs.Containers.NextParts.{aside-unread, goes-bytes, goes-counted, goes-open, leaves-counted}
 use Rattle.ciborium.proofs.Containers.NextParts.{leaves-open, less-bytes, less-counted, less-open, is-none, no-next}
 use Rattle.ciborium.proofs.Containers.NextParts.{nothing-allowed, nothing-open, wide, wide-head, leaves-bytes}
+use Rattle.ciborium.specs.inner.{ByteSources.{IsUnread, IsUnreadBy, fault_at}, FrontItems.TakesHead}
 use Rattle.ciborium_ll.specs.declared.header.Header.TheVariants as header
 use Rattle.ciborium.specs.declared.de.byte_source.Left.TheVariants as left
 use Rattle.ciborium.proofs.de.byte_source.source.ByteSourceSource.next.Goals as goal

@@ -1,9 +1,8 @@
 use Rattle.std.proofs.{Common.{◌≡◌, ◌∙◌, ◌++◌, Some, arith}, lemmas.Result.err_from_is_err_and}
 use Rattle.ciborium_ll.specs.Header.{SpellsHeader}
 use Rattle.ciborium_value.specs.Given.{is_null}
-use Rattle.ciborium.specs.inner.ByteSources.{IsUnread, IsUnreadBy, fault_at}
-use Rattle.ciborium.proofs.{Containers.NextParts.aside-unread, Containers.NullAhead.{null-head, refuses-to-tell}}
-use Rattle.ciborium.proofs.Containers.NullAhead.{takes-nothing, tells}
+use Rattle.ciborium.proofs.Containers.{NextParts.aside-unread, NullAhead.{null-head, refuses-to-tell, takes-nothing}}
+use Rattle.ciborium.{proofs.Containers.NullAhead.tells, specs.inner.ByteSources.{IsUnread, IsUnreadBy, fault_at}}
 use Rattle.ciborium.proofs.de.byte_source.source.ByteSourceSource.null_ahead.Goals as goal
 
 pub returns-in_err-header-clause-refused : goal.returns-in_err-header-clause-refused

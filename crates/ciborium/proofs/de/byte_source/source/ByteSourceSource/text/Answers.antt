@@ -1,10 +1,9 @@
 use Rattle.std.proofs.{Common.{Some, ap, string_bytes}, lemmas.Result.err_from_is_err_and}
 use Rattle.ciborium_ll.specs.StringRefusal.{of_text}
 use Rattle.ciborium_value.specs.Given.{bare_text, given_text, settled}
-use Rattle.ciborium.specs.inner.StringContents.{string_item}
 use Rattle.ciborium.proofs.Containers.ByteItems.{bare-refused, behind-refused, head-refused, other-refuses}
 use Rattle.ciborium.proofs.{Containers.ByteItems.{string-given, string-refuses}, Items.SkippedTags.untagged-under}
-use Rattle.ciborium.proofs.Payloads.StringPayloads.{text-other}
+use Rattle.ciborium.{proofs.Payloads.StringPayloads.text-other, specs.inner.StringContents.string_item}
 use Rattle.ciborium.proofs.de.byte_source.source.ByteSourceSource.text.Goals as goal
 
 pub returns-in_err-header : goal.returns-in_err-header

@@ -1,13 +1,11 @@
 use Rattle.std.proofs.Common.{rules, ◌+◌, ◌≤◌, length, None, Some, Ok, Err, refl, sym, ◌∙◌, subst}
 use Rattle.std.proofs.lemmas.Result.{err_from_is_err_and}
-use Rattle.ciborium_ll.specs.Decoding.{next_offset, left_of}
-use Rattle.ciborium_value.specs.{View.tree_of, Sources.IsFaultOf, Given.{given_value, outcome}}
-use Rattle.ciborium.specs.inner.ByteSources.{IsUnreadBy}
-use Rattle.ciborium_ll.proofs.Decoders.{unread-count, unread-left}
+use Rattle.ciborium_ll.{proofs.Decoders.{unread-count, unread-left}, specs.Decoding.{next_offset, left_of}}
+use Rattle.ciborium_value.specs.{Given.{given_value, outcome}, Sources.IsFaultOf, View.tree_of}
 use Rattle.ciborium.proofs.Containers.ByteItems.{refuses-denied, takes-denied, takes-given}
-use Rattle.ciborium.proofs.{Items.TakenOnly.{takes-none, takes-only}, Items.FrontReads.failed-fault}
-use Rattle.ciborium.proofs.Items.WholeValues.{ahead-by, known-read, portable-ahead, portable-reads, pushed-ahead}
-use Rattle.ciborium.proofs.Items.WholeValues.{whole-faults, whole-reads, whole-end}
+use Rattle.ciborium.proofs.Items.{FrontReads.failed-fault, TakenOnly.{takes-none, takes-only}, WholeValues.ahead-by}
+use Rattle.ciborium.proofs.Items.WholeValues.{known-read, portable-ahead, portable-reads, pushed-ahead, whole-faults}
+use Rattle.ciborium.{proofs.Items.WholeValues.{whole-reads, whole-end}, specs.inner.ByteSources.IsUnreadBy}
 use Rattle.ciborium.proofs.de.byte_source.source.ByteSourceSource.value.Goals as goal
 
 pub returns-in-Some-portable_value-clause-takes : goal.returns-in-Some-portable_value-clause-takes
