@@ -1,8 +1,9 @@
 -- Letters, which are written as the names of their variants, are read back.
+use Rattle.std.proofs.Common.{lit<}
 use Rattle.std.specs.Prelude.{◌<◌, ◌^◌, List, [], ◌∷◌, Ok, codes, pos, refl}
 use Rattle.ciborium.specs.{Labels.fields_of, OwnTypes.label, Readings.below, ReadsBack.{IsReadBack, Way}, Sinks.Named}
 use Rattle.ciborium.specs.{Sinks.{named_text, number_item}, VariantReadings.{Variant, data_variant, given_enum}}
-use Rattle.ciborium.specs.{VariantReadings.unit_variant, lemmas.ReadsBackNumbers.u8_back}
+use Rattle.ciborium.specs.{VariantReadings.unit_variant, lemmas.ReadsBackNumbers.unsigned-back}
 use Rattle.ciborium.specs.lemmas.ReadsBackVariants.{data_variant_back, unit_variant_back}
 use Rattle.ciborium_callers.specs.declared.variant_types.Letter.{Letter, TheVariants.{A, B}}
 
@@ -22,4 +23,5 @@ IsLetterValid (B n) = n < 2 ^ 8
 
 pub letter_back : (way : Way) → IsReadBack way IsLetterValid letter_named (given_enum letters) (λ l. l) (λ l. 1)
 letter_back way A valid = unit_variant_back letters (codes "A") (λ l. refl)
-letter_back way (B n) valid = data_variant_back letters (codes "B") B (below 256) (λ l i. refl) (u8_back way n valid)
+letter_back way (B n) valid = data_variant_back letters (codes "B") B (below 256) (λ l i. refl)
+    (unsigned-back 8 (lit< tt) way n valid)
