@@ -1,6 +1,6 @@
 use Rattle.std.proofs.Common.{sym, ◌∙◌}
 use Rattle.ciborium.specs.{Derived.value_cmp, Order.tree_cmp, View.tree_of}
-use Rattle.ciborium_value.specs.{lemmas.DerivedOrder.value_cmp-is, lemmas.ReadsBackMaps.one-has}
+use Rattle.ciborium_value.specs.{lemmas.DerivedOrder.value_cmp-is, lemmas.PutEntries.one-has}
 use Rattle.ciborium_uses.proofs.envelopes.labels.has_label.Goals as goal
 
 pub returns : goal.returns
