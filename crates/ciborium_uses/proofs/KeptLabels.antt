@@ -76,7 +76,8 @@ empty-by t (p ∷ ps) b is h = rw is (h ∙ grind (arith, nat_tests))
 
 pub read-back : (bs : List ℕ) (t : Tree) → folded t ≡ Some t → nesting (item_of t) ≤ 256 → Spells bs (item_of t) →
     IsAllOf bs t
-read-back bs t folds nests s = (item_of t, s, (value-back {way = by_bytes} t refl folds).back _ refl _ refl (Some 256) nests)
+read-back bs t folds nests s =
+    (item_of t, s, (value-back {way = by_bytes} t refl folds).back _ refl _ refl (Some 256) nests)
 
 pub spelled : (bs : List ℕ) (i : Item) → IsWrittenAs bs (Ok i) → Spells bs i
 spelled bs i h = subst (λ c. Spells c i) (sym h.0) (written_spells_item i h.1)
