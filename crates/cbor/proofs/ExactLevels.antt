@@ -2,7 +2,7 @@
 use Rattle.std.proofs.Common.{◌≡◌, ◌≢◌, ℕ, suc, ◌+◌, ◌-◌, ◌/◌, ◌%◌, ◌<◌, ◌==◌, Bool, true, false, List, [], ◌∷◌, Option}
 use Rattle.std.proofs.Common.{Some, None, option_map, if◌then◌else◌, refl, sym, ap, ◌∙◌, subst, arith, inl, inr}
 use Rattle.std.proofs.lemmas.Bool.Decides.{eqb_tells}
-use Rattle.ciborium_ll.specs.{ItemHeads.{HasRead, IsHeadRead, open_in}, Levels.{behind_break, behind_bytes}}
+use Rattle.ciborium_ll.specs.{ItemHeads.{HasRead, IsHeadRead, unfinished_in}, Levels.{behind_break, behind_bytes}}
 use Rattle.ciborium_ll.specs.{Levels.{behind_head, behind_item, behind_text, incomplete}, declared.header.Header.Header}
 use Rattle.ciborium_ll.specs.declared.{item_heads.{ItemHead.ItemHead, ItemHeads.ItemHeads}, levels.Level.Level}
 use Rattle.cbor.specs.Exact.{IsBegun, behind_begun, chunk_level, kind_of, open_level, string_header}
@@ -22,38 +22,38 @@ as-text levels around e = refl
 some-is : {A : Type 0} (o : Option A) (x y : A) → o ≡ Some x → o ≡ Some y → y ≡ x
 some-is o x y e f = cc (e, f)
 
-opens : (l : Level) (levels around more : List Level) → behind_item levels ≡ Some around →
+enters : (l : Level) (levels around more : List Level) → behind_item levels ≡ Some around →
     option_map (λ rest. l ∷ rest) (behind_item levels) ≡ Some more → more ≡ l ∷ around
-opens l levels around more e f = some-is _ (l ∷ around) more (ap (option_map (λ rest. l ∷ rest)) e) f
+enters l levels around more e f = some-is _ (l ∷ around) more (ap (option_map (λ rest. l ∷ rest)) e) f
 
 begun : (h : Header) (levels around more : List Level) → h ≢ header.Break → behind_item levels ≡ Some around →
     behind_head h levels ≡ Some more → more ≡ behind_begun h around
 begun (header.Positive n) levels around more other e f = some-is _ around more e f
 begun (header.Negative n) levels around more other e f = some-is _ around more e f
 begun (header.Bytes (Some n)) levels around more other e f = some-is _ around more (as-bytes levels around e ∙ e) f
-begun (header.Bytes None) levels around more other e f = opens level.ByteChunks levels around more e f
+begun (header.Bytes None) levels around more other e f = enters level.ByteChunks levels around more e f
 begun (header.Text (Some n)) levels around more other e f = some-is _ around more (as-text levels around e ∙ e) f
-begun (header.Text None) levels around more other e f = opens level.TextChunks levels around more e f
-begun (header.Array (Some n)) levels around more other e f = opens (level.Items n) levels around more e f
-begun (header.Array None) levels around more other e f = opens level.OpenItems levels around more e f
-begun (header.Map (Some n)) levels around more other e f = opens (level.Items (n + n)) levels around more e f
-begun (header.Map None) levels around more other e f = opens level.OpenKeys levels around more e f
-begun (header.Tag n) levels around more other e f = opens (level.Items 1) levels around more e f
+begun (header.Text None) levels around more other e f = enters level.TextChunks levels around more e f
+begun (header.Array (Some n)) levels around more other e f = enters (level.Items n) levels around more e f
+begun (header.Array None) levels around more other e f = enters level.OpenItems levels around more e f
+begun (header.Map (Some n)) levels around more other e f = enters (level.Items (n + n)) levels around more e f
+begun (header.Map None) levels around more other e f = enters level.OpenKeys levels around more e f
+begun (header.Tag n) levels around more other e f = enters (level.Items 1) levels around more e f
 begun (header.Simple n) levels around more other e f = some-is _ around more e f
 begun (header.Float size) levels around more other e f = some-is _ around more e f
 begun header.Break levels around more other e f = absurd (other refl)
 
 -- a head that is no break was read where an item is due
-pub head-begun : (old new : ItemHeads) (head : ItemHead) (levels around : List Level) → open_in old ≡ levels →
+pub head-begun : (old new : ItemHeads) (head : ItemHead) (levels around : List Level) → unfinished_in old ≡ levels →
     behind_item levels ≡ Some around → head.header ≢ header.Break → HasRead new × IsHeadRead old new head →
     IsBegun head.header new around
 head-begun old new head levels around e due other (read, is) =
     let (more, f, g) = is.levels in
-    g ∙ ap incomplete (begun head.header (open_in old) around more other (ap behind_item e ∙ due) f)
+    g ∙ ap incomplete (begun head.header (unfinished_in old) around more other (ap behind_item e ∙ due) f)
 
 -- no break was read in a level of so many items
 pub no-break : (old new : ItemHeads) (head : ItemHead) (n : ℕ) (around : List Level) →
-    open_in old ≡ level.Items n ∷ around → HasRead new × IsHeadRead old new head → head.header ≢ header.Break
+    unfinished_in old ≡ level.Items n ∷ around → HasRead new × IsHeadRead old new head → head.header ≢ header.Break
 no-break old new head n around e (read, is) f =
     let (more, g, h) = is.levels in let never : behind_head header.Break (level.Items n ∷ around) ≡ Some more =
     subst (λ x. behind_head x (level.Items n ∷ around) ≡ Some more) f
@@ -70,10 +70,10 @@ no-item-due : (is_text : Bool) (around : List Level) → behind_item (chunk_leve
 no-item-due true around = refl
 no-item-due false around = refl
 
-none-opens : (l : Level) (o : Option (List Level)) (more : List Level) → o ≡ None →
+none-enters : (l : Level) (o : Option (List Level)) (more : List Level) → o ≡ None →
     option_map (λ rest. l ∷ rest) o ≡ Some more → ⊥
-none-opens l None more e f = cc f
-none-opens l (Some x) more e f = cc e
+none-enters l None more e f = cc f
+none-enters l (Some x) more e f = cc e
 
 -- what is no break there is a part of the string
 chunk-head : (is_text : Bool) (h : Header) (around more : List Level) → h ≢ header.Break →
@@ -84,17 +84,17 @@ chunk-head true (header.Text (Some n)) around more other e = ((n, refl), cc e)
 chunk-head true (header.Bytes (Some n)) around more other e = absurd (cc e)
 chunk-head false (header.Text (Some n)) around more other e = absurd (cc e)
 chunk-head b (header.Bytes None) around more other e =
-    absurd (none-opens level.ByteChunks _ more (no-item-due b around) e)
+    absurd (none-enters level.ByteChunks _ more (no-item-due b around) e)
 chunk-head b (header.Text None) around more other e =
-    absurd (none-opens level.TextChunks _ more (no-item-due b around) e)
+    absurd (none-enters level.TextChunks _ more (no-item-due b around) e)
 chunk-head b (header.Array (Some n)) around more other e =
-    absurd (none-opens (level.Items n) _ more (no-item-due b around) e)
+    absurd (none-enters (level.Items n) _ more (no-item-due b around) e)
 chunk-head b (header.Array None) around more other e =
-    absurd (none-opens level.OpenItems _ more (no-item-due b around) e)
+    absurd (none-enters level.OpenItems _ more (no-item-due b around) e)
 chunk-head b (header.Map (Some n)) around more other e =
-    absurd (none-opens (level.Items (n + n)) _ more (no-item-due b around) e)
-chunk-head b (header.Map None) around more other e = absurd (none-opens level.OpenKeys _ more (no-item-due b around) e)
-chunk-head b (header.Tag n) around more other e = absurd (none-opens (level.Items 1) _ more (no-item-due b around) e)
+    absurd (none-enters (level.Items (n + n)) _ more (no-item-due b around) e)
+chunk-head b (header.Map None) around more other e = absurd (none-enters level.OpenKeys _ more (no-item-due b around) e)
+chunk-head b (header.Tag n) around more other e = absurd (none-enters (level.Items 1) _ more (no-item-due b around) e)
 chunk-head b (header.Positive n) around more other e = absurd (cc (e, no-item-due b around))
 chunk-head b (header.Negative n) around more other e = absurd (cc (e, no-item-due b around))
 chunk-head b (header.Simple n) around more other e = absurd (cc (e, no-item-due b around))
@@ -102,8 +102,8 @@ chunk-head b (header.Float size) around more other e = absurd (cc (e, no-item-du
 chunk-head b header.Break around more other e = absurd (other refl)
 
 pub chunk-read : (is_text : Bool) (old new : ItemHeads) (head : ItemHead) (around : List Level) →
-    open_in old ≡ chunk_level is_text ∷ around → head.header ≢ header.Break → HasRead new × IsHeadRead old new head →
-    ((n : ℕ) × (head.header ≡ string_header (kind_of is_text) n)) × (open_in new ≡ chunk_level is_text ∷ around)
+    unfinished_in old ≡ chunk_level is_text ∷ around → head.header ≢ header.Break → HasRead new × IsHeadRead old new head →
+    ((n : ℕ) × (head.header ≡ string_header (kind_of is_text) n)) × (unfinished_in new ≡ chunk_level is_text ∷ around)
 chunk-read is_text old new head around e other (read, is) =
     let (more, f, g) = is.levels in
     let (kind, same) = chunk-head is_text head.header around more other
@@ -148,8 +148,8 @@ parts-end true n around more e = elim (eqb_tells (n % 2) 1) [
 ]
 
 pub parts-break : (is_map : Bool) (n : ℕ) (old new : ItemHeads) (head : ItemHead) (around : List Level) →
-    open_in old ≡ open_level is_map n ∷ around → head.header ≡ header.Break → HasRead new × IsHeadRead old new head →
-    (open_in new ≡ incomplete around) × (k : ℕ) × (n ≡ (if is_map then k + k else k))
+    unfinished_in old ≡ open_level is_map n ∷ around → head.header ≡ header.Break → HasRead new × IsHeadRead old new head →
+    (unfinished_in new ≡ incomplete around) × (k : ℕ) × (n ≡ (if is_map then k + k else k))
 parts-break is_map n old new head around e f (read, is) =
     let (more, g, h) = is.levels in
     let (same, k, count) = parts-end is_map n around more
@@ -160,8 +160,8 @@ parts-break is_map n old new head around e f (read, is) =
 -- ---- items that are counted
 
 pub parts-due : (heads : ItemHeads) (count place : ℕ) (around : List Level) → place < count →
-    open_in heads ≡ incomplete (level.Items (count - place) ∷ around) →
-    open_in heads ≡ level.Items (suc (count - (place + 1))) ∷ around
+    unfinished_in heads ≡ incomplete (level.Items (count - place) ∷ around) →
+    unfinished_in heads ≡ level.Items (suc (count - (place + 1))) ∷ around
 parts-due heads count place around less e =
     let one : count - place ≡ suc (count - (place + 1)) = omega (arith, less) in
-    subst (λ n. open_in heads ≡ incomplete (level.Items n ∷ around)) one e
+    subst (λ n. unfinished_in heads ≡ incomplete (level.Items n ∷ around)) one e

@@ -5,7 +5,7 @@ use Rattle.std.proofs.Common.{decimal, OnOk, Result, Ok, Err, is_ok, ◌<◌, �
 use Rattle.std.proofs.lemmas.{Bool.{eqb-true, Decides.eqb_tells}, List.append_cancel_right}
 use Rattle.hex.specs.Hex.{encode_lower}
 use Rattle.ciborium_ll.specs.{Head.{IsFloat, IsHead, break_byte, open_byte}, Header.{IsFloatOf, SpellsHeader}}
-use Rattle.ciborium_ll.specs.{ItemHeads.{HasRead, IsHeadRead, open_in, unread, was_read}, Levels.{AreItem, EndAll}}
+use Rattle.ciborium_ll.specs.{ItemHeads.{HasRead, IsHeadRead, unfinished_in, unread, was_read}, Levels.{AreItem, EndAll}}
 use Rattle.ciborium_ll.specs.{Levels.IsPayloadOf, StringRefusal.{IsAllowed, StringKind, of_bytes, of_text}}
 use Rattle.ciborium_ll.specs.{StringRefusal.string_major, declared.item_heads.{ItemHead.ItemHead, ItemHeads.ItemHeads}}
 use Rattle.cbor.{proofs.DumpedHeads.less-unread, specs.Exact.{AreChunksExactly, AreExactly, AreOpenChunks}}
@@ -217,9 +217,9 @@ less-left a b c r head before is =
 
 -- ---- answers
 
--- where no level is open, what was read is one item
+-- where no level is unfinished, what was read is one item
 pub front-pushed : (old new : ItemHeads) (b text longer : List ℕ) (n : ℕ) → old.bytes.now ≡ b → old.offset ≡ 0 →
-    open_in new ≡ [] → n ≡ length (unread new) → IsPushed IsExactly old new text longer → IsFrontPushed b n text longer
+    unfinished_in new ≡ [] → n ≡ length (unread new) → IsPushed IsExactly old new text longer → IsFrontPushed b n text longer
 front-pushed old new b text longer n whole at none count (s, t, passed, shows, e) =
     (s, unread new, t, item, front, count, shows, e)
   where

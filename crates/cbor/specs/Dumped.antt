@@ -15,7 +15,7 @@ use Rattle.ciborium_ll.specs.declared.header.Header.TheVariants as header
 
 -- ---- the heads of an item (RFC 8949, section 3)
 
--- a head where it stands: its offset from the front of the item, the number of levels that are open
+-- a head where it stands: its offset from the front of the item, the number of levels that are unfinished
 -- around it, what it says, its bytes, and the payload of a definite string
 pub record Entry : Type 0 where
   pub offset : ℕ
@@ -28,7 +28,7 @@ pub record Entry : Type 0 where
 abbrev pub entry_bytes : Entry → List ℕ
 entry_bytes e = e.head ++ e.payload
 
--- where these levels are open, the innermost first, this head may stand at offset p; then more are
+-- where these levels are unfinished, the innermost first, this head may stand at offset p; then more are
 -- open (sections 3.1 to 3.3, and appendix C)
 pub record IsEntryAt (levels : List Level) (p : ℕ) (e : Entry) (more : List Level) : Type 0 where
   pub offset : e.offset ≡ p
@@ -37,14 +37,14 @@ pub record IsEntryAt (levels : List Level) (p : ℕ) (e : Entry) (more : List Le
   pub payload : IsPayloadOf e.header e.payload
   pub placed : (behind : List Level) × (behind_head e.header levels ≡ Some behind) × (more ≡ incomplete behind)
 
--- b begins with these heads, the first at offset p where these levels are open; behind the last
--- others are open, and rest is left
+-- b begins with these heads, the first at offset p where these levels are unfinished; behind the last
+-- others are unfinished, and rest is left
 abbrev pub AreHeadsAt : List Level → ℕ → List ℕ → List Entry → List Level → List ℕ → Type 0
 AreHeadsAt levels p b [] open_ rest = (open_ ≡ levels) × (b ≡ rest)
 AreHeadsAt levels p b (e ∷ es) open_ rest = (more : List Level) × (left : List ℕ) × IsEntryAt levels p e more ×
     (b ≡ entry_bytes e ++ left) × AreHeadsAt more (p + length (entry_bytes e)) left es open_ rest
 
--- b begins with these heads of one item; behind the last these levels are open, and rest is left
+-- b begins with these heads of one item; behind the last these levels are unfinished, and rest is left
 abbrev pub AreHeads : List ℕ → List Entry → List Level → List ℕ → Type 0
 AreHeads b es open_ rest = AreHeadsAt (Items 1 ∷ []) 0 b es open_ rest
 

@@ -47,9 +47,10 @@ topic_text Help =
     codes "even with zeros at its front.\n" ++
     codes "Without a file, and for the file -, the standard input is read; " ++
     codes "./300 is the file named 300.\n" ++
-    codes "At most 256 levels are nested, or as many as the limit says. Status " ++
-    codes "1: something was refused;\n" ++
-    codes "2: wrong words; 3: a file, the input or the output failed " ++
+    codes "At most 256 levels are nested, or as many as the limit says, which is " ++
+    codes "at most 10000.\n" ++
+    codes "Status 1: something was refused; 2: wrong words; 3: a file, the input " ++
+    codes "or the output failed\n" ++
     codes "(1 for read, seq, sort of lines).\n"
 topic_text Version = codes "cbor 0.4.0\n"
 

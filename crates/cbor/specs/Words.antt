@@ -1,5 +1,5 @@
 -- Which words the program is run with, and what they ask for.
-use Rattle.std.specs.{Char.is_ascii_digit, List.list_all, Prelude.{◌≡◌, ◌⊎◌, ℕ, ◌^◌, ◌<◌, List, [], ◌∷◌, Option, Some}}
+use Rattle.std.specs.{Char.is_ascii_digit, List.list_all, Prelude.{◌≡◌, ◌⊎◌, ℕ, ◌≤◌, List, [], ◌∷◌, Option, Some}}
 use Rattle.std.specs.Prelude.{None, MatchOption, Bool, true, false, IsTrue, zero, suc, ◌-◌, ◌==◌, ◌&&◌, codes, get_or}
 use Rattle.std.specs.{Prelude.{if◌then◌else◌, length, nat_le, take}, Str.Parse.{IsNumeral, digits_value}}
 use Rattle.ciborium_value.specs.declared.key_order.KeyOrder.{KeyOrder, TheVariants.{LengthFirst, Bytewise}}
@@ -10,9 +10,9 @@ use Rattle.cbor.specs.declared.reading.Spelling.TheVariants.{Any, Deterministic}
 use Rattle.cbor.specs.declared.reading.Reading.TheVariants as readings
 use Rattle.cbor.specs.declared.reading.Showing.TheVariants as showings
 
--- one digit or more, and their number fits a `usize`
+-- one digit or more, and their number is at most 10,000: so many levels fit the stack
 abbrev pub IsLimit : List ℕ → Type 0
-IsLimit text = IsNumeral 10 text × (digits_value 10 text < 2 ^ 64)
+IsLimit text = IsNumeral 10 text × (digits_value 10 text ≤ 10000)
 
 -- the words name this limit: 256 where there are none, or their only one
 abbrev pub NameLimit : List (List ℕ) → ℕ → Type 0

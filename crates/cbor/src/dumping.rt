@@ -21,9 +21,9 @@ use std::io::Write;
 /// Makes `text` the dump of these bytes, and says whether they are one item.
 ///
 /// Each head of the item has a line, in their order: its offset in decimal, a colon and a space,
-/// two spaces for each level that is open around it, its bytes and right behind them its payload's
-/// in lower-case hex, two spaces, and what it says; a text stands behind it in quotation marks, as
-/// in diagnostic notation. Where the bytes are no item, the lines are those of the heads before the
+/// two spaces for each level around it, its bytes and right behind them its payload's in lower-case
+/// hex, two spaces, and what it says; a text stands behind it in quotation marks, as in diagnostic
+/// notation. Where the bytes are no item, the lines are those of the heads before the
 /// place where that shows, and behind them stands why: `trailing` and the number of bytes that
 /// follow an item, `incomplete`, `malformed at` or `too deep at` and an offset.
 ///

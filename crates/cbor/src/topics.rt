@@ -32,8 +32,9 @@ or from files of bytes
 --det takes deterministic encodings alone, whose keys are length-first or, with --core, bytewise.
 A bignum of more than 16 bytes is taken and written as it stands, even with zeros at its front.
 Without a file, and for the file -, the standard input is read; ./300 is the file named 300.
-At most 256 levels are nested, or as many as the limit says. Status 1: something was refused;
-2: wrong words; 3: a file, the input or the output failed (1 for read, seq, sort of lines).
+At most 256 levels are nested, or as many as the limit says, which is at most 10000.
+Status 1: something was refused; 2: wrong words; 3: a file, the input or the output failed
+(1 for read, seq, sort of lines).
 ";
 
 /// The version.

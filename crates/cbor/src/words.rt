@@ -20,6 +20,10 @@ use ciborium_value::KeyOrder::{Bytewise, LengthFirst};
 // How many flags a command has at most.
 const MOST_FLAGS: usize = 3;
 
+// The greatest limit that a word names. Writing, showing and dropping a value take stack for each of
+// its levels, and so many fit the 8 MiB that a process has by default.
+const MOST_LEVELS: usize = 10_000;
+
 /// What all of the words ask for, or `None` where they ask for nothing.
 pub fn judge_words(words: &[String]) -> Option<Command>
     ensures { MatchOption result (AskForNothing (map string_bytes words.now))
@@ -254,12 +258,15 @@ fn judge_limit(words: &[String]) -> Option<usize>
     }
 }
 
-// The number of one digit or more, if it is a `usize`. No sign stands before it.
+// The number of one digit or more, where it is at most `MOST_LEVELS`. No sign stands before it.
 fn parse_limit(text: &str) -> Option<usize>
     ensures { SomeIff result (IsLimit text.now) (digits_value 10 text.now) }
 {
     if text.starts_with('+') {
         return None;
     }
-    text.parse().ok()
+    match text.parse() {
+        Ok(limit) if limit <= MOST_LEVELS => Some(limit),
+        _ => None,
+    }
 }

@@ -4,7 +4,7 @@ use Rattle.std.proofs.Common.{append_assoc, arith, ap, length-append, sym, subst
 use Rattle.std.proofs.{Math.Seq.take-append-add, lemmas.List.{length-take, nil_from_length}}
 use Rattle.std.specs.{Io.KnownBytes.Consumes, Prelude.IsUtf8}
 use Rattle.ciborium_ll.{proofs.LevelMisfits.ill-more, specs.{ItemBytes.{HasEnded, IsCopyOf}, ItemLengths.BeginText}}
-use Rattle.ciborium_ll.specs.ItemLengths.{IsNoItem, Misfits, StandsOpen, ill_formed, misplaced, no_chunk, no_text}
+use Rattle.ciborium_ll.specs.ItemLengths.{IsNoItem, Misfits, StandsInside, ill_formed, misplaced, no_chunk, no_text}
 use Rattle.ciborium_ll.specs.declared.{item_bytes.NotCopied.NotCopied, item_heads.NoItem.TheVariants.Malformed}
 use Rattle.ciborium_ll.specs.declared.{item_heads.NoItem.TheVariants.TooDeep, levels.Level.Level}
 
@@ -62,8 +62,8 @@ more-misfits levels b t (no_text n h r spelled is none) =
         ap (λ (x : List ℕ). x ++ u) (take-append-add p q k) ∙ append_assoc p (take k q) u in
         (take k q ++ u, subst (λ (x : List ℕ). length x ≡ n) same size, subst IsUtf8 same utf8)
 
-stands-more : (b t : List ℕ) (p : ℕ) (levels : List Level) (r : List ℕ) → StandsOpen b p levels r →
-    StandsOpen (b ++ t) p levels (r ++ t)
+stands-more : (b t : List ℕ) (p : ℕ) (levels : List Level) (r : List ℕ) → StandsInside b p levels r →
+    StandsInside (b ++ t) p levels (r ++ t)
 stands-more b t p levels r stands = record {
   before = stands.before;
   whole = ap (λ (x : List ℕ). x ++ t) stands.whole ∙ append_assoc stands.before r t;

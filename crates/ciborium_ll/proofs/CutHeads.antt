@@ -11,7 +11,7 @@ use Rattle.ciborium_ll.specs.{Bytes.AreBytes, Head.{IsHead, one_byte, two_bytes,
 use Rattle.ciborium_ll.specs.{Header.SpellsHeader, ItemLengths.chunk_major, Levels.{EndAll, behind_item, behind_bytes}}
 use Rattle.ciborium_ll.specs.{Levels.{behind_text, behind_head, IsPayloadOf, incomplete}, Refusal.argument_length}
 use Rattle.ciborium_ll.proofs.{BegunTexts.{zeros, length-zeros, bytes-zeros, text-zeros}, LevelEnds.can-end}
-use Rattle.ciborium_ll.proofs.{LevelFronts.{AreOpen, are-open, front-of-end, ends-behind}, UsableHeads.EachIsByte}
+use Rattle.ciborium_ll.proofs.{LevelFronts.{AreUnfinished, are-unfinished, front-of-end, ends-behind}, UsableHeads.EachIsByte}
 use Rattle.ciborium_ll.proofs.{UsableHeads.byte_at, Advancing.single, HeadAnswers.head-some}
 use Rattle.ciborium_ll.specs.declared.header.Header.TheVariants as header
 
@@ -219,7 +219,7 @@ payload-ends (header.Bytes (Some n)) q h =
 payload-ends (header.Text (Some n)) q (lt, (t, len, u)) = (t, omega (arith, length-append q t), (len, u))
 payload-ends _ q h = absurd h
 
--- ---- a head that may stand where something is open
+-- ---- a head that may stand where something is unfinished
 
 -- the head may stand there
 abbrev Stands : Header → List Level → Type 0
@@ -276,7 +276,7 @@ as-text m (header.Simple n) levels e is = absurd (omega arith)
 as-text m (header.Float size) levels e is = absurd (omega arith)
 as-text m header.Break levels e is = absurd is
 
-stands : (m : ℕ) (head : Header) (levels : List Level) → AreOpen levels → IsMajorOf m head →
+stands : (m : ℕ) (head : Header) (levels : List Level) → AreUnfinished levels → IsMajorOf m head →
     ((major : ℕ) → chunk_major levels ≡ Some major → m ≡ major) → Stands head levels
 stands m head (Items (suc n) ∷ levels) still is part =
     as-item m head (Items (suc n) ∷ levels) (Items n ∷ levels) is refl refl refl
@@ -293,7 +293,7 @@ stands m head u still is part = absurd still
 -- ---- what ends a level that is not complete
 
 -- it is not nothing
-end-some : (levels : List Level) (b : List ℕ) → AreOpen levels → EndAll levels b → 0 < length b
+end-some : (levels : List Level) (b : List ℕ) → AreUnfinished levels → EndAll levels b → 0 < length b
 end-some levels b still ends =
     let f = front-of-end levels b still ends in
     omega (
@@ -345,8 +345,8 @@ pub cut-head : (levels : List Level) (r : List ℕ) → (levels ≡ [] → ⊥) 
     (t : List ℕ) × (0 < length t) × EndAll levels (r ++ t)
 cut-head levels r some normal ends bytes part = by r ends bytes part
   where
-    still : AreOpen levels
-    still = are-open levels normal some
+    still : AreUnfinished levels
+    still = are-unfinished levels normal some
 
     by : (c : List ℕ) → IsCut c →
         AreBytes c → ((x major : ℕ) (s : List ℕ) → c ≡ x ∷ s → chunk_major levels ≡ Some major → x / 32 ≡ major) →

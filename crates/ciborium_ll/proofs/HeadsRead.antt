@@ -3,12 +3,12 @@ use Rattle.std.proofs.Common.{◌≡◌, ℕ, ◌+◌, ◌-◌, ◌<◌, ◌≤�
 use Rattle.std.proofs.Common.{Bool, true, false, IsTrue, refl, sym, ap, subst, eqb, ◌∙◌, ◌%◌, inl, inr, arith}
 use Rattle.std.proofs.{Common.{append_assoc, drop-drop, take-append-drop, length-take-le}, Math.Seq.take-add}
 use Rattle.std.proofs.lemmas.{Bool.eqb-false, List.{length-drop, take_rest}}
-use Rattle.ciborium_ll.proofs.{CutHeads.{cut-head, cut-string, long-no-break}, LevelEnds.{incomplete-again, open-end}}
-use Rattle.ciborium_ll.proofs.{LevelEnds.{open-incomplete, open-start}, LevelFronts.open-behind, LevelMisfits.no-item}
+use Rattle.ciborium_ll.proofs.{CutHeads.{cut-head, cut-string, long-no-break}, LevelEnds.{incomplete-again, unfinished-end}}
+use Rattle.ciborium_ll.proofs.{LevelEnds.{unfinished-incomplete, unfinished-start}, LevelFronts.unfinished-behind, LevelMisfits.no-item}
 use Rattle.ciborium_ll.{proofs.UniqueSpelling.none_begins_another, specs.{Bytes.AreBytes, Head.break_byte}}
-use Rattle.ciborium_ll.specs.{Header.SpellsHeader, ItemHeads.{HasRead, open_in, unread, was_read}}
-use Rattle.ciborium_ll.specs.ItemLengths.{BeginNoItem, BeginText, EndInside, IsNoItem, Misfits, OpensTooMany}
-use Rattle.ciborium_ll.specs.{ItemLengths.StandsOpen, Levels.{AreItem, EndAll, IsOpenBehind, IsPayloadOf, behind_head}}
+use Rattle.ciborium_ll.specs.{Header.SpellsHeader, ItemHeads.{HasRead, unfinished_in, unread, was_read}}
+use Rattle.ciborium_ll.specs.ItemLengths.{BeginNoItem, BeginText, EndInside, IsNoItem, Misfits, EntersTooMany}
+use Rattle.ciborium_ll.specs.{ItemLengths.StandsInside, Levels.{AreItem, EndAll, AreUnfinishedBehind, IsPayloadOf, behind_head}}
 use Rattle.ciborium_ll.specs.{Levels.incomplete, Refusal.argument_length, Spells.Spells, declared.header.Header.Header}
 use Rattle.ciborium_ll.specs.declared.{header.Header.TheVariants.{Bytes, Text}, item_heads.ItemHeads.ItemHeads}
 use Rattle.ciborium_ll.specs.declared.item_heads.NoItem.{NoItem, TheVariants.{Incomplete, Malformed, TooDeep}}
@@ -19,25 +19,25 @@ use Rattle.ciborium_ll.specs.declared.levels.Misfit.TheVariants as misfit
 
 -- ---- the beginning, and the end
 
-pub begun : (heads : ItemHeads) → heads.offset ≡ 0 → open_in heads ≡ Items 1 ∷ [] → HasRead heads
+pub begun : (heads : ItemHeads) → heads.offset ≡ 0 → unfinished_in heads ≡ Items 1 ∷ [] → HasRead heads
 begun heads z e =
     let nothing : was_read heads ≡ [] = ap (λ n. take n heads.bytes.now) z in
     record {
       within = omega (arith, z);
-      levels = subst (λ levels. IsOpenBehind (was_read heads) levels) (sym e)
-          (subst (λ c. IsOpenBehind c (Items 1 ∷ [])) (sym nothing) open-start);
+      levels = subst (λ levels. AreUnfinishedBehind (was_read heads) levels) (sym e)
+          (subst (λ c. AreUnfinishedBehind c (Items 1 ∷ [])) (sym nothing) unfinished-start);
       incomplete = ap incomplete e ∙ sym e;
     }
 
-pub whole-read : (heads : ItemHeads) → HasRead heads → open_in heads ≡ [] → AreItem (was_read heads)
-whole-read heads h e = open-end (was_read heads) (subst (IsOpenBehind (was_read heads)) e h.levels)
+pub whole-read : (heads : ItemHeads) → HasRead heads → unfinished_in heads ≡ [] → AreItem (was_read heads)
+whole-read heads h e = unfinished-end (was_read heads) (subst (AreUnfinishedBehind (was_read heads)) e h.levels)
 
 -- ---- no item
 
 both : (heads : ItemHeads) → was_read heads ++ unread heads ≡ heads.bytes.now
 both heads = take-append-drop heads.offset heads.bytes.now
 
-stands : (heads : ItemHeads) → HasRead heads → StandsOpen heads.bytes.now heads.offset (open_in heads) (unread heads)
+stands : (heads : ItemHeads) → HasRead heads → StandsInside heads.bytes.now heads.offset (unfinished_in heads) (unread heads)
 stands heads h = record {
   before = was_read heads;
   whole = sym (both heads);
@@ -45,19 +45,19 @@ stands heads h = record {
   inside = h.levels;
 }
 
-pub malformed : (heads : ItemHeads) → HasRead heads → ¬ (open_in heads ≡ []) → Misfits (open_in heads) (unread heads) →
+pub malformed : (heads : ItemHeads) → HasRead heads → ¬ (unfinished_in heads ≡ []) → Misfits (unfinished_in heads) (unread heads) →
     IsNoItem heads.bytes.now (Malformed heads.offset)
 malformed heads h some m = (
-  subst BeginNoItem (both heads) (no-item (was_read heads) (unread heads) (open_in heads) h.incomplete some h.levels m),
-  (open_in heads, unread heads, stands heads h, m),
+  subst BeginNoItem (both heads) (no-item (was_read heads) (unread heads) (unfinished_in heads) h.incomplete some h.levels m),
+  (unfinished_in heads, unread heads, stands heads h, m),
 )
 
-pub too-deep : (heads : ItemHeads) → HasRead heads → OpensTooMany (open_in heads) (unread heads) →
+pub too-deep : (heads : ItemHeads) → HasRead heads → EntersTooMany (unfinished_in heads) (unread heads) →
     IsNoItem heads.bytes.now (TooDeep heads.offset)
-too-deep heads h many = (open_in heads, unread heads, stands heads h, many)
+too-deep heads h many = (unfinished_in heads, unread heads, stands heads h, many)
 
 -- what can be completed behind what was read is the beginning of an item
-cut : (heads : ItemHeads) → HasRead heads → (t : List ℕ) → 0 < length t → EndAll (open_in heads) (unread heads ++ t) →
+cut : (heads : ItemHeads) → HasRead heads → (t : List ℕ) → 0 < length t → EndAll (unfinished_in heads) (unread heads ++ t) →
     IsNoItem heads.bytes.now Incomplete
 cut heads h t some e = (
   t,
@@ -66,33 +66,33 @@ cut heads h t some e = (
       (h.levels.complete (unread heads ++ t) e),
 )
 
-pub cut-inside-head : (heads : ItemHeads) → HasRead heads → ¬ (open_in heads ≡ []) → AreBytes (unread heads) →
-    IsCut (unread heads) → MayBeChunk (open_in heads) (unread heads) → IsNoItem heads.bytes.now Incomplete
+pub cut-inside-head : (heads : ItemHeads) → HasRead heads → ¬ (unfinished_in heads ≡ []) → AreBytes (unread heads) →
+    IsCut (unread heads) → MayBeChunk (unfinished_in heads) (unread heads) → IsNoItem heads.bytes.now Incomplete
 cut-inside-head heads h some bytes ends chunk =
-    let more = cut-head (open_in heads) (unread heads) some h.incomplete ends bytes chunk in
+    let more = cut-head (unfinished_in heads) (unread heads) some h.incomplete ends bytes chunk in
     cut heads h more.0 more.1 more.2
 
 pub cut-inside-payload : (heads : ItemHeads) (header : Header) (size : ℕ) (more : List Level) → HasRead heads →
-    SpellsHeader (take size (unread heads)) header → behind_head header (open_in heads) ≡ Some more →
+    SpellsHeader (take size (unread heads)) header → behind_head header (unfinished_in heads) ≡ Some more →
     IsCutPayload header (drop size (unread heads)) → IsNoItem heads.bytes.now Incomplete
 cut-inside-payload heads header size more h spelled placed part =
     let rest = unread heads in
-    let t = cut-string header (take size rest) (drop size rest) (open_in heads) more spelled placed part in
-    cut heads h t.0 t.1 (subst (λ (b : List ℕ). EndAll (open_in heads) (b ++ t.0)) (take-append-drop size rest) t.2)
+    let t = cut-string header (take size rest) (drop size rest) (unfinished_in heads) more spelled placed part in
+    cut heads h t.0 t.1 (subst (λ (b : List ℕ). EndAll (unfinished_in heads) (b ++ t.0)) (take-append-drop size rest) t.2)
 
 -- ---- a head
 
 -- it may not stand there
 pub misplaced : (heads : ItemHeads) (header : Header) (size : ℕ) → SpellsHeader (take size (unread heads)) header →
-    behind_head header (open_in heads) ≡ None → Misfits (open_in heads) (unread heads)
+    behind_head header (unfinished_in heads) ≡ None → Misfits (unfinished_in heads) (unread heads)
 misplaced heads header size spelled none = Misfits.misplaced header (take size (unread heads))
     (drop size (unread heads)) spelled (sym (take-append-drop size (unread heads))) none
 
--- it opens too many levels
-pub opens-too-many : (heads : ItemHeads) (header : Header) (size : ℕ) → SpellsHeader (take size (unread heads)) header →
-    (more : List Level) × (behind_head header (open_in heads) ≡ Some more) × (length (open_in heads) ≡ 257) ×
-    (length more ≡ 258) → OpensTooMany (open_in heads) (unread heads)
-opens-too-many heads header size spelled (more, placed, kept, one) = (
+-- it enters too many levels
+pub enters-too-many : (heads : ItemHeads) (header : Header) (size : ℕ) → SpellsHeader (take size (unread heads)) header →
+    (more : List Level) × (behind_head header (unfinished_in heads) ≡ Some more) × (length (unfinished_in heads) ≡ 257) ×
+    (length more ≡ 258) → EntersTooMany (unfinished_in heads) (unread heads)
+enters-too-many heads header size spelled (more, placed, kept, one) = (
   header,
   take size (unread heads),
   drop size (unread heads),
@@ -107,7 +107,7 @@ opens-too-many heads header size spelled (more, placed, kept, one) = (
 -- it is that of a text of which the payload is none
 pub no-text : (heads : ItemHeads) (header : Header) (size : ℕ) → SpellsHeader (take size (unread heads)) header →
     (n : ℕ) × (header ≡ Text (Some n)) × ¬ BeginText n (take n (drop size (unread heads))) →
-    Misfits (open_in heads) (unread heads)
+    Misfits (unfinished_in heads) (unread heads)
 no-text heads header size spelled (n, is, none) =
     Misfits.no_text n (take size (unread heads)) (drop size (unread heads))
     (subst (SpellsHeader (take size (unread heads))) is spelled) (sym (take-append-drop size (unread heads))) none
@@ -123,7 +123,7 @@ behind heads n levels = record {
 pub head-read : (heads : ItemHeads) (header : Header) (size n : ℕ) (levels : Levels) → HasRead heads →
     SpellsHeader (take size (unread heads)) header → size ≤ length (unread heads) →
     (n ≤ length (drop size (unread heads))) × IsPayloadOf header (take n (drop size (unread heads))) →
-    (more : List Level) × (behind_head header (open_in heads) ≡ Some more) × (levels_in levels ≡ incomplete more) →
+    (more : List Level) × (behind_head header (unfinished_in heads) ≡ Some more) × (levels_in levels ≡ incomplete more) →
     HasRead (behind heads (size + n) levels)
 head-read heads header size n levels h spelled room (there, payload) (more, placed, after) =
     let rest = unread heads in
@@ -131,12 +131,12 @@ head-read heads header size n levels h spelled room (there, payload) (more, plac
     ≡ was_read heads ++ (take size rest ++ take n (drop size rest)) =
     take-add heads.offset (size + n) heads.bytes.now ∙
     ap (λ (b : List ℕ). was_read heads ++ b) (take-add size n rest) in
-    let state = open-incomplete _ more (open-behind (was_read heads) header (take size rest) (take n (drop size rest))
-    (open_in heads) more spelled payload placed h.levels) in
+    let state = unfinished-incomplete _ more (unfinished-behind (was_read heads) header (take size rest) (take n (drop size rest))
+    (unfinished_in heads) more spelled payload placed h.levels) in
     record {
       within = omega (arith, room, there, length-drop size rest, length-drop heads.offset heads.bytes.now, h.within);
-      levels = subst (λ (b : List ℕ). IsOpenBehind b (levels_in levels)) (sym read)
-          (subst (λ (ls : List Level). IsOpenBehind (was_read heads ++ (take size rest ++ take n (drop size rest))) ls)
+      levels = subst (λ (b : List ℕ). AreUnfinishedBehind b (levels_in levels)) (sym read)
+          (subst (λ (ls : List Level). AreUnfinishedBehind (was_read heads ++ (take size rest ++ take n (drop size rest))) ls)
           (sym after) state);
       incomplete = ap incomplete after ∙ incomplete-again more ∙ sym after;
     }
@@ -194,10 +194,10 @@ front-behind heads r size n levels e =
     ap (λ (b : List ℕ). take size b ++ (take n (drop size u) ++ d)) (sym e) ∙
     ap (λ (b : List ℕ). take size r ++ (take n b ++ d)) (sym (behind-bytes r u size e))
 
--- some level is open
-pub some-open : (levels : List Level) (b : Bool) → (IsTrue b → levels ≡ []) × (levels ≡ [] → IsTrue b) → b ≡ false →
+-- some level is unfinished
+pub some-unfinished : (levels : List Level) (b : Bool) → (IsTrue b → levels ≡ []) × (levels ≡ [] → IsTrue b) → b ≡ false →
     ¬ (levels ≡ [])
-some-open levels b is f e = let never : false ≡ true = sym f ∙ is.1 e in absurd cc
+some-unfinished levels b is f e = let never : false ≡ true = sym f ∙ is.1 e in absurd cc
 
 pub was-misplaced : (header : Header) (old new : List Level) (m : Misfit) → m ≡ misfit.Misplaced →
     IsPassed header old new (Err m) → behind_head header old ≡ None

@@ -4,7 +4,7 @@ use Rattle.std.proofs.Common.{append-nil, append_assoc}
 use Rattle.ciborium_ll.specs.{declared.levels.Level.Level, declared.levels.Level.TheVariants.{Items, OpenItems}}
 use Rattle.ciborium_ll.specs.declared.levels.Level.TheVariants.{OpenKeys, OpenValues, ByteChunks, TextChunks}
 use Rattle.ciborium_ll.specs.{Head.within, Item.{unsigned, no_items, item, no_pairs, items_count, pairs_count}}
-use Rattle.ciborium_ll.specs.{Levels.{Ends, EndAll, EndsPairs, AreItem, IsOpenBehind, incomplete}, Spells.Spells}
+use Rattle.ciborium_ll.specs.{Levels.{Ends, EndAll, EndsPairs, AreItem, AreUnfinishedBehind, incomplete}, Spells.Spells}
 use Rattle.ciborium_ll.proofs.LevelsTo.{Standing, ItemsTo, LevelTo, LevelsTo, items-to, pairs-to, to-items, to-pairs}
 use Rattle.ciborium_ll.proofs.LevelsTo.{to-incomplete, from-incomplete, start, started}
 
@@ -91,8 +91,8 @@ incomplete-again (Items zero ∷ levels) = incomplete-again levels
 incomplete-again u = refl
 
 -- complete levels may be dropped
-pub open-incomplete : (c : List ℕ) (levels : List Level) → IsOpenBehind c levels → IsOpenBehind c (incomplete levels)
-open-incomplete c levels o = record {
+pub unfinished-incomplete : (c : List ℕ) (levels : List Level) → AreUnfinishedBehind c levels → AreUnfinishedBehind c (incomplete levels)
+unfinished-incomplete c levels o = record {
   complete = λ b e. o.complete b
       (to-end levels b (from-incomplete anywhere levels b [] (end-to (incomplete levels) b e)));
   only = λ b h. to-end (incomplete levels) b (to-incomplete anywhere levels b [] (end-to levels b (o.only b h)));
@@ -100,16 +100,16 @@ open-incomplete c levels o = record {
 
 -- ---- before the first byte of an item, and behind its last
 
-pub open-start : IsOpenBehind [] (Items 1 ∷ [])
-open-start = record {
+pub unfinished-start : AreUnfinishedBehind [] (Items 1 ∷ [])
+unfinished-start = record {
   complete = λ b e.
       let (i, s, spelled, whole, w) = started anywhere b [] (end-to (Items 1 ∷ []) b e) in
       (i, subst (λ (c : List ℕ). Spells c i) (sym (whole ∙ append-nil s)) spelled);
   only = λ b h. to-end (Items 1 ∷ []) b (start anywhere b [] (h.0, b, h.1, sym (append-nil b), tt));
 }
 
-pub open-end : (c : List ℕ) → IsOpenBehind c [] → AreItem c
-open-end c o = subst AreItem (append-nil c) (o.complete [] refl)
+pub unfinished-end : (c : List ℕ) → AreUnfinishedBehind c [] → AreItem c
+unfinished-end c o = subst AreItem (append-nil c) (o.complete [] refl)
 
 -- ---- levels can be completed
 

@@ -5,7 +5,7 @@ use Rattle.ciborium_ll.proofs.{LevelEnds.{anywhere, end-to, to-end}, LevelHeads.
 use Rattle.ciborium_ll.proofs.LevelsTo.{ItemsTo, LevelTo, LevelsTo, around, behind-around, items-to, pairs-to}
 use Rattle.ciborium_ll.{proofs.OneHeader.one_header_at_front, specs.{Head.{IsHead, open_byte}, Header.SpellsHeader}}
 use Rattle.ciborium_ll.specs.Item.{Item, unsigned, negative, bytes, text, array, map, tag, simple, float, items_count}
-use Rattle.ciborium_ll.specs.{Item.pairs_count, Levels.{EndAll, IsPayloadOf, IsOpenBehind, AreItem, opened}}
+use Rattle.ciborium_ll.specs.{Item.pairs_count, Levels.{EndAll, IsPayloadOf, AreUnfinishedBehind, AreItem, entered}}
 use Rattle.ciborium_ll.specs.Levels.{behind_item, behind_bytes, behind_text, behind_break, behind_head, incomplete}
 use Rattle.ciborium_ll.specs.{Spells.Spells, StringRefusal.{IsAllowed, StringKind, of_bytes, of_text, string_major}}
 use Rattle.ciborium_ll.specs.declared.{header.Header.Header, levels.Level.{Level, TheVariants.{Items, OpenItems}}}
@@ -15,22 +15,22 @@ use Rattle.ciborium_ll.specs.declared.header.Header.TheVariants as heads
 -- ---- levels of which something is still to come
 
 -- the innermost level is not complete
-abbrev pub AreOpen : List Level → Type 0
-AreOpen [] = ⊥
-AreOpen (Items zero ∷ levels) = ⊥
-AreOpen (level ∷ levels) = Unit {0}
+abbrev pub AreUnfinished : List Level → Type 0
+AreUnfinished [] = ⊥
+AreUnfinished (Items zero ∷ levels) = ⊥
+AreUnfinished (level ∷ levels) = Unit {0}
 
 incomplete-length : (levels : List Level) → length (incomplete levels) ≤ length levels
 incomplete-length (Items zero ∷ levels) = let le = incomplete-length levels in omega arith
 incomplete-length u = omega arith
 
-pub are-open : (levels : List Level) → incomplete levels ≡ levels → ¬ (levels ≡ []) → AreOpen levels
-are-open [] same some = some refl
-are-open (Items zero ∷ levels) same some =
+pub are-unfinished : (levels : List Level) → incomplete levels ≡ levels → ¬ (levels ≡ []) → AreUnfinished levels
+are-unfinished [] same some = some refl
+are-unfinished (Items zero ∷ levels) same some =
     let le = incomplete-length levels in
     let long : length (incomplete levels) ≡ suc (length levels) = ap length same in
     omega arith
-are-open (level ∷ levels) same some = tt
+are-unfinished (level ∷ levels) same some = tt
 
 -- no head may stand where neither an item, nor a part, nor a break may
 none-behind : (header : Header) (levels : List Level) → behind_item levels ≡ None → behind_bytes levels ≡ None →
@@ -48,12 +48,12 @@ none-behind heads.Break levels i b t k = k
 none-behind header levels i b t k = i
 
 -- where a head may stand, something is still to come
-pub behind-open : (header : Header) (levels more : List Level) → behind_head header levels ≡ Some more → AreOpen levels
-behind-open header [] more behind =
+pub behind-unfinished : (header : Header) (levels more : List Level) → behind_head header levels ≡ Some more → AreUnfinished levels
+behind-unfinished header [] more behind =
     let none = none-behind header [] refl refl refl refl in absurd cc
-behind-open header (Items zero ∷ levels) more behind =
+behind-unfinished header (Items zero ∷ levels) more behind =
     let none = none-behind header (Items zero ∷ levels) refl refl refl refl in absurd cc
-behind-open header (level ∷ levels) more behind = tt
+behind-unfinished header (level ∷ levels) more behind = tt
 
 -- ---- what stands first
 
@@ -74,7 +74,7 @@ pub data FirstOf (S : Standing) (level : Level) (levels : List Level) (b z : Lis
 first-part : (h p t u r x b : List ℕ) → t ≡ h ++ p → r ≡ t ++ u → b ≡ r ++ x → b ≡ h ++ (p ++ (u ++ x))
 first-part h p t u r x b f g e = e ∙ ap (λ (c : List ℕ). c ++ x) (g ∙ ap (λ (c : List ℕ). c ++ u) f) ∙ simp append_assoc
 
-pub first-of : (S : Standing) (level : Level) (levels : List Level) (b z : List ℕ) → AreOpen (level ∷ levels) →
+pub first-of : (S : Standing) (level : Level) (levels : List Level) (b z : List ℕ) → AreUnfinished (level ∷ levels) →
     LevelsTo S (level ∷ levels) b z → FirstOf S level levels b z
 first-of S (Items zero) levels b z some h = absurd some
 first-of S (Items (suc n)) levels b z some (c, (d, one, others), ends) =
@@ -146,13 +146,13 @@ module _ (S : Standing) (b c z : List ℕ) (levels more : List Level) (behind : 
   split-at : (h p s : List ℕ) → b ≡ s ++ c → s ≡ h ++ p → b ≡ h ++ (p ++ c)
   split-at h p s e f = e ∙ ap (λ (x : List ℕ). x ++ c) f ∙ append_assoc h p c
 
-  -- the head opens a level
-  opening : (header : Header) (level : Level) (h r s : List ℕ) → SpellsHeader h header → IsPayloadOf header [] →
-      behind_head header levels ≡ opened level levels → b ≡ s ++ c → s ≡ h ++ r →
+  -- the head enters a level
+  entering : (header : Header) (level : Level) (h r s : List ℕ) → SpellsHeader h header → IsPayloadOf header [] →
+      behind_head header levels ≡ entered level levels → b ≡ s ++ c → s ≡ h ++ r →
       LevelTo S (length more) level (r ++ c) c → HeadTo S levels b z
-  opening header level h r s spelled none opens split whole here =
+  entering header level h r s spelled none enters split whole here =
       head-first S header h [] b (r ++ c) z levels (level ∷ more) spelled none (split-at h r s split whole)
-      (opens ∙ ap (option_map (λ rest. level ∷ rest)) behind) (c, here, ends)
+      (enters ∙ ap (option_map (λ rest. level ∷ rest)) behind) (c, here, ends)
 
   -- where so many levels are around an item, one more is around what it holds
   inside : (May : ℕ → Type 0) → May (suc (around levels)) → May (length more)
@@ -167,36 +167,36 @@ module _ (S : Standing) (b c z : List ℕ) (levels more : List Level) (behind : 
       head-first S (heads.Bytes (Some (length p))) h p b c z levels more head (refl, allowed)
       (split-at h p s split whole) (item-bytes levels more behind) ends
   item-first (bytes true p) s (ps, r, parts, same, whole) split w =
-      opening (heads.Bytes None) ByteChunks (open_byte 2 ∷ []) (r ++ (255 ∷ [])) s refl refl refl split whole
+      entering (heads.Bytes None) ByteChunks (open_byte 2 ∷ []) (r ++ (255 ∷ [])) s refl refl refl split whole
       (ps, r, parts, append_assoc r (255 ∷ []) c)
   item-first (text false p) s (h, head, allowed, whole) split w =
       head-first S (heads.Text (Some (length p))) h p b c z levels more head (refl, allowed)
       (split-at h p s split whole) (item-text levels more behind) ends
   item-first (text true p) s (ps, r, parts, same, whole) split w =
-      opening (heads.Text None) TextChunks (open_byte 3 ∷ []) (r ++ (255 ∷ [])) s refl refl refl split whole
+      entering (heads.Text None) TextChunks (open_byte 3 ∷ []) (r ++ (255 ∷ [])) s refl refl refl split whole
       (ps, r, parts, append_assoc r (255 ∷ []) c)
   item-first (array false is) s (r, spelled, (h, head, whole)) split w =
-      opening (heads.Array (Some (items_count is))) (Items (items_count is)) h r s head refl refl split whole
+      entering (heads.Array (Some (items_count is))) (Items (items_count is)) h r s head refl refl split whole
       (items-to S (length more) is r c spelled (inside (λ n. S.MayAll n is) ((S.arrays (around levels) false is).1 w)))
   item-first (array true is) s (r, spelled, whole) split w =
-      opening (heads.Array None) OpenItems (open_byte 4 ∷ []) (r ++ (255 ∷ [])) s refl refl refl split whole (
+      entering (heads.Array None) OpenItems (open_byte 4 ∷ []) (r ++ (255 ∷ [])) s refl refl refl split whole (
         items_count is,
         subst (λ (x : List ℕ). ItemsTo S (length more) (items_count is) x (255 ∷ c))
             (sym (append_assoc r (255 ∷ []) c)) (items-to S (length more) is r (255 ∷ c) spelled
             (inside (λ n. S.MayAll n is) ((S.arrays (around levels) true is).1 w))),
       )
-  item-first (map false ps) s (r, spelled, (h, head, whole)) split w = opening (heads.Map (Some (pairs_count ps)))
+  item-first (map false ps) s (r, spelled, (h, head, whole)) split w = entering (heads.Map (Some (pairs_count ps)))
       (Items (pairs_count ps + pairs_count ps)) h r s head refl refl split whole
       (pairs-to S (length more) ps r c spelled (inside (λ n. S.MayPairs n ps) ((S.maps (around levels) false ps).1 w)))
   item-first (map true ps) s (r, spelled, whole) split w =
-      opening (heads.Map None) OpenKeys (open_byte 5 ∷ []) (r ++ (255 ∷ [])) s refl refl refl split whole (
+      entering (heads.Map None) OpenKeys (open_byte 5 ∷ []) (r ++ (255 ∷ [])) s refl refl refl split whole (
         pairs_count ps,
         subst (λ (x : List ℕ). ItemsTo S (length more) (pairs_count ps + pairs_count ps) x (255 ∷ c))
             (sym (append_assoc r (255 ∷ []) c)) (pairs-to S (length more) ps r (255 ∷ c) spelled
             (inside (λ n. S.MayPairs n ps) ((S.maps (around levels) true ps).1 w))),
       )
   item-first (tag t i) s (h, r, head, spelled, whole) split w =
-      opening (heads.Tag t) (Items 1) h r s head refl refl split whole
+      entering (heads.Tag t) (Items 1) h r s head refl refl split whole
       (c, (i, r, spelled, refl, inside (λ n. S.May n i) ((S.tags (around levels) t i).1 w)), refl)
   item-first (simple n) s spelled split w =
       head-first S (heads.Simple n) s [] b c z levels more spelled refl split behind ends
@@ -214,7 +214,7 @@ module _ (S : Standing) where
       head-first S (heads.Text (Some (length p))) h p b c z (level ∷ levels) (level ∷ levels) head (refl, allowed)
       whole (subst (λ k. behind_text (k ∷ levels) ≡ Some (k ∷ levels)) (sym is) refl) ends
 
-  pub front : (levels : List Level) (b z : List ℕ) → AreOpen levels → LevelsTo S levels b z → HeadTo S levels b z
+  pub front : (levels : List Level) (b z : List ℕ) → AreUnfinished levels → LevelsTo S levels b z → HeadTo S levels b z
   front [] b z some ends = absurd some
   front (level ∷ levels) b z some ends = by (first-of S level levels b z some ends)
     where
@@ -245,7 +245,7 @@ module _ (S : Standing) where
       IsPayloadOf header p → behind_head header levels ≡ Some more → LevelsTo S levels (h ++ (p ++ y)) z →
       LevelsTo S more y z
   behind-to header h p y z levels more spelled content behind ends =
-      let f = front S levels (h ++ (p ++ y)) z (behind-open header levels more behind) ends in
+      let f = front S levels (h ++ (p ++ y)) z (behind-unfinished header levels more behind) ends in
       let one = one_header_at_front h f.head (p ++ y) (f.payload ++ f.rest) header f.header spelled f.spelled
       f.whole in
       let long = payload-lengths f.header p f.payload (subst (λ k. IsPayloadOf k p) one.2 content) f.content in
@@ -256,7 +256,7 @@ module _ (S : Standing) where
 
   -- no head stands where it may not
   pub misplaced : (header : Header) (h y z : List ℕ) (levels : List Level) → SpellsHeader h header →
-      behind_head header levels ≡ None → AreOpen levels → LevelsTo S levels (h ++ y) z → ⊥
+      behind_head header levels ≡ None → AreUnfinished levels → LevelsTo S levels (h ++ y) z → ⊥
   misplaced header h y z levels spelled none some ends =
       let f = front S levels (h ++ y) z some ends in
       let one = one_header_at_front h f.head y (f.payload ++ f.rest) header f.header spelled f.spelled f.whole in
@@ -265,7 +265,7 @@ module _ (S : Standing) where
 
 -- ---- what ends the levels, with nothing behind it
 
-pub front-of-end : (levels : List Level) (x : List ℕ) → AreOpen levels → EndAll levels x → HeadTo anywhere levels x []
+pub front-of-end : (levels : List Level) (x : List ℕ) → AreUnfinished levels → EndAll levels x → HeadTo anywhere levels x []
 front-of-end levels x some ends = front anywhere levels x [] some (end-to levels x ends)
 
 pub ends-behind : (header : Header) (h payload : List ℕ) (levels more : List Level) (b : List ℕ) →
@@ -274,10 +274,10 @@ pub ends-behind : (header : Header) (h payload : List ℕ) (levels more : List L
 ends-behind header h payload levels more b spelled content behind ends = to-end levels (h ++ (payload ++ b))
     (to-behind anywhere header h payload b [] levels more spelled content behind (λ t. tt) (end-to more b ends))
 
-pub open-behind : (c : List ℕ) (header : Header) (h payload : List ℕ) (levels more : List Level) →
+pub unfinished-behind : (c : List ℕ) (header : Header) (h payload : List ℕ) (levels more : List Level) →
     SpellsHeader h header → IsPayloadOf header payload → behind_head header levels ≡ Some more →
-    IsOpenBehind c levels → IsOpenBehind (c ++ (h ++ payload)) more
-open-behind c header h payload levels more spelled content behind o = record {
+    AreUnfinishedBehind c levels → AreUnfinishedBehind (c ++ (h ++ payload)) more
+unfinished-behind c header h payload levels more spelled content behind o = record {
   complete = λ b e. subst AreItem (sym (placed b))
       (o.complete (h ++ (payload ++ b)) (ends-behind header h payload levels more b spelled content behind e));
   only = λ b i. to-end more b (behind-to anywhere header h payload b [] levels more spelled content behind

@@ -4,7 +4,7 @@ use Rattle.std.proofs.Common.{ap, ◌∙◌, subst, append_assoc, option_map}
 use Rattle.ciborium_ll.specs.{declared.header.Header.Header, declared.levels.Level.Level}
 use Rattle.ciborium_ll.specs.declared.levels.Level.TheVariants.{Items, OpenItems, OpenKeys, ByteChunks, TextChunks}
 use Rattle.ciborium_ll.specs.{Head.{IsHead, open_byte}, Header.SpellsHeader, Item.{Item, unsigned, negative, bytes}}
-use Rattle.ciborium_ll.specs.{Item.{text, array, map, tag, simple, float}, Levels.{IsPayloadOf, opened, behind_item}}
+use Rattle.ciborium_ll.specs.{Item.{text, array, map, tag, simple, float}, Levels.{IsPayloadOf, entered, behind_item}}
 use Rattle.ciborium_ll.specs.{Levels.{behind_bytes, behind_text, behind_break, behind_head}, Spells.{Spells, joined}}
 use Rattle.ciborium_ll.specs.StringRefusal.{IsAllowed, StringKind, of_bytes, of_text, string_major}
 use Rattle.ciborium_ll.proofs.LevelsTo.{Standing, IsFlat, ItemTo, ItemsTo, LevelTo, LevelsTo, ChunksTo, around}
@@ -18,10 +18,10 @@ TakesLevel (heads.Map n) = Unit {0}
 TakesLevel (heads.Tag t) = Unit {0}
 TakesLevel _ = ⊥
 
--- a head that opens a level, and those around it
-pub opened-inner : (level : Level) (levels more : List Level) → opened level levels ≡ Some more →
+-- a head that enters a level, and those around it
+pub entered-inner : (level : Level) (levels more : List Level) → entered level levels ≡ Some more →
     (rest : List Level) × (behind_item levels ≡ Some rest) × (more ≡ level ∷ rest)
-opened-inner level levels more e = by (behind_item levels) e
+entered-inner level levels more e = by (behind_item levels) e
   where
     by : (o : Option (List Level)) → option_map (λ rest. level ∷ rest) o ≡ Some more →
         (rest : List Level) × (o ≡ Some rest) × (more ≡ level ∷ rest)
@@ -108,12 +108,12 @@ module _ (S : Standing) where
   break-to y z levels more behind ends = absurd cc
 
 module _ (S : Standing) (h p y z : List ℕ) (levels more : List Level) (ends : LevelsTo S more y z) where
-  -- a head that opens a level
-  opens-to : (level : Level) → p ≡ [] →
+  -- a head that enters a level
+  enters-to : (level : Level) → p ≡ [] →
       ((c : List ℕ) → LevelTo S (suc (around levels)) level y c → ItemTo S (around levels) (h ++ y) c) →
-      opened level levels ≡ Some more → LevelsTo S levels (h ++ (p ++ y)) z
-  opens-to level none closes behind =
-      let (rest, inner, same) = opened-inner level levels more behind in
+      entered level levels ≡ Some more → LevelsTo S levels (h ++ (p ++ y)) z
+  enters-to level none closes behind =
+      let (rest, inner, same) = entered-inner level levels more behind in
       let (c, here, others) = subst (λ m. LevelsTo S m y z) same ends in
       let one = closes c (subst (λ n. LevelTo S n level y c) (behind-around levels rest inner) here) in
       subst (λ (x : List ℕ). LevelsTo S levels (h ++ (x ++ y)) z) (sym none)
@@ -161,7 +161,7 @@ module _ (S : Standing) where
       by (heads.Negative n) hd none behind room = bare-to S h p y z levels more ends (negative n) tt none hd behind
       by (heads.Bytes (Some n)) hd content behind room =
           bytes-to h p y z levels more (subst (IsHead h 2) (sym content.0) hd) content.1 behind ends
-      by (heads.Bytes None) hd none behind room = opens-to S h p y z levels more ends ByteChunks none (λ c here. (
+      by (heads.Bytes None) hd none behind room = enters-to S h p y z levels more ends ByteChunks none (λ c here. (
         bytes true (joined here.0),
         open_byte 2 ∷ (here.1 ++ (255 ∷ [])),
         (here.0, here.1, here.2, refl, refl),
@@ -170,22 +170,22 @@ module _ (S : Standing) where
       )) behind
       by (heads.Text (Some n)) hd content behind room =
           text-to h p y z levels more (subst (IsHead h 3) (sym content.0) hd) content.1 behind ends
-      by (heads.Text None) hd none behind room = opens-to S h p y z levels more ends TextChunks none (λ c here. (
+      by (heads.Text None) hd none behind room = enters-to S h p y z levels more ends TextChunks none (λ c here. (
         text true (joined here.0),
         open_byte 3 ∷ (here.1 ++ (255 ∷ [])),
         (here.0, here.1, here.2, refl, refl),
         open-whole 3 h here.1 y c hd here.3,
         S.flat (around levels) (text true (joined here.0)) tt,
       )) behind
-      by (heads.Array (Some n)) hd none behind room = opens-to S h p y z levels more ends (Items n) none
+      by (heads.Array (Some n)) hd none behind room = enters-to S h p y z levels more ends (Items n) none
           (λ c here. array-closed S (around levels) n h y c hd (room tt) here) behind
-      by (heads.Array None) hd none behind room = opens-to S h p y z levels more ends OpenItems none
+      by (heads.Array None) hd none behind room = enters-to S h p y z levels more ends OpenItems none
           (λ c here. open-array-closed S (around levels) h y c hd (room tt) here) behind
-      by (heads.Map (Some n)) hd none behind room = opens-to S h p y z levels more ends (Items (n + n)) none
+      by (heads.Map (Some n)) hd none behind room = enters-to S h p y z levels more ends (Items (n + n)) none
           (λ c here. map-closed S (around levels) n h y c hd (room tt) here) behind
-      by (heads.Map None) hd none behind room = opens-to S h p y z levels more ends OpenKeys none
+      by (heads.Map None) hd none behind room = enters-to S h p y z levels more ends OpenKeys none
           (λ c here. open-map-closed S (around levels) h y c hd (room tt) here) behind
-      by (heads.Tag t) hd none behind room = opens-to S h p y z levels more ends (Items 1) none
+      by (heads.Tag t) hd none behind room = enters-to S h p y z levels more ends (Items 1) none
           (λ c here. tag-closed S (around levels) t h y c hd (room tt) here) behind
       by (heads.Simple n) hd none behind room = bare-to S h p y z levels more ends (simple n) tt none hd behind
       by (heads.Float size) hd none behind room = bare-to S h p y z levels more ends (float hd.0) tt none hd.1 behind

@@ -1,13 +1,13 @@
--- What misfits the open levels begins nothing that ends them, and so no item stands at the front.
+-- What misfits the unfinished levels begins nothing that ends them, and so no item stands at the front.
 use Rattle.std.proofs.Common.{◌≡◌, ℕ, zero, suc, ◌/◌, ◌%◌, ltb, Bool, true, false, ◌&&◌, ◌||◌, List, [], ◌∷◌, ◌++◌}
 use Rattle.std.proofs.Common.{length, take, Some, refl, sym, ap, ◌∙◌, subst, arith, inl, inr, ◌⊎◌, ne_eqb, append_assoc}
 use Rattle.std.{proofs.{Math.Seq.take-append_seam, lemmas.Nat.{div-mul-add, mod-mul-add}}, specs.Prelude.IsUtf8}
-use Rattle.ciborium_ll.proofs.{HeadAnswers.{Facts, header-begins}, LevelEnds.{anywhere, can-end}, LevelFronts.are-open}
+use Rattle.ciborium_ll.proofs.{HeadAnswers.{Facts, header-begins}, LevelEnds.{anywhere, can-end}, LevelFronts.are-unfinished}
 use Rattle.ciborium_ll.proofs.{LevelFronts.{HeadTo, front-of-end}, OneHeader.one_header_at_front}
 use Rattle.ciborium_ll.{proofs.{UniqueSpelling.none_begins_another, UsableHeads.information-below}, specs.Head.IsHead}
 use Rattle.ciborium_ll.specs.{Head.{information, argument_bytes, initial_byte}, Header.SpellsHeader}
 use Rattle.ciborium_ll.specs.ItemLengths.{Misfits, ill_formed, misplaced, no_chunk, no_text, BeginNoItem, BeginText}
-use Rattle.ciborium_ll.specs.{ItemLengths.chunk_major, Levels.{EndAll, AreItem, IsOpenBehind, IsPayloadOf, behind_head}}
+use Rattle.ciborium_ll.specs.{ItemLengths.chunk_major, Levels.{EndAll, AreItem, AreUnfinishedBehind, IsPayloadOf, behind_head}}
 use Rattle.ciborium_ll.specs.{Levels.incomplete, Refusal.{argument_length, is_reserved, is_low_simple, is_ill_formed}}
 use Rattle.ciborium_ll.specs.declared.{header.Header.Header, levels.Level.{Level, TheVariants.{ByteChunks, TextChunks}}}
 use Rattle.ciborium_ll.specs.declared.header.Header.TheVariants as heads
@@ -143,11 +143,11 @@ misfit-front levels b t x z misfit f e = by misfit
         let (long, utf8) = subst (λ k. IsPayloadOf k f.payload) (sym is) f.content in
         none (text-begun n r t f.payload (f.rest ++ z) rest long utf8)
 
--- behind levels that are open and not complete
+-- behind levels that are unfinished and not complete
 pub misfit-never : (levels : List Level) (b : List ℕ) → incomplete levels ≡ levels →
     ¬ (levels ≡ []) → Misfits levels b → (t x z : List ℕ) → b ++ t ≡ x ++ z → ¬ EndAll levels x
 misfit-never levels b normal some misfit t x z e ends =
-    misfit-front levels b t x z misfit (front-of-end levels x (are-open levels normal some) ends) e
+    misfit-front levels b t x z misfit (front-of-end levels x (are-unfinished levels normal some) ends) e
 
 -- ---- no item stands at the front
 
@@ -171,7 +171,7 @@ last-empty [] b e = e
 last-empty (x ∷ y) b e = absurd cc
 
 pub no-item : (c r : List ℕ) (levels : List Level) → incomplete levels ≡ levels →
-    ¬ (levels ≡ []) → IsOpenBehind c levels → Misfits levels r → BeginNoItem (c ++ r)
+    ¬ (levels ≡ []) → AreUnfinishedBehind c levels → Misfits levels r → BeginNoItem (c ++ r)
 no-item c r levels normal some o misfit t s z e found =
     by (overlap c (r ++ t) s z (sym (append_assoc c r t) ∙ e))
   where

@@ -60,7 +60,7 @@ module _ (S : Standing) where
   ItemsTo n zero b z = b ≡ z
   ItemsTo n (suc k) b z = (c : List ℕ) × ItemTo n b c × ItemsTo n k c z
 
-  -- what ends a level, around which n are open
+  -- what ends a level, around which n are unfinished
   abbrev pub LevelTo : ℕ → Level → List ℕ → List ℕ → Type 0
   LevelTo n (Items k) b z = ItemsTo n k b z
   LevelTo n OpenItems b z = (k : ℕ) × ItemsTo n k b (255 ∷ z)

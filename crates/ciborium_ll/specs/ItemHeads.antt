@@ -3,7 +3,7 @@ use Rattle.std.specs.Prelude.{◌≡◌, ℕ, ◌-◌, ◌≤◌, List, [], ◌+
 use Rattle.ciborium_ll.specs.{declared.item_heads.ItemHead.ItemHead, declared.item_heads.ItemHeads.ItemHeads}
 use Rattle.ciborium_ll.specs.{declared.item_heads.NoItem.NoItem, declared.item_heads.NoItem.TheVariants.Incomplete}
 use Rattle.ciborium_ll.specs.{declared.item_heads.NoItem.TheVariants.{Malformed, TooDeep}, declared.levels.Level.Level}
-use Rattle.ciborium_ll.specs.{Header.SpellsHeader, ItemLengths.{EndInside, IsNoItem}, Levels.{AreItem, IsOpenBehind}}
+use Rattle.ciborium_ll.specs.{Header.SpellsHeader, ItemLengths.{EndInside, IsNoItem}, Levels.{AreItem, AreUnfinishedBehind}}
 use Rattle.ciborium_ll.specs.{Levels.{IsPayloadOf, behind_head, incomplete}, inner.KeptLevels.levels_in}
 
 -- what was read, and what is unread
@@ -13,15 +13,15 @@ was_read heads = take heads.offset heads.bytes.now
 abbrev pub unread : ItemHeads → List ℕ
 unread heads = drop heads.offset heads.bytes.now
 
--- the levels that are open, the innermost first
-abbrev pub open_in : ItemHeads → List Level
-open_in heads = levels_in heads.levels
+-- the levels that are unfinished, the innermost first
+abbrev pub unfinished_in : ItemHeads → List Level
+unfinished_in heads = levels_in heads.levels
 
--- what was read is the beginning of an item, or all of one where no level is open
+-- what was read is the beginning of an item, or all of one where no level is unfinished
 pub record HasRead (heads : ItemHeads) : Type 0 where
   pub within : heads.offset ≤ length heads.bytes.now
-  pub levels : IsOpenBehind (was_read heads) (open_in heads)
-  pub incomplete : incomplete (open_in heads) ≡ open_in heads
+  pub levels : AreUnfinishedBehind (was_read heads) (unfinished_in heads)
+  pub incomplete : incomplete (unfinished_in heads) ≡ unfinished_in heads
 
 -- this head was read, which stood at the front of what was unread, with its payload
 pub record IsHeadRead (old new : ItemHeads) (head : ItemHead) : Type 0 where
@@ -30,9 +30,9 @@ pub record IsHeadRead (old new : ItemHeads) (head : ItemHead) : Type 0 where
   pub payload : IsPayloadOf head.header head.payload.now
   pub front : unread old ≡ head.bytes.now ++ (head.payload.now ++ unread new)
   pub offset : head.offset ≡ old.offset
-  pub depth : head.depth ≡ length (open_in old) - 1
-  pub levels : (more : List Level) × (behind_head head.header (open_in old) ≡ Some more) ×
-      (open_in new ≡ incomplete more)
+  pub depth : head.depth ≡ length (unfinished_in old) - 1
+  pub levels : (more : List Level) × (behind_head head.header (unfinished_in old) ≡ Some more) ×
+      (unfinished_in new ≡ incomplete more)
 
 -- the reason shows right behind what was read
 abbrev pub ShowsAt : ItemHeads → NoItem → Type 0
@@ -42,6 +42,6 @@ ShowsAt heads (TooDeep p) = p ≡ heads.offset
 
 -- the next head is answered so: none where what was read is an item
 abbrev pub IsNext : ItemHeads → ItemHeads → Result (Option ItemHead) NoItem → Type 0
-IsNext old new (Ok None) = AreItem (was_read old) × (open_in old ≡ []) × (new ≡ old)
+IsNext old new (Ok None) = AreItem (was_read old) × (unfinished_in old ≡ []) × (new ≡ old)
 IsNext old new (Ok (Some head)) = HasRead new × IsHeadRead old new head
 IsNext old new (Err e) = IsNoItem old.bytes.now e × ShowsAt old e

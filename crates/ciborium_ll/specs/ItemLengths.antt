@@ -2,7 +2,7 @@
 -- section 5.3.1, and appendix C).
 use Rattle.std.specs.Prelude.{◌≡◌, ℕ, ◌/◌, ◌%◌, ◌<◌, ◌≤◌, true, false, List, [], ◌∷◌, ◌++◌, length, IsUtf8, Option}
 use Rattle.std.specs.Prelude.{Some, None, take, Result, Ok, Err}
-use Rattle.ciborium_ll.specs.{Head.break_byte, Header.{SpellsHeader, announced_length}, Levels.{AreItem, IsOpenBehind}}
+use Rattle.ciborium_ll.specs.{Head.break_byte, Header.{SpellsHeader, announced_length}, Levels.{AreItem, AreUnfinishedBehind}}
 use Rattle.ciborium_ll.specs.{Levels.behind_head, Refusal.{argument_length, is_ill_formed}}
 use Rattle.ciborium_ll.specs.declared.{header.Header.{Header, TheVariants.Text}, item_heads.NoItem.NoItem}
 use Rattle.ciborium_ll.specs.declared.item_heads.NoItem.TheVariants.{Incomplete, Malformed, TooDeep}
@@ -18,7 +18,7 @@ chunk_major (ByteChunks ∷ levels) = Some 2
 chunk_major (TextChunks ∷ levels) = Some 3
 chunk_major _ = None
 
--- what stands at the front cannot stand where these levels are open, whatever follows
+-- what stands at the front cannot stand where these levels are unfinished, whatever follows
 pub data Misfits (levels : List Level) (b : List ℕ) : Type 0 where
   -- no well-formed head stands there (section 3)
   ill_formed : is_ill_formed b ≡ true → Misfits levels b
@@ -36,12 +36,12 @@ pub data Misfits (levels : List Level) (b : List ℕ) : Type 0 where
 abbrev pub BeginNoItem : List ℕ → Type 0
 BeginNoItem b = (t s z : List ℕ) → b ++ t ≡ s ++ z → ¬ AreItem s
 
--- behind the first p bytes, which are heads and payloads, these levels are open, and r follows
-pub record StandsOpen (b : List ℕ) (p : ℕ) (levels : List Level) (r : List ℕ) : Type 0 where
+-- behind the first p bytes, which are heads and payloads, these levels are unfinished, and r follows
+pub record StandsInside (b : List ℕ) (p : ℕ) (levels : List Level) (r : List ℕ) : Type 0 where
   pub before : List ℕ
   pub whole : b ≡ before ++ r
   pub at : length before ≡ p
-  pub inside : IsOpenBehind before levels
+  pub inside : AreUnfinishedBehind before levels
 
 -- the bytes end inside a head, or before one, or inside the payload of a definite string
 pub data EndInside (b : List ℕ) : Type 0 where
@@ -51,18 +51,18 @@ pub data EndInside (b : List ℕ) : Type 0 where
   cut_payload : (header : Header) (h r : List ℕ) → SpellsHeader h header → b ≡ h ++ r →
       length r < announced_length header → EndInside b
 
--- the head at the front of r opens a level more than are kept: that of the item itself, and 256
+-- the head at the front of r enters a level more than are kept: that of the item itself, and 256
 -- within it
-abbrev pub OpensTooMany : List Level → List ℕ → Type 0
-OpensTooMany levels r = (header : Header) × (h : List ℕ) × (s : List ℕ) × (more : List Level) × SpellsHeader h header ×
+abbrev pub EntersTooMany : List Level → List ℕ → Type 0
+EntersTooMany levels r = (header : Header) × (h : List ℕ) × (s : List ℕ) × (more : List Level) × SpellsHeader h header ×
     (r ≡ h ++ s) × (behind_head header levels ≡ Some more) × (length levels ≡ 257) × (length more ≡ 258)
 
--- why no item stands at the front of b: b ends inside one, begins none, or opens too many levels
+-- why no item stands at the front of b: b ends inside one, begins none, or enters too many levels
 abbrev pub IsNoItem : List ℕ → NoItem → Type 0
 IsNoItem b Incomplete = (t : List ℕ) × (0 < length t) × AreItem (b ++ t)
 IsNoItem b (Malformed p) = BeginNoItem b × ((levels : List Level) × (r : List ℕ) ×
-    StandsOpen b p levels r × Misfits levels r)
-IsNoItem b (TooDeep p) = (levels : List Level) × (r : List ℕ) × StandsOpen b p levels r × OpensTooMany levels r
+    StandsInside b p levels r × Misfits levels r)
+IsNoItem b (TooDeep p) = (levels : List Level) × (r : List ℕ) × StandsInside b p levels r × EntersTooMany levels r
 
 -- what stands at the front of b is answered so: an item of n bytes, or none
 abbrev pub IsLengthOf : List ℕ → Result ℕ NoItem → Type 0

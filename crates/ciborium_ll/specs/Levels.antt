@@ -39,8 +39,8 @@ EndAll (level ∷ levels) b = (s : List ℕ) × (r : List ℕ) × Ends level s �
 abbrev pub AreItem : List ℕ → Type 0
 AreItem b = (i : Item) × Spells b i
 
--- behind the bytes c these levels are open: what ends them completes an item, and nothing else does
-pub record IsOpenBehind (c : List ℕ) (levels : List Level) : Type 0 where
+-- behind the bytes c these levels are unfinished: what ends them completes an item, and nothing else does
+pub record AreUnfinishedBehind (c : List ℕ) (levels : List Level) : Type 0 where
   pub complete : (b : List ℕ) → EndAll levels b → AreItem (c ++ b)
   pub only : (b : List ℕ) → AreItem (c ++ b) → EndAll levels b
 
@@ -57,9 +57,9 @@ behind_item (OpenValues ∷ levels) = Some (OpenKeys ∷ levels)
 behind_item (ByteChunks ∷ levels) = None
 behind_item (TextChunks ∷ levels) = None
 
--- the levels behind the head of an item that opens this level
-abbrev pub opened : Level → List Level → Option (List Level)
-opened level levels = option_map (λ rest. level ∷ rest) (behind_item levels)
+-- the levels behind the head of an item that enters this level
+abbrev pub entered : Level → List Level → Option (List Level)
+entered level levels = option_map (λ rest. level ∷ rest) (behind_item levels)
 
 -- the levels behind a definite byte string, which may be a part of an open one
 abbrev pub behind_bytes : List Level → Option (List Level)
@@ -86,22 +86,22 @@ abbrev pub behind_head : Header → List Level → Option (List Level)
 behind_head (header.Positive n) levels = behind_item levels
 behind_head (header.Negative n) levels = behind_item levels
 behind_head (header.Bytes (Some n)) levels = behind_bytes levels
-behind_head (header.Bytes None) levels = opened ByteChunks levels
+behind_head (header.Bytes None) levels = entered ByteChunks levels
 behind_head (header.Text (Some n)) levels = behind_text levels
-behind_head (header.Text None) levels = opened TextChunks levels
-behind_head (header.Array (Some n)) levels = opened (Items n) levels
-behind_head (header.Array None) levels = opened OpenItems levels
-behind_head (header.Map (Some n)) levels = opened (Items (n + n)) levels
-behind_head (header.Map None) levels = opened OpenKeys levels
-behind_head (header.Tag n) levels = opened (Items 1) levels
+behind_head (header.Text None) levels = entered TextChunks levels
+behind_head (header.Array (Some n)) levels = entered (Items n) levels
+behind_head (header.Array None) levels = entered OpenItems levels
+behind_head (header.Map (Some n)) levels = entered (Items (n + n)) levels
+behind_head (header.Map None) levels = entered OpenKeys levels
+behind_head (header.Tag n) levels = entered (Items 1) levels
 behind_head (header.Simple n) levels = behind_item levels
 behind_head (header.Float size) levels = behind_item levels
 behind_head header.Break levels = behind_break levels
 
--- the levels behind a step, of which these are open around the innermost before it
+-- the levels behind a step, of which these are unfinished around the innermost before it
 abbrev pub levels_by : Step → List Level → Option (List Level)
 levels_by (step.Within level) levels = Some (level ∷ levels)
-levels_by (step.Opens level inner) levels = Some (inner ∷ level ∷ levels)
+levels_by (step.Enters level inner) levels = Some (inner ∷ level ∷ levels)
 levels_by step.Ends levels = Some levels
 levels_by step.Misplaced levels = None
 

@@ -118,7 +118,7 @@ fn copy_held<R: BufRead>(
 struct Walk {
     // Where the next head begins.
     offset: usize,
-    // What is open before it.
+    // What is unfinished before it.
     levels: Levels,
 }
 

@@ -21,7 +21,7 @@ pub enum NoItem {
     /// Whatever follows, none does: the head at this offset is not well-formed or may not stand
     /// there, or it is that of a text that is not UTF-8.
     Malformed(usize),
-    /// The head at this offset opens a level within 256 others. A level is an array, a map, a tag
+    /// The head at this offset enters a level within 256 others. A level is an array, a map, a tag
     /// or a string of indefinite length.
     TooDeep(usize),
 }
@@ -33,7 +33,7 @@ pub struct ItemHead<'b> {
     pub header: Header,
     /// Its offset from the front of the item.
     pub offset: usize,
-    /// How many levels are open around it.
+    /// How many levels are unfinished around it.
     pub depth: usize,
     /// Its bytes.
     pub bytes: &'b [u8],
@@ -114,14 +114,14 @@ fn payload_of(header: Header, rest: &[u8]) -> Payload
 impl<'b> ItemHeads<'b> {
     ghost use Rattle.std.specs.Prelude.{◌≡◌, ◌∷◌, [], IsFalse, IsTrue};
     ghost use Rattle.ciborium_ll.specs.declared.levels.Level.TheVariants.{Items};
-    ghost use Rattle.ciborium_ll.specs.ItemHeads.{HasRead, IsNext, open_in, unread};
+    ghost use Rattle.ciborium_ll.specs.ItemHeads.{HasRead, IsNext, unfinished_in, unread};
     ghost use Rattle.ciborium_ll.specs.inner.Fronts.{IsNoChunk, MayBeChunk};
 
     /// Reads the heads of the item at the front of these bytes.
     pub fn new(bytes: &'b [u8]) -> ItemHeads<'b>
         ensures bytes { result.bytes.now ≡ bytes.now }
         ensures offset { result.offset ≡ 0 }
-        ensures levels { open_in result ≡ Items 1 ∷ [] }
+        ensures levels { unfinished_in result ≡ Items 1 ∷ [] }
         ensures begins { HasRead result }
     {
         ItemHeads {
@@ -150,8 +150,8 @@ impl<'b> ItemHeads<'b> {
 
     // Whether this begins no part of the string of indefinite length that is read, and no break.
     fn is_no_chunk(&self, rest: &[u8]) -> bool
-        ensures yes { IsTrue result → IsNoChunk (open_in self.now) rest.now }
-        ensures no { IsFalse result → MayBeChunk (open_in self.now) rest.now }
+        ensures yes { IsTrue result → IsNoChunk (unfinished_in self.now) rest.now }
+        ensures no { IsFalse result → MayBeChunk (unfinished_in self.now) rest.now }
     {
         let Some(major) = self.levels.chunk_major() else {
             return false;

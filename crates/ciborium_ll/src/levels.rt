@@ -1,8 +1,8 @@
-//! What is open around a place inside an item.
+//! What is unfinished around a place inside an item.
 
 ghost use Rattle.std.specs.Prelude.{◌≡◌, ◌∷◌, List, option_map};
 ghost use Rattle.ciborium_ll.specs.Levels as levels;
-ghost use Rattle.ciborium_ll.specs.Levels.{behind_head, opened, behind_break, levels_by};
+ghost use Rattle.ciborium_ll.specs.Levels.{behind_head, entered, behind_break, levels_by};
 
 use crate::header::Header;
 
@@ -31,8 +31,8 @@ const MOST_LEVELS: usize = 257;
 pub enum Step {
     /// It becomes this one.
     Within(Level),
-    /// It becomes the first one, and the second is open inside it.
-    Opens(Level, Level),
+    /// It becomes the first one, and the second is entered inside it.
+    Enters(Level, Level),
     /// It has ended.
     Ends,
     /// The head may not stand there.
@@ -68,11 +68,11 @@ fn within(level: Level) -> Step
 
 // The step of an item with parts.
 #[inline(always)]
-fn opens(level: Level, inner: Level) -> Step
-    ensures { (around : List Level) → opened inner (level ∷ around) ≡ levels_by result around }
+fn enters(level: Level, inner: Level) -> Step
+    ensures { (around : List Level) → entered inner (level ∷ around) ≡ levels_by result around }
 {
     match behind_item(level) {
-        Some(level) => Step::Opens(level, inner),
+        Some(level) => Step::Enters(level, inner),
         None => Step::Misplaced,
     }
 }
@@ -97,13 +97,13 @@ pub fn step_of(header: Header, level: Level) -> Step
     match (header, level) {
         (Header::Bytes(Some(_)), Level::ByteChunks) => Step::Within(level),
         (Header::Text(Some(_)), Level::TextChunks) => Step::Within(level),
-        (Header::Bytes(None), _) => opens(level, Level::ByteChunks),
-        (Header::Text(None), _) => opens(level, Level::TextChunks),
-        (Header::Array(Some(n)), _) => opens(level, Level::Items(n as u128)),
-        (Header::Array(None), _) => opens(level, Level::OpenItems),
-        (Header::Map(Some(n)), _) => opens(level, Level::Items(n as u128 * 2)),
-        (Header::Map(None), _) => opens(level, Level::OpenKeys),
-        (Header::Tag(_), _) => opens(level, Level::Items(1)),
+        (Header::Bytes(None), _) => enters(level, Level::ByteChunks),
+        (Header::Text(None), _) => enters(level, Level::TextChunks),
+        (Header::Array(Some(n)), _) => enters(level, Level::Items(n as u128)),
+        (Header::Array(None), _) => enters(level, Level::OpenItems),
+        (Header::Map(Some(n)), _) => enters(level, Level::Items(n as u128 * 2)),
+        (Header::Map(None), _) => enters(level, Level::OpenKeys),
+        (Header::Tag(_), _) => enters(level, Level::Items(1)),
         (Header::Break, _) => ends(level),
         _ => within(level),
     }
@@ -114,14 +114,14 @@ pub fn step_of(header: Header, level: Level) -> Step
 pub(crate) enum Misfit {
     // It may not stand there.
     Misplaced,
-    // It opens a level more than are kept.
+    // It enters a level more than are kept.
     TooDeep,
 }
 
-// The levels around a place: those of the room from `free` on, the innermost first.
+// The levels around a place: those kept from `free` on, the innermost first.
 #[derive(Drop)]
 pub(crate) struct Levels {
-    room: [Level; MOST_LEVELS],
+    kept: [Level; MOST_LEVELS],
     free: usize,
 }
 
@@ -136,10 +136,10 @@ impl Levels {
     pub(crate) fn new() -> Levels
         ensures { levels_in result ≡ Items 1 ∷ [] }
     {
-        let mut room = [Level::OpenItems; MOST_LEVELS];
-        room[MOST_LEVELS - 1] = Level::Items(1);
+        let mut kept = [Level::OpenItems; MOST_LEVELS];
+        kept[MOST_LEVELS - 1] = Level::Items(1);
         Levels {
-            room,
+            kept,
             free: MOST_LEVELS - 1,
         }
     }
@@ -148,9 +148,9 @@ impl Levels {
     fn top(&self) -> Option<Level>
         ensures top { result ≡ top_of (levels_in self.now) }
         ensures within { IfSome result (λ _. self.now.free < 257) }
-        ensures room { length self.now.room ≡ 257 }
+        ensures kept { length self.now.kept ≡ 257 }
     {
-        self.room.get(self.free).copied()
+        self.kept.get(self.free).copied()
     }
 
     // Drops the levels that are complete.
@@ -170,14 +170,14 @@ impl Levels {
             return Err(Misfit::Misplaced);
         };
         match step_of(header, top) {
-            Step::Within(level) => self.room[self.free] = level,
-            Step::Opens(level, inner) => {
+            Step::Within(level) => self.kept[self.free] = level,
+            Step::Enters(level, inner) => {
                 if self.free == 0 {
                     return Err(Misfit::TooDeep);
                 }
-                self.room[self.free] = level;
+                self.kept[self.free] = level;
                 self.free -= 1;
-                self.room[self.free] = inner;
+                self.kept[self.free] = inner;
             }
             Step::Ends => self.free += 1,
             Step::Misplaced => return Err(Misfit::Misplaced),
@@ -193,7 +193,7 @@ impl Levels {
         self.top().is_none()
     }
 
-    // How many levels are open.
+    // How many levels are unfinished.
     pub(crate) fn depth(&self) -> usize
         ensures { result ≡ length (levels_in self.now) }
     {

@@ -1,5 +1,5 @@
 -- Where a source stands: before an item or after one, and what follows in the containers that are
--- open around it.
+-- unfinished around it.
 use Rattle.std.specs.{Prelude.{ℕ, Bool, true, false, List}, Borrow.GName}
 use Rattle.ciborium_ll.specs.Item.{Item}
 use Rattle.ciborium_value.specs.{Nesting.Limit, Given.deeper_if}

@@ -52,7 +52,7 @@ is_open (Some n) = false
 
 -- ---- places
 
--- the items that are done in the innermost container, what it announced, and what is open around
+-- the items that are done in the innermost container, what it announced, and what is unfinished around
 -- it. The top holds the one item
 -- that is written, the writer whose bytes are known, and the bytes before it; a tag waits for its
 -- item

@@ -23,7 +23,8 @@ const RUNS: &[(&[&str], &str, &str, u8)] = &[
     (&["read", "002"], "8180", "ok 8180\n", 0),
     (&["read", "0"], "c24101", "ok 01\n", 0),
     (&["read", "0"], "80", "nesting\n", 1),
-    (&["read", "18446744073709551615"], "80", "ok 80\n", 0),
+    (&["read", "10000"], "80", "ok 80\n", 0),
+    (&["read", "0010000"], "80", "ok 80\n", 0),
     (
         &["read", "--det"],
         "01\n1800\n9f01ff\nc24101\na202030102\n",
@@ -784,13 +785,7 @@ const NOTATION_RUNS: &[(&[&str], &[u8], &[u8], &str, u8)] = &[
         "",
         1,
     ),
-    (
-        &["encode", "18446744073709551615"],
-        b"[[]]",
-        b"8180\n",
-        "",
-        0,
-    ),
+    (&["encode", "10000"], b"[[]]", b"8180\n", "", 0),
     (
         &["encode", "--binary"],
         b"24\n[1, h'02']\n",
@@ -907,31 +902,47 @@ fn answers_a_line_longer_than_its_buffer(rt: HostRuntime) -> Result<(), Fail> {
     Ok(())
 }
 
-// A command, so many nested arrays, how what is written for them begins, and the status.
-const NESTED: [(&str, usize, &str, u8); 10] = [
-    ("diag", 256, "[[[[", 0),
-    ("diag", 257, "nesting\n", 1),
-    ("read", 256, "ok 8181", 0),
-    ("read", 257, "nesting\n", 1),
-    ("canon", 256, "ok 8181", 0),
-    ("canon", 257, "nesting\n", 1),
-    ("seq", 256, "ok 8181", 0),
-    ("seq", 257, "item 1: nesting\n", 1),
-    ("sort", 256, "8181", 0),
-    ("sort", 257, "line 1: nesting\n", 1),
+// Arrays around one another: each but the innermost, that one, and what ends the others.
+const HEX: [&str; 3] = ["81", "80", ""];
+const NOTATION: [&str; 3] = ["[", "[]", "]"];
+
+// The words, so many nested arrays, how what is written for them begins, and the status.
+const NESTED: &[(&[&str], usize, [&str; 3], &str, u8)] = &[
+    (&["diag"], 256, HEX, "[[[[", 0),
+    (&["diag"], 257, HEX, "nesting\n", 1),
+    (&["read"], 256, HEX, "ok 8181", 0),
+    (&["read"], 257, HEX, "nesting\n", 1),
+    (&["canon"], 256, HEX, "ok 8181", 0),
+    (&["canon"], 257, HEX, "nesting\n", 1),
+    (&["seq"], 256, HEX, "ok 8181", 0),
+    (&["seq"], 257, HEX, "item 1: nesting\n", 1),
+    (&["sort"], 256, HEX, "8181", 0),
+    (&["sort"], 257, HEX, "line 1: nesting\n", 1),
+    // The stack suffices for the greatest limit.
+    (&["diag", "10000"], 10_000, HEX, "[[[[", 0),
+    (&["diag", "10000"], 10_001, HEX, "nesting\n", 1),
+    (&["read", "10000"], 10_000, HEX, "ok 8181", 0),
+    (&["read", "10000"], 10_001, HEX, "nesting\n", 1),
+    (&["read", "--det", "10000"], 10_000, HEX, "ok 8181", 0),
+    (&["canon", "10000"], 10_000, HEX, "ok 8181", 0),
+    (&["encode", "10000"], 10_000, NOTATION, "8181", 0),
+    (&["encode", "10000"], 10_001, NOTATION, "nested too deep", 1),
 ];
 
 #[test]
-fn allows_256_levels(rt: HostRuntime) -> Result<(), Fail> {
-    for (command, levels, start, status) in NESTED {
+fn allows_levels_to_the_limit(rt: HostRuntime) -> Result<(), Fail> {
+    for (words, levels, [array, innermost, end], start, status) in NESTED {
         let mut line = String::new(rt.alloc());
-        for _ in 1..levels {
-            line.push_str("81")?;
+        for _ in 1..*levels {
+            line.push_str(array)?;
         }
-        line.push_str("80")?;
-        let ended = run_on_text(rt.alloc(), &[command], line.as_str())?;
-        assert_eq!(rt; ended.status, status);
-        assert!(rt; ended.output.starts_with(start.as_bytes()));
+        line.push_str(innermost)?;
+        for _ in 1..*levels {
+            line.push_str(end)?;
+        }
+        let ended = run_on_text(rt.alloc(), words, line.as_str())?;
+        assert_eq!(rt; ended.status, *status, "{words:?}");
+        assert!(rt; ended.output.starts_with(start.as_bytes()), "{words:?}");
     }
     Ok(())
 }
@@ -987,6 +998,8 @@ const WRONG_WORDS: &[&[&str]] = &[
     &["READ"],
     &["read "],
     &["read", ""],
+    &["read", "10001"],
+    &["read", "18446744073709551615"],
     &["read", "18446744073709551616"],
     &["read", "-1"],
     &["read", "+1"],
@@ -1018,7 +1031,7 @@ const WRONG_WORDS: &[&[&str]] = &[
     &["canon", "--core", ""],
     &["CANON"],
     &["canon "],
-    &["canon", "18446744073709551616"],
+    &["canon", "10001"],
     &["read", "canon"],
     &["sort", "--core", "5"],
     &["sort", "5", "--core"],
@@ -1046,7 +1059,7 @@ const WRONG_WORDS: &[&[&str]] = &[
     &["diag", "1", "--indent"],
     &["diag", "--binary", "--binary"],
     &["diag", "--binary", "--binary", "a.cbor"],
-    &["diag", "--binary", "18446744073709551616", "a.cbor"],
+    &["diag", "--binary", "10001", "a.cbor"],
     &["diag", "--binary", "-1", "a.cbor"],
     &["diag", "--binary", ""],
     &["diag", "--indent", "a.cbor"],
@@ -1124,7 +1137,7 @@ fn refuses_wrong_words_for_very_heads(rt: HostRuntime) -> Result<(), Fail> {
 const WRONG_ENCODE_WORDS: &[&[&str]] = &[
     &["encode", "x"],
     &["encode", "+1"],
-    &["encode", "18446744073709551616"],
+    &["encode", "10001"],
     &["encode", "1", "2"],
     &["encode", "a.cbor"],
     &["encode", "--core"],

@@ -111,10 +111,10 @@ module _ {X : Type 0} (SpellsPart : List ℕ → X → Type 0) where
               ),
             )
 
-    open-end : (span : Span) (xs : List X) (s r b x y : List ℕ) → HoldsParts None span xs →
+    unfinished-end : (span : Span) (xs : List X) (s r b x y : List ℕ) → HoldsParts None span xs →
         AreLeft SpellsPart span s xs → b ≡ s ++ (ending span ++ r) → SpellsHeader x header.Break → b ≡ x ++ y →
         (xs ≡ []) × (y ≡ r)
-    open-end span xs s r b x y hold left e hd f = by (open-front span xs s r b hold left e)
+    unfinished-end span xs s r b x y hold left e hd f = by (open-front span xs s r b hold left e)
       where
         by : IsFront SpellsPart xs b r → (xs ≡ []) × (y ≡ r)
         by (inl (none, g)) = (
@@ -352,7 +352,7 @@ module _ {S W : Type 0} (remaining : S → Option (List ℕ)) where
   leaves-open old mid new q is kept took levels none into = (
     λ l span its f (b, u, (s, r, stand, rest, e), lv, ahead) (lq, hold).
         let (x, y, hd, g, un) = took b u in
-        let (empty, all) = open-end Spells item-begins span its s r b x y (subst (λ k. HoldsItems k span its) is hold)
+        let (empty, all) = unfinished-end Spells item-begins span its s r b x y (subst (λ k. HoldsItems k span its) is hold)
         stand e hd g in (
           empty,
           stands-past remaining old new l q y f (kept-reader remaining old new kept b u) levels none (into y un)
@@ -360,7 +360,7 @@ module _ {S W : Type 0} (remaining : S → Option (List ℕ)) where
         ),
     λ l span its f (b, u, (s, r, stand, rest, e), lv, ahead) (lq, hold).
         let (x, y, hd, g, un) = took b u in
-        let (empty, all) = open-end SpellsPair pair-begins span its s r b x y
+        let (empty, all) = unfinished-end SpellsPair pair-begins span its s r b x y
         (subst (λ k. HoldsPairs k span its) is hold) stand e hd g in (
           empty,
           stands-past remaining old new l q y f (kept-reader remaining old new kept b u) levels none (into y un)

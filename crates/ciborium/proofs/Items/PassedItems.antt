@@ -2,7 +2,7 @@
 use Rattle.std.proofs.Common.{◌≡◌, ℕ, suc, ◌≤◌, max, List, [], ◌∷◌, ◌++◌, length, Option, Some, None, Bool, true, false}
 use Rattle.std.proofs.{Common.{refl, sym, ap, subst, arith, cond, leb, option_map, append_assoc}, lemmas.Bool.le-leb}
 use Rattle.std.proofs.lemmas.Bool.{leb-true}
-use Rattle.ciborium_ll.proofs.{LevelFronts.{behind-open, behind-to}, LevelHeads.{TakesLevel, to-behind}}
+use Rattle.ciborium_ll.proofs.{LevelFronts.{behind-unfinished, behind-to}, LevelHeads.{TakesLevel, to-behind}}
 use Rattle.ciborium_ll.{proofs.LevelsTo.{Standing, IsFlat, around, done, item-to}, specs.Head.IsHead}
 use Rattle.ciborium_ll.specs.{Header.{SpellsHeader, announced_length}, Item.{Item, bytes, array, tag}}
 use Rattle.ciborium_ll.specs.{Levels.{IsPayloadOf, behind_head, behind_item}, declared.header.Header.Header}
@@ -120,7 +120,7 @@ module _ (l : Limit) where
   pub to-within : (header : Header) (h p y z : List ℕ) (levels more : List Level) → SpellsHeader h header →
       IsPayloadOf header p → behind_head header levels ≡ Some more → HasRoom l header levels → LevelsTo l more y z →
       LevelsTo l levels (h ++ (p ++ y)) z
-  to-within header h p y z [] more hd content behind room ends = absurd (behind-open header [] more behind)
+  to-within header h p y z [] more hd content behind room ends = absurd (behind-unfinished header [] more behind)
   to-within header h p y z (level ∷ levels) more hd content behind room ends =
       to-behind (within l) header h p y z (level ∷ levels) more hd content behind
       (λ takes m e. room (takes-one header takes) m e) ends

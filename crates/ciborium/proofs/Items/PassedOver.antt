@@ -1,10 +1,10 @@
 -- An item that is passed over head by head: what is said of each, and then of the item.
 use Rattle.std.proofs.Common.{◌≡◌, ℕ, suc, ◌+◌, ◌≤◌, ◌<◌, Bool, true, false, List, [], ◌∷◌, ◌++◌, length, length-append}
 use Rattle.std.proofs.Common.{Option, Some, None, refl, sym, ap, ◌∙◌, subst, arith, ltb, ltb-true, ltb-false}
-use Rattle.ciborium_ll.proofs.{LevelFronts.{AreOpen, are-open, behind-to, front, misplaced}, LevelHeads.opened-inner}
+use Rattle.ciborium_ll.proofs.{LevelFronts.{AreUnfinished, are-unfinished, behind-to, front, misplaced}, LevelHeads.entered-inner}
 use Rattle.ciborium_ll.proofs.LevelsTo.{around, behind-around, done, from-incomplete, longer, not-done, start, started}
 use Rattle.ciborium_ll.{proofs.{LevelsTo.to-incomplete, OneHeader.one_header_at_front}, specs.Header.SpellsHeader}
-use Rattle.ciborium_ll.specs.{Item.Item, Levels.{IsPayloadOf, behind_head, behind_item, incomplete, levels_by, opened}}
+use Rattle.ciborium_ll.specs.{Item.Item, Levels.{IsPayloadOf, behind_head, behind_item, incomplete, levels_by, entered}}
 use Rattle.ciborium_ll.specs.{Spells.Spells, declared.{header.Header.Header, levels.Level.{Level, TheVariants.Items}}}
 use Rattle.ciborium_ll.specs.declared.levels.Step.{Step}
 use Rattle.ciborium_value.{proofs.Sources.SkippedItems.{skip-gives, skip-nests}, specs.Given.{gives, nests, outcome}}
@@ -18,8 +18,8 @@ use Rattle.ciborium_ll.specs.declared.header.Header.TheVariants as heads
 use Rattle.ciborium_ll.specs.declared.levels.Step.TheVariants as step
 
 pub open-levels : (level : Level) (around : List Level) → incomplete (level ∷ around) ≡ level ∷ around →
-    AreOpen (level ∷ around)
-open-levels level around e = are-open (level ∷ around) e (λ n. absurd cc)
+    AreUnfinished (level ∷ around)
+open-levels level around e = are-unfinished (level ∷ around) e (λ n. absurd cc)
 
 -- ---- faults
 
@@ -46,7 +46,7 @@ record Behind (levels : List Level) (header : Header) (y z : List ℕ) : Type 0 
   whole : y ≡ payload ++ rest
   ends : LevelsTo None more rest z
 
-behind-front : (levels : List Level) (header : Header) (x y z : List ℕ) → SpellsHeader x header → AreOpen levels →
+behind-front : (levels : List Level) (header : Header) (x y z : List ℕ) → SpellsHeader x header → AreUnfinished levels →
     LevelsTo None levels (x ++ y) z → Behind levels header y z
 behind-front levels header x y z spelled some to =
     let f = front (within None) levels (x ++ y) z some to in
@@ -61,7 +61,7 @@ behind-front levels header x y z spelled some to =
 
 -- where something ends the levels, the next head is refused for what no item decides
 pub head-outside : {S : Type 0} (IsUnread : S → List ℕ → Type 0) (End : S → ℕ) (old : S) (fault : Fault)
-    (levels : List Level) → AreOpen levels → DeniesHead IsUnread End old fault → (y z : List ℕ) (end : ℕ) →
+    (levels : List Level) → AreUnfinished levels → DeniesHead IsUnread End old fault → (y z : List ℕ) (end : ℕ) →
     IsUnread old y → LevelsTo None levels y z → End old ≤ end + length z → IsOutsideFault end fault
 head-outside IsUnread End old fault levels some denied y z end u to fits =
     let f = front (within None) levels y z some to in
@@ -74,7 +74,7 @@ head-outside IsUnread End old fault levels some denied y z end u to fits =
 module _ (P Q : List ℕ → Type 0) (all ahead : ℕ) (header : Header) (takes : TakesFront P Q header)
     (same : (y : List ℕ) → P y → ahead ≡ all) (fault : Fault) (denied : DeniesPayload Q ahead header fault) where
   -- and so is the payload of this head
-  pub payload-outside : (levels : List Level) → AreOpen levels → (y z : List ℕ) (end : ℕ) → P y →
+  pub payload-outside : (levels : List Level) → AreUnfinished levels → (y z : List ℕ) (end : ℕ) → P y →
       LevelsTo None levels y z → all ≤ end + length z → IsOutsideFault end fault
   payload-outside levels some y z end u to fits =
       let (x, w, spelled, split, v) = takes y u in
@@ -85,7 +85,7 @@ module _ (P Q : List ℕ → Type 0) (all ahead : ℕ) (header : Header) (takes 
 
 -- ---- heads that were refused
 
-module _ (P : List ℕ → Type 0) (all m : ℕ) (levels : List Level) (fault : Fault) (some : AreOpen levels) where
+module _ (P : List ℕ → Type 0) (all m : ℕ) (levels : List Level) (fault : Fault) (some : AreUnfinished levels) where
   pub head-denied : {S : Type 0} (IsUnread : S → List ℕ → Type 0) (End : S → ℕ) (old : S) →
       ((y : List ℕ) → P y → IsUnread old y) → End old ≡ all → DeniesHead IsUnread End old fault →
       DeniesLevels P all m levels fault
@@ -121,20 +121,20 @@ string-denied P Q all ahead header content t fault is takes same denied y z end 
 
 -- ---- a head that was passed over
 
-opened-longer : (level : Level) (levels more : List Level) → opened level levels ≡ Some more →
+entered-longer : (level : Level) (levels more : List Level) → entered level levels ≡ Some more →
     length more ≡ suc (suc (around levels))
-opened-longer level levels more e =
-    let (rest, behind, same) = opened-inner level levels more e in
+entered-longer level levels more e =
+    let (rest, behind, same) = entered-inner level levels more e in
     ap length same ∙ ap suc (behind-around levels rest behind)
 
 -- a head that takes a level makes one more
 longer-by-one : (header : Header) (levels more : List Level) → takes_one header ≡ true →
     behind_head header levels ≡ Some more → length more ≡ suc (suc (around levels))
-longer-by-one (heads.Array (Some n)) levels more one e = opened-longer (Items n) levels more e
-longer-by-one (heads.Array None) levels more one e = opened-longer _ levels more e
-longer-by-one (heads.Map (Some n)) levels more one e = opened-longer (Items (n + n)) levels more e
-longer-by-one (heads.Map None) levels more one e = opened-longer _ levels more e
-longer-by-one (heads.Tag n) levels more one e = opened-longer (Items 1) levels more e
+longer-by-one (heads.Array (Some n)) levels more one e = entered-longer (Items n) levels more e
+longer-by-one (heads.Array None) levels more one e = entered-longer _ levels more e
+longer-by-one (heads.Map (Some n)) levels more one e = entered-longer (Items (n + n)) levels more e
+longer-by-one (heads.Map None) levels more one e = entered-longer _ levels more e
+longer-by-one (heads.Tag n) levels more one e = entered-longer (Items 1) levels more e
 longer-by-one header levels more one e = absurd cc
 
 -- it has no payload
@@ -146,13 +146,13 @@ one-plain header p one content = absurd cc
 
 -- a step that is none of the others ends the innermost level
 pub is-end : (one : Step) (o : Option (List Level)) (levels : List Level) → ((l : Level) → ¬ (one ≡ step.Within l)) →
-    ((l k : Level) → ¬ (one ≡ step.Opens l k)) → ¬ (one ≡ step.Misplaced) → o ≡ levels_by one levels → o ≡ Some levels
+    ((l k : Level) → ¬ (one ≡ step.Enters l k)) → ¬ (one ≡ step.Misplaced) → o ≡ levels_by one levels → o ≡ Some levels
 is-end (step.Within l) o levels a b d e = absurd (a l refl)
-is-end (step.Opens l k) o levels a b d e = absurd (b l k refl)
+is-end (step.Enters l k) o levels a b d e = absurd (b l k refl)
 is-end step.Ends o levels a b d e = e
 is-end step.Misplaced o levels a b d e = absurd (d refl)
 
--- a head behind which no more levels are open than before it takes none
+-- a head behind which no more levels are unfinished than before it takes none
 pub stays : (m : ℕ) (limited : Bool) (header : Header) (level : Level) (levels more : List Level) →
     behind_head header (level ∷ levels) ≡ Some more → length more ≤ suc (length levels) →
     HasRoom (limit_if limited m) header (level ∷ levels)
@@ -197,7 +197,7 @@ module _ (P Q R : List ℕ → Type 0) (m : ℕ) where
       let (p, r, content, rest, t) = took w v in
       let (n, k, g, q, s, is, is_bignum, string, small, string_content, split_string, there) = bignum r t in
       let none = one-plain header p (ap takes_one is) content in
-      let (others, item_behind, same) = opened-inner (Items 1) levels (inner ∷ next)
+      let (others, item_behind, same) = entered-inner (Items 1) levels (inner ∷ next)
       (subst (λ h. behind_head h levels ≡ Some (inner ∷ next)) is behind) in
       let next_is : others ≡ next = cc same in
       let behind_next : behind_item levels ≡ Some next = item_behind ∙ ap Some next_is in
@@ -218,7 +218,7 @@ module _ (P Q R : List ℕ → Type 0) (m : ℕ) where
 
   -- none stands there, or it was refused
   pub bignum-denied : (all ahead : ℕ) (level : Level) (levels next : List Level) (inner : Level) (header : Header)
-      (fault : Fault) → AreOpen (level ∷ levels) → TakesFront P Q header → TakesPayload Q R header →
+      (fault : Fault) → AreUnfinished (level ∷ levels) → TakesFront P Q header → TakesPayload Q R header →
       behind_head header (level ∷ levels) ≡ Some (inner ∷ next) → takes_one header ≡ true → m ≤ length levels →
       ((y : List ℕ) → P y → ahead ≡ all) → DeniesBignum R ahead header fault →
       DeniesLevels P all m (level ∷ levels) fault
@@ -230,7 +230,7 @@ module _ (P Q R : List ℕ → Type 0) (m : ℕ) where
       let at = same y u in
       let whole : y ≡ x ++ r = split ∙ ap (λ (c : List ℕ). x ++ c) (rest ∙ ap (λ (c : List ℕ). c ++ r) none) in
       let inside : (n : ℕ) → header ≡ heads.Tag n → LevelsTo None (Items 1 ∷ next) r z = λ n is.
-      let (others, item_behind, level_is) = opened-inner (Items 1) (level ∷ levels) (inner ∷ next)
+      let (others, item_behind, level_is) = entered-inner (Items 1) (level ∷ levels) (inner ∷ next)
       (subst (λ h. behind_head h (level ∷ levels) ≡ Some (inner ∷ next)) is behind) in
       let inner_is : inner ∷ next ≡ Items 1 ∷ next = ap (λ i. i ∷ next) (cc level_is) in
       subst (λ ls. LevelsTo None ls r z) inner_is

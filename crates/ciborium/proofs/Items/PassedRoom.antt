@@ -4,7 +4,7 @@ use Rattle.std.proofs.Common.{ap, ◌∙◌, subst, append_assoc, arith, ◌-◌
 use Rattle.ciborium_ll.specs.{declared.header.Header.Header, declared.levels.Level.Level, Header.SpellsHeader}
 use Rattle.ciborium_ll.specs.Item.{Item, unsigned, negative, bytes, text, array, tag, simple, float, items_count}
 use Rattle.ciborium_ll.specs.{Item.pairs_count, Spells.Spells, StringRefusal.{of_bytes, of_text}}
-use Rattle.ciborium_ll.proofs.LevelFronts.{AreOpen, FirstOf, of_item, of_part, of_break, first-of}
+use Rattle.ciborium_ll.proofs.LevelFronts.{AreUnfinished, FirstOf, of_item, of_part, of_break, first-of}
 use Rattle.ciborium_ll.proofs.OneHeader.{one_header_at_front}
 use Rattle.ciborium_value.specs.{Meaning.{folding_bytes, is_bignum_tag}, Nesting.{Limit, IsWithin, nesting}}
 use Rattle.ciborium_value.specs.Nesting.{items_nesting, pairs_nesting, tag_nesting}
@@ -20,7 +20,7 @@ module _ (l : Limit) where
 
   -- a head that takes a level begins an item
   item-ahead : (header : Header) (h y z : List ℕ) (level : Level) (levels : List Level) → takes_one header ≡ true →
-      SpellsHeader h header → AreOpen (level ∷ levels) → LevelsTo l (level ∷ levels) (h ++ y) z →
+      SpellsHeader h header → AreUnfinished (level ∷ levels) → LevelsTo l (level ∷ levels) (h ++ y) z →
       (c : List ℕ) × ItemTo l (length levels) (h ++ y) c
   item-ahead header h y z level levels takes spelled some ends =
       by (first-of (within l) level levels (h ++ y) z some ends)
@@ -43,7 +43,7 @@ module _ (l : Limit) where
   -- it is no array and no map
   pub no-room : (m : ℕ) (header : Header) (h y z : List ℕ) (level : Level) (levels : List Level) →
       takes_one header ≡ true → ((t : ℕ) → ¬ (header ≡ heads.Tag t)) → SpellsHeader h header →
-      AreOpen (level ∷ levels) → l ≡ Some m → m ≤ length levels → LevelsTo l (level ∷ levels) (h ++ y) z → ⊥
+      AreUnfinished (level ∷ levels) → l ≡ Some m → m ≤ length levels → LevelsTo l (level ∷ levels) (h ++ y) z → ⊥
   no-room m header h y z level levels takes no_tag spelled some limit full ends =
       let (c, (i, s, sp, whole, w)) = item-ahead header h y z level levels takes spelled some ends in
       by i (same-head s c h y i header sp spelled (sym whole)).0 w
@@ -56,7 +56,7 @@ module _ (l : Limit) where
 
   -- and a tag only where it folds
   pub no-room-tag : (m t : ℕ) (h y z : List ℕ) (level : Level) (levels : List Level) → SpellsHeader h (heads.Tag t) →
-      AreOpen (level ∷ levels) → l ≡ Some m → m ≤ length levels → LevelsTo l (level ∷ levels) (h ++ y) z →
+      AreUnfinished (level ∷ levels) → l ≡ Some m → m ≤ length levels → LevelsTo l (level ∷ levels) (h ++ y) z →
       (is_bignum_tag t ≡ true) × ((k : ℕ) × (x : List ℕ) × (r : List ℕ) × SpellsHeader x (heads.Bytes (Some k)) ×
       (k ≤ 16) × (y ≡ x ++ r))
   no-room-tag m t h y z level levels spelled some limit full ends =

@@ -130,7 +130,7 @@ pub kept-reader : {S W : Type 0} (remaining : S → Option (List ℕ)) (old new 
 kept-reader remaining old new (same, only) b u = ap (λ n. (n, end_at remaining new)) same ∙
     ap (λ n. (old.decoder.reader.ghost_name, n)) (same-end remaining old new only b u)
 
--- what follows in the open containers begins where the outermost item ends, or before that
+-- what follows in the unfinished containers begins where the outermost item ends, or before that
 end-behind : (n m : ℕ) (span : Span) (b s r : List ℕ) → b ≡ s ++ (ending span ++ r) → n ≤ m + length r →
     n ≤ m + length b
 end-behind n m span b s r e le =

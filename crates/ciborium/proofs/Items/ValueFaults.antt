@@ -260,15 +260,15 @@ holds-by h i w x r s z sp hd e o =
     let same = (same-head s z x r i h sp hd e).0 in
     holds-of i w x r s z sp (subst (SpellsHeader x) (sym same) hd) e (subst (λ k. IsOpening k w) (sym same) o)
 
-opens-at : {b r : List ℕ} {k : ℕ} {w : Due} → BeginsContainer b k r w → (i : Item) (s z : List ℕ) → Spells s i →
+enters-at : {b r : List ℕ} {k : ℕ} {w : Due} → BeginsContainer b k r w → (i : Item) (s z : List ℕ) → Spells s i →
     b ≡ s ++ z → Holds i w r z
-opens-at {r = r} (BeginsContainer.array n (h, hd, len, g)) i s z sp f =
+enters-at {r = r} (BeginsContainer.array n (h, hd, len, g)) i s z sp f =
     holds-by (header.Array (Some n)) i (items (Some n)) h r s z sp hd (sym f ∙ g) refl
-opens-at {r = r} (BeginsContainer.open_array e g) i s z sp f =
+enters-at {r = r} (BeginsContainer.open_array e g) i s z sp f =
     holds-by (header.Array None) i (items None) (open_byte 4 ∷ []) r s z sp refl (sym f ∙ g) refl
-opens-at {r = r} (BeginsContainer.map n (h, hd, len, g)) i s z sp f =
+enters-at {r = r} (BeginsContainer.map n (h, hd, len, g)) i s z sp f =
     holds-by (header.Map (Some n)) i (keys (Some n)) h r s z sp hd (sym f ∙ g) refl
-opens-at {r = r} (BeginsContainer.open_map e g) i s z sp f =
+enters-at {r = r} (BeginsContainer.open_map e g) i s z sp f =
     holds-by (header.Map None) i (keys None) (open_byte 5 ∷ []) r s z sp refl (sym f ∙ g) refl
 
 rest-faults : (end : ℕ) (f : Fault) (o : Outcome Tree) (os : Outcome Trees) (v : Tree) → o ≡ gives v →
@@ -468,12 +468,12 @@ head-size : (b r : List ℕ) (m n k : ℕ) → HasHead b m n k r → length b �
 head-size b r m n k (h, hd, len, g) = let all = ap length g in let both = length-append h r in
     omega (arith, all, both, len)
 
-opening-size : {b r : List ℕ} {k : ℕ} {w : Due} → BeginsContainer b k r w → length b ≡ k + length r
-opening-size {b = b} {r = r} {k = k} (BeginsContainer.array n h) = head-size b r 4 n k h
-opening-size {b = b} {r = r} {k = k} (BeginsContainer.open_array e g) = let size : length b ≡ suc (length r) =
+entering-size : {b r : List ℕ} {k : ℕ} {w : Due} → BeginsContainer b k r w → length b ≡ k + length r
+entering-size {b = b} {r = r} {k = k} (BeginsContainer.array n h) = head-size b r 4 n k h
+entering-size {b = b} {r = r} {k = k} (BeginsContainer.open_array e g) = let size : length b ≡ suc (length r) =
     ap length g in omega (arith, size, e)
-opening-size {b = b} {r = r} {k = k} (BeginsContainer.map n h) = head-size b r 5 n k h
-opening-size {b = b} {r = r} {k = k} (BeginsContainer.open_map e g) = let size : length b ≡ suc (length r) =
+entering-size {b = b} {r = r} {k = k} (BeginsContainer.map n h) = head-size b r 5 n k h
+entering-size {b = b} {r = r} {k = k} (BeginsContainer.open_map e g) = let size : length b ≡ suc (length r) =
     ap length g in omega (arith, size, e)
 
 -- ---- tags
@@ -545,10 +545,10 @@ value-faults {l = l} (Refuses.simple t n r u si none g) i s z end sp f fits = ap
     (simple-only i n (same-head s z t r i (header.Simple n) sp si (sym f ∙ g)).0) ∙ ap (of_meaning kinds.Simple) none
 value-faults (Refuses.break {b = b} u) i s z end sp f fits = absurd (not-break s z b i sp (sym f))
 value-faults (Refuses.no_level k r w u o) i s z end sp f fits =
-    let h = opens-at o i s z sp f in container-nests i h.is h.holds
+    let h = enters-at o i s z sp f in container-nests i h.is h.holds
 value-faults {b = b} {p = p} {l = l} {e = e} (Refuses.part vs r q w below a due sub) i s z end sp f fits =
-    let h = opens-at a.begins i s z sp f in
-    let all = opening-size a.begins in
+    let h = enters-at a.begins i s z sp f in
+    let all = entering-size a.begins in
     let both = length-append a.good r in
     let at = a.at in
     let rest : q + length r ≤ end + length z = omega (arith, all, both, at, fits) in

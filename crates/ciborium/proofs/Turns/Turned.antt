@@ -124,12 +124,12 @@ module _ {S W E : Type 0} (spelling : Spelling) (remaining : S → Option (List 
       subst (λ k. Refuses spelling xs p (Some l) (semantic k Break)) (sym place)
       (broken spelling l xs p os s.0 s.1 s.2 a.0 s.3 none a.1 a.2)
 
--- ---- how many are open
+-- ---- how many are unfinished
 
 same-length : (os us : List TreeFrame) → more os ≡ more us → length us ≤ length os
 same-length os us e = let i : os ≡ us = cc e in omega (arith, ap length i)
 
--- a value closes some, and opens none
+-- a value closes some, and begins none
 pub shallow : (os us : List TreeFrame) (v : Tree) → more us ≡ placed os v → length us ≤ length os
 shallow [] us v e = absurd cc
 shallow (array vs None ∷ os) us v e = same-length (array (vs ++ v ∷ []) None ∷ os) us (sym e)

@@ -1,4 +1,4 @@
--- What a turn of the loop makes of what is open: a value placed, a container ended, a refusal.
+-- What a turn of the loop makes of what is unfinished: a value placed, a container ended, a refusal.
 use Rattle.std.proofs.Common.{◌≡◌, ℕ, zero, suc, ◌+◌, ◌-◌, ◌^◌, ◌<◌, min, List, [], ◌∷◌, ◌++◌, length, Option, Some}
 use Rattle.std.proofs.Common.{None, MatchOption, IsSome, option_map, refl, sym, ap, ◌∙◌, subst, arith}
 use Rattle.std.specs.declared.cmp.Ordering.TheVariants.{Less}
@@ -215,7 +215,7 @@ module _ (spelling : Spelling) where
 
   -- ---- a break ends a container
 
-  -- the container that the break ends, with what is open around it
+  -- the container that the break ends, with what is unfinished around it
   abbrev pub Closes : ℕ → List ℕ → ℕ → List TreeFrame → Tree → List ℕ → ℕ → Type 0
   Closes l xs p os v zs r = (m : ℕ) × (ys : List ℕ) × (q : ℕ) × IsAround spelling l xs p os m ys q ×
       ReadsItem spelling (Some m) ys q v zs r

@@ -50,11 +50,11 @@ abbrev pub IsSimpleRead : {E : Type 0} → ℕ → ℕ → Result Value (Error E
 IsSimpleRead n p (Ok v) = simple_meaning n ≡ Some (tree_of v)
 IsSimpleRead n p (Err e) = (simple_meaning n ≡ None) × (e ≡ Semantic (Some p) kinds.Simple)
 
--- a container or tag that is open at zs begins at ys
+-- a container or tag that is unfinished at zs begins at ys
 abbrev pub IsFrameBegun : Spelling → ℕ → List ℕ → ℕ → TreeFrame → List ℕ → ℕ → Type 0
 IsFrameBegun spelling l ys q o zs r = (m : ℕ) × (l ≡ suc m) × IsOpen spelling o m ys q zs r
 
--- xs refuses so, and is no break that may end what is open
+-- xs refuses so, and is no break that may end what is unfinished
 abbrev pub RefusesPart : Spelling → List ℕ → ℕ → ℕ → Refusal → Type 0
 RefusesPart spelling xs p l = λ r. Refuses spelling xs p (Some l) r × ¬ IsBreakAt xs p
 
@@ -87,7 +87,7 @@ IsPartRead spelling remaining d l xs p (Ok Ended) =
     (zs : List ℕ) × (xs ≡ break_byte ∷ zs) × (p < greatest_offset) × StandsAt spelling remaining d zs (p + 1)
 IsPartRead spelling remaining d l xs p (Err e) = IsRefusedBy (left_of remaining d) e (RefusesPart spelling xs p l)
 
--- a level is left for what was opened
+-- a level is left for what was entered
 abbrev pub HasLevel : Part → ℕ → Type 0
 HasLevel (Whole v) l = Unit {0}
 HasLevel (Begun f) l = 0 < l

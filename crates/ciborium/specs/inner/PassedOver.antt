@@ -10,7 +10,7 @@ use Rattle.ciborium_value.specs.Sources.{IsOutsideFault, of_nesting}
 use Rattle.ciborium.specs.declared.de.byte_source.skipping.Unfinished.{Unfinished}
 use Rattle.ciborium_ll.specs.declared.header.Header.TheVariants as header
 
--- the levels that are left where so many are open
+-- the levels that are left where so many are unfinished
 abbrev pub left_inside : Limit → ℕ → Limit
 left_inside None n = None
 left_inside (Some l) n = Some (l - n)
@@ -28,7 +28,7 @@ ChunksTo kind b z = (payloads : List (List ℕ)) × (r : List ℕ) ×
     AreChunks (string_major kind) (IsAllowed kind) r payloads × (b ≡ r ++ (break_byte ∷ z))
 
 module _ (l : Limit) where
-  -- where n levels are open, an item that nests within those that are left begins b, and z follows
+  -- where n levels are unfinished, an item that nests within those that are left begins b, and z follows
   abbrev pub ItemTo : ℕ → List ℕ → List ℕ → Type 0
   ItemTo n b z = (i : Item) × (s : List ℕ) × Spells s i × (b ≡ s ++ z) × IsWithin (left_inside l n) (nesting i)
 
@@ -37,7 +37,7 @@ module _ (l : Limit) where
   ItemsTo n zero b z = b ≡ z
   ItemsTo n (suc k) b z = (c : List ℕ) × ItemTo n b c × ItemsTo n k c z
 
-  -- what ends a level, around which n are open
+  -- what ends a level, around which n are unfinished
   abbrev pub LevelTo : ℕ → Level → List ℕ → List ℕ → Type 0
   LevelTo n (Items k) b z = ItemsTo n k b z
   LevelTo n OpenItems b z = (k : ℕ) × ItemsTo n k b (break_byte ∷ z)
@@ -51,7 +51,7 @@ module _ (l : Limit) where
   LevelsTo [] b z = b ≡ z
   LevelsTo (level ∷ levels) b z = (c : List ℕ) × LevelTo (length levels) level b c × LevelsTo levels c z
 
-  -- there is a level left for what this head opens, where one is taken for it
+  -- there is a level left for what this head enters, where one is taken for it
   abbrev pub HasRoom : Header → List Level → Type 0
   HasRoom h levels = takes_one h ≡ true → (m : ℕ) → l ≡ Some m → length levels ≤ m
 
@@ -72,7 +72,7 @@ abbrev pub around_by : Option Level → List Level → List Level
 around_by None levels = levels
 around_by (Some level) levels = level ∷ levels
 
--- the levels around the innermost, and all that are open, the innermost first
+-- the levels around the innermost, and all that are unfinished, the innermost first
 abbrev pub around_in : Unfinished → List Level
 around_in o = around_by o.outer (reverse o.around.items)
 

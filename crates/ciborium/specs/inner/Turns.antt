@@ -8,7 +8,7 @@ use Rattle.ciborium.specs.{ValueAnswers.IsRefusedBy, inner.Around.IsAround, inne
 use Rattle.ciborium.specs.{inner.Rules.HasKeyOutOfOrder, inner.ValuesInBytes.StandsAt}
 use Rattle.ciborium_value.specs.declared.kind.Kind.TheVariants as kinds
 
--- a value within l levels is being read at xs, offset p: this is open, and the decoder stands
+-- a value within l levels is being read at xs, offset p: this is unfinished, and the decoder stands
 -- inside it
 abbrev pub IsReading : {S W : Type 0} → Spelling → (S → Option (List ℕ)) → Decoder S W →
     List TreeFrame → ℕ → List ℕ → ℕ → Type 0

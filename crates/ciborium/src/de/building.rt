@@ -1,4 +1,4 @@
-//! The reader of values: one loop over a stack of what is open.
+//! The reader of values: one loop over a stack of what is unfinished.
 
 ghost use Rattle.std.specs.Prelude.{◌≡◌, ◌<◌, ◌≤◌, IfErr, IfOk, List, MatchOption, None};
 ghost use Rattle.std.specs.Prelude.{Ok, OnOk, Some, length, ℕ};

@@ -1,4 +1,4 @@
-//! Tags: those that fold, and those that are opened.
+//! Tags: those that fold, and those that are entered.
 
 ghost use Rattle.std.specs.Prelude.{◌≡◌, ◌≤◌, IfErr, IfOk, List, None, OnOk, Some, length, true, ℕ};
 ghost use Rattle.ciborium_ll.specs.Decoding.{HasSameReader, TakesBeforeAny, pushed_of};

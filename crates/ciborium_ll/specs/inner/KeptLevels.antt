@@ -6,14 +6,14 @@ use Rattle.ciborium_ll.specs.declared.levels.Misfit.TheVariants as misfit
 
 -- the levels that are kept, the innermost first
 abbrev pub levels_in : Levels → List Level
-levels_in l = drop l.free l.room
+levels_in l = drop l.free l.kept
 
 -- the innermost level
 abbrev pub top_of : List Level → Option Level
 top_of [] = None
 top_of (level ∷ levels) = Some level
 
--- a head was counted, or it is refused: it may not stand there, or it opens a level more than are
+-- a head was counted, or it is refused: it may not stand there, or it enters a level more than are
 -- kept
 abbrev pub IsPassed : Header → List Level → List Level → Result (Unit {0}) Misfit → Type 0
 IsPassed header old new (Ok u) = (more : List Level) × (behind_head header old ≡ Some more) × (new ≡ incomplete more)

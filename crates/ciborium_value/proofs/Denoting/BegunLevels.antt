@@ -5,14 +5,14 @@ use Rattle.std.proofs.lemmas.List.{length-reverse, map-append, reverse-append}
 use Rattle.ciborium_value.proofs.Denoting.Steps.{Begun, first-item, first-key, first_leads, key_leads, leads-array}
 use Rattle.ciborium_value.proofs.Denoting.Steps.{leads-comma, leads-end, leads-leaf, leads-map, leads-map-end}
 use Rattle.ciborium_value.proofs.Denoting.Steps.{leads-next-key, leads-no-item, leads-no-pair, leads-tag, leads-tag-end}
-use Rattle.ciborium_value.proofs.{Denoting.Steps.opens-deeper, Trees.Views.{tree_of-Array, tree_of-Map, tree_of-Tag}}
+use Rattle.ciborium_value.proofs.{Denoting.Steps.enters-deeper, Trees.Views.{tree_of-Array, tree_of-Map, tree_of-Tag}}
 use Rattle.ciborium_value.specs.{Denotes.At, Tokens.Token, Tree.Tree, View.{pair_trees, tree_of, tree_pairs_from}}
 use Rattle.ciborium_value.specs.{View.trees_from, declared.from_notation.error.NotationError.NotationError}
 use Rattle.ciborium_value.specs.declared.from_notation.{error.NotationFault.TheVariants.TooDeep, levels.Due.Due}
 use Rattle.ciborium_value.specs.declared.from_notation.{levels.Level.Level, tokens.Token.Token as Read}
 use Rattle.ciborium_value.specs.{declared.tree.Value.Value, inner.ReadTokens.{Around, Await, Leads, around_of, behind}}
 use Rattle.ciborium_value.specs.inner.ReadTokens.{in_array, in_keys, item, Completes, IsMisplaced, IsRoom, array_part}
-use Rattle.ciborium_value.specs.inner.ReadTokens.{await_of, in_tag, in_values, map_part, opens, token_read}
+use Rattle.ciborium_value.specs.inner.ReadTokens.{await_of, in_tag, in_values, map_part, enters, token_read}
 use Rattle.ciborium_value.specs.declared.from_notation.levels.Level.TheVariants as level
 use Rattle.ciborium_value.specs.declared.from_notation.tokens.Token.TheVariants as read
 use Rattle.ciborium_value.specs.declared.tree.Value.TheViews as value
@@ -25,9 +25,9 @@ pub around_last : (levels : List Level) (level : Level) →
 around_last levels level = ap (map around_of) (reverse-append levels (level ∷ []))
 
 -- the levels behind a push
-opened : (ls more : List Level) (level : Level) → more ≡ ls ++ level ∷ [] →
+entered : (ls more : List Level) (level : Level) → more ≡ ls ++ level ∷ [] →
     map around_of (reverse more) ≡ around_of level ∷ map around_of (reverse ls)
-opened ls more level pushed = ap (λ (x : List Level). map around_of (reverse x)) pushed ∙ around_last ls level
+entered ls more level pushed = ap (λ (x : List Level). map around_of (reverse x)) pushed ∙ around_last ls level
 
 -- the same step under other names
 leads_as : (levels : List Around) (due : Await) {k l : Token} {more now : List Around} {next last : Await} →
@@ -43,7 +43,7 @@ pub array_comma : (ws : List Value) (w : Value) (ls more : List Level) (items : 
     Leads (in_array (map tree_of ws) ∷ map around_of (reverse ls)) (behind (tree_of w)) (token_read k)
     (map around_of (reverse more)) item
 array_comma ws w ls more items k comma same pushed = leads_as _ _ (ap token_read (sym comma))
-    (sym (opened ls more (level.Array items) pushed ∙ ap (λ (x : List Tree). in_array x ∷ map around_of (reverse ls))
+    (sym (entered ls more (level.Array items) pushed ∙ ap (λ (x : List Tree). in_array x ∷ map around_of (reverse ls))
     (ap (map tree_of) same ∙ map-append tree_of ws (w ∷ [])))) refl
     (leads-comma (map around_of (reverse ls)) (map tree_of ws) (tree_of w))
 
@@ -61,7 +61,7 @@ pub value_comma : (ps : List (Value × Value)) (key w : Value) (ls more : List L
     Leads (in_values (map pair_trees ps) (tree_of key) ∷ map around_of (reverse ls)) (behind (tree_of w)) (token_read k)
     (map around_of (reverse more)) item
 value_comma ps key w ls more pairs k comma same pushed = leads_as _ _ (ap token_read (sym comma))
-    (sym (opened ls more (level.Keys pairs) pushed ∙
+    (sym (entered ls more (level.Keys pairs) pushed ∙
     ap (λ (x : List (Tree × Tree)). in_keys x ∷ map around_of (reverse ls))
     (ap (map pair_trees) same ∙ map-append pair_trees ps ((key, w) ∷ [])))) refl
     (leads-next-key (map around_of (reverse ls)) (map pair_trees ps) (tree_of key) (tree_of w))
@@ -82,7 +82,7 @@ content_end n w content levels k end same = leads_as _ _ (ap token_read (sym end
     (sym (ap behind (tree_of-Tag n content ∙ ap (λ x. trees.tag n (tree_of x)) same)))
     (leads-tag-end levels n (tree_of w))
 
--- ---- how many are open
+-- ---- how many are unfinished
 
 pub open_count : (ls : List Level) → length (map around_of (reverse ls)) ≡ length ls
 open_count ls = length-map (reverse ls) around_of ∙ length-reverse ls
@@ -105,7 +105,7 @@ map_begun levels k e = leads_as _ _ (ap token_read (sym e)) refl refl (leads-map
 
 pub tag_begun : (ls more : List Level) (n : ℕ) (k : Read) → k ≡ read.BeginTag n → more ≡ ls ++ level.Tag n ∷ [] →
     Leads (map around_of (reverse ls)) item (token_read k) (map around_of (reverse more)) item
-tag_begun ls more n k e pushed = leads_as _ _ (ap token_read (sym e)) (sym (opened ls more (level.Tag n) pushed)) refl
+tag_begun ls more n k e pushed = leads_as _ _ (ap token_read (sym e)) (sym (entered ls more (level.Tag n) pushed)) refl
     (leads-tag (map around_of (reverse ls)) n)
 
 pub no_item_begun : (k : Read) → ((v : Value) → k ≢ read.Leaf v) → ((n : ℕ) → k ≢ read.BeginTag n) →
@@ -139,14 +139,14 @@ not_map_end read.EndMap h e = h refl
 not_map_end k h e = cc e
 
 -- the levels behind a push of an empty array or map
-array_opened : (ls begun : List Level) (items : Vec Value Global) → items.items ≡ [] →
+array_entered : (ls begun : List Level) (items : Vec Value Global) → items.items ≡ [] →
     begun ≡ ls ++ level.Array items ∷ [] → map around_of (reverse begun) ≡ in_array [] ∷ map around_of (reverse ls)
-array_opened ls begun items none pushed = opened ls begun (level.Array items) pushed ∙
+array_entered ls begun items none pushed = entered ls begun (level.Array items) pushed ∙
     ap (λ (x : List Value). in_array (map tree_of x) ∷ map around_of (reverse ls)) none
 
-map_opened : (ls begun : List Level) (pairs : Vec (Value × Value) Global) → pairs.items ≡ [] →
+map_entered : (ls begun : List Level) (pairs : Vec (Value × Value) Global) → pairs.items ≡ [] →
     begun ≡ ls ++ level.Keys pairs ∷ [] → map around_of (reverse begun) ≡ in_keys [] ∷ map around_of (reverse ls)
-map_opened ls begun pairs none pushed = opened ls begun (level.Keys pairs) pushed ∙
+map_entered ls begun pairs none pushed = entered ls begun (level.Keys pairs) pushed ∙
     ap (λ (x : List (Value × Value)). in_keys (map pair_trees x) ∷ map around_of (reverse ls)) none
 
 pub first_taken : (ls begun : List Level) (items : Vec Value Global) (k : Read) (more : List Around)
@@ -156,7 +156,7 @@ pub first_taken : (ls begun : List Level) (items : Vec Value Global) (k : Read) 
 first_taken ls begun items k more (Err e) other none pushed h = tt
 first_taken ls begun items k more (Ok next) other none pushed h =
     first_leads (map around_of (reverse ls)) more (token_read k) (await_of next) (not_array_end k other)
-    (subst (λ o. Leads o item (token_read k) more (await_of next)) (array_opened ls begun items none pushed) h)
+    (subst (λ o. Leads o item (token_read k) more (await_of next)) (array_entered ls begun items none pushed) h)
 
 pub first_misplaced : (ls begun : List Level) (items : Vec Value Global) (k : Read) (limit : ℕ)
     (r : Result Due NotationError) → k ≢ read.EndArray → items.items ≡ [] → begun ≡ ls ++ level.Array items ∷ [] →
@@ -164,7 +164,7 @@ pub first_misplaced : (ls begun : List Level) (items : Vec Value Global) (k : Re
     IfErr r (IsMisplaced (map around_of (reverse ls)) array_part (token_read k) limit)
 first_misplaced ls begun items k limit (Ok next) other none pushed h = tt
 first_misplaced ls begun items k limit (Err e) other none pushed h = λ l t r v at c.
-    h l t r v at (subst (λ o. Completes l o item t v) (sym (array_opened ls begun items none pushed))
+    h l t r v at (subst (λ o. Completes l o item t v) (sym (array_entered ls begun items none pushed))
     (first-item l (map around_of (reverse ls)) (token_read k) t r v (not_array_end k other) at c))
 
 pub key_taken : (ls begun : List Level) (pairs : Vec (Value × Value) Global) (k : Read) (more : List Around)
@@ -174,7 +174,7 @@ pub key_taken : (ls begun : List Level) (pairs : Vec (Value × Value) Global) (k
 key_taken ls begun pairs k more (Err e) other none pushed h = tt
 key_taken ls begun pairs k more (Ok next) other none pushed h =
     key_leads (map around_of (reverse ls)) more (token_read k) (await_of next) (not_map_end k other)
-    (subst (λ o. Leads o item (token_read k) more (await_of next)) (map_opened ls begun pairs none pushed) h)
+    (subst (λ o. Leads o item (token_read k) more (await_of next)) (map_entered ls begun pairs none pushed) h)
 
 pub key_misplaced : (ls begun : List Level) (pairs : Vec (Value × Value) Global) (k : Read) (limit : ℕ)
     (r : Result Due NotationError) → k ≢ read.EndMap → pairs.items ≡ [] → begun ≡ ls ++ level.Keys pairs ∷ [] →
@@ -182,15 +182,15 @@ pub key_misplaced : (ls begun : List Level) (pairs : Vec (Value × Value) Global
     IfErr r (IsMisplaced (map around_of (reverse ls)) map_part (token_read k) limit)
 key_misplaced ls begun pairs k limit (Ok next) other none pushed h = tt
 key_misplaced ls begun pairs k limit (Err e) other none pushed h = λ l t r v at c.
-    h l t r v at (subst (λ o. Completes l o item t v) (sym (map_opened ls begun pairs none pushed))
+    h l t r v at (subst (λ o. Completes l o item t v) (sym (map_entered ls begun pairs none pushed))
     (first-key l (map around_of (reverse ls)) (token_read k) t r v (not_map_end k other) at c))
 
 -- ---- a level more than the limit
 
-pub too_deep : (ls : List Level) (k : Read) (limit : ℕ) (place : ℕ) → opens (token_read k) ≡ true →
+pub too_deep : (ls : List Level) (k : Read) (limit : ℕ) (place : ℕ) → enters (token_read k) ≡ true →
     limit ≤ length ls → IsMisplaced (map around_of (reverse ls)) item (token_read k) limit (At place TooDeep)
-too_deep ls k limit place opened full = λ l t r v at c.
-    let h = opens-deeper l (map around_of (reverse ls)) (token_read k) t r v opened at c in
+too_deep ls k limit place entered full = λ l t r v at c.
+    let h = enters-deeper l (map around_of (reverse ls)) (token_read k) t r v entered at c in
     let count = open_count ls in omega (arith, h, full, count)
 
 -- an answer of which more is known, where less is asked
@@ -199,7 +199,7 @@ pub room_from : {A C : Type 0} (B : Due → Type 0) (r : Result Due NotationErro
 room_from B (Ok next) h f = λ c. h (f c)
 room_from B (Err e) h f = tt
 
--- room behind a token, said of what is open
+-- room behind a token, said of what is unfinished
 pub room_next : (limit most : ℕ) (ls more : List Level) (due next : Await) → limit ≡ most →
     (IsRoom limit (length ls) due → IsRoom limit (length more) next) →
     IsRoom most (length (map around_of (reverse ls))) due → IsRoom most (length (map around_of (reverse more))) next

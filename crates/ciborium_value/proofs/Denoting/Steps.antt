@@ -1,4 +1,4 @@
--- What each token makes of what is open and due.
+-- What each token makes of what is unfinished and due.
 use Rattle.std.proofs.Common.{◌≡◌, ◌≢◌, ℕ, zero, suc, ◌+◌, ◌<◌, Bool, true, false, List, [], ◌∷◌, ◌++◌, length, Some}
 use Rattle.std.proofs.Common.{◌⊎◌, inl, inr, refl, sym, ap, ◌∙◌, subst, arith}
 use Rattle.ciborium_value.specs.Denotes.{Begins, BeginsItems, BeginsPairs, IsSeparated, IsToken, alone, listed, mapped}
@@ -6,7 +6,7 @@ use Rattle.ciborium_value.specs.{Denotes.{no_item, no_pair, pair, tagged}, Token
 use Rattle.ciborium_value.specs.Tokens.{leaf, begin_tag, end_tag, begin_array, end_array, begin_map, end_map, comma}
 use Rattle.ciborium_value.specs.{Tokens.colon, Tree.{Tree, Trees, TreePairs}, View.{trees_from, tree_pairs_from}}
 use Rattle.ciborium_value.specs.inner.ReadTokens.{Around, Complete, Completes, Leads, array_part, behind, in_array}
-use Rattle.ciborium_value.specs.inner.ReadTokens.{in_keys, in_tag, in_values, item, map_part, opens, pairs_before}
+use Rattle.ciborium_value.specs.inner.ReadTokens.{in_keys, in_tag, in_values, item, map_part, enters, pairs_before}
 use Rattle.ciborium_value.specs.inner.ReadTokens.{trees_before}
 use Rattle.ciborium_value.specs.Denotes as denotes
 use Rattle.ciborium_value.specs.Tree as trees
@@ -129,7 +129,7 @@ pub other-behind-value : (l : ℕ) (h : Token) (t r z : List ℕ) (ps : TreePair
 other-behind-value l h t r z ps f g at (no_pair _ _ _ _ is) = f (one-token t h end_map r z at is).0
 other-behind-value l h t r z ps f g at (pair _ _ k v qs _ s u w x _ sep d is y m) = g (one-token t h comma r s at sep).0
 
--- the same tree behind the same text, where as many levels may be open
+-- the same tree behind the same text, where as many levels may be unfinished
 moved : (levels : List Around) (x : Tree) {m n : ℕ} {v w : Tree} {r s : List ℕ} → m ≡ n → v ≡ w → r ≡ s →
     Complete m levels v r x → Complete n levels w s x
 moved levels x {n = n} {v = v} {w = w} {r = r} {s = s} g e f c = subst (λ y. Complete n levels w y x) f
@@ -334,13 +334,13 @@ pub ends : (l : ℕ) (levels : List Around) (due : _) (t : List ℕ) (x : Tree) 
 ends l levels due t x none c = elim (front l levels due t x c)
     [ inl h ↦ h.1 | inr h ↦ absurd (no-token t h.0 h.1 none h.2) ]
 
--- ---- a token that opens a level finds room for it
+-- ---- a token that enters a level finds room for it
 
-pub opens-deeper : (l : ℕ) (levels : List Around) (k : Token) (t r : List ℕ) (x : Tree) → opens k ≡ true →
+pub enters-deeper : (l : ℕ) (levels : List Around) (k : Token) (t r : List ℕ) (x : Tree) → enters k ≡ true →
     IsToken t k r → Completes l levels item t x → length levels < l
-opens-deeper l levels k t r x o at (m, i, w, z, d, c) = of k o (begun k m t r z w at d)
+enters-deeper l levels k t r x o at (m, i, w, z, d, c) = of k o (begun k m t r z w at d)
   where
-    of : (k : Token) → opens k ≡ true → Begun k m r w z → length levels < l
+    of : (k : Token) → enters k ≡ true → Begun k m r w z → length levels < l
     of (begin_tag n) o b = let j = b.1 in omega (arith, i, j)
     of begin_array o b = let j = b.1 in omega (arith, i, j)
     of begin_map o b = let j = b.1 in omega (arith, i, j)

@@ -163,7 +163,7 @@ whole_array : (os : List TreeFrame) (ts : List Tree) (r : Option (List Tree)) �
 whole_array os ts None = refl
 whole_array os ts (Some vs) = refl
 
--- an array is what its items make of it once it is open
+-- an array is what its items make of it once it is begun
 array_opens : (os : List TreeFrame) (us ts : List Tree) (n : ℕ) → length us ≡ suc n →
     copied (more os) (trees.array (trees_from us) ∷ ts) ≡ copied (more (frames.array [] (Some n) ∷ os)) (us ++ ts)
 array_opens os [] ts n h = cc
@@ -238,7 +238,7 @@ whole_map : (os : List TreeFrame) (ts : List Tree) (r : Option (List (Tree × Tr
 whole_map os ts None = refl
 whole_map os ts (Some ps) = refl
 
--- a map is what its keys and values make of it once it is open
+-- a map is what its keys and values make of it once it is begun
 map_opens : (os : List TreeFrame) (ps : List (Value × Value)) (ts : List Tree) (n : ℕ) → length ps ≡ suc n →
     copied (more os) (trees.map (tree_pairs_of ps) ∷ ts) ≡ copied (more (frames.map [] (Some n) None ∷ os))
     (pairs_in_turn ps ++ ts)

@@ -51,7 +51,7 @@ so-string any kind h y short = tt
 so-string (deterministic order) of_bytes h y short = (ap (λ (c : List ℕ). c ++ y) short, tt)
 so-string (deterministic order) of_text h y short = (ap (λ (c : List ℕ). c ++ y) short, tt)
 
--- no spelling but any accepts what is open
+-- no spelling but any accepts what is unfinished
 so-open : (spelling : Spelling) (b : List ℕ) (m : ℕ) (r s : List ℕ) (v : Tree) → 2 ≤ m → m ≤ 5 →
     b ≡ (m * 32 + 31) ∷ r → spelling_fault spelling b ≡ None → IsSpelledSo spelling s v
 so-open any b m r s v low high e fine = tt

@@ -92,7 +92,7 @@ map_whole (suc m) ps (k ∷ v ∷ is) os h =
     (append_assoc ps ((written_tree k, written_tree v) ∷ []) (tree_pair_list is))
 map_whole u ps v os h = absurd (omega (arith, h))
 
--- ---- where an item may come, something is still open
+-- ---- where an item may come, something is unfinished
 
 begun_still : (s : Shape) (n : Option ℕ) (is : List Item) (os : List TreeFrame) (around : Place) →
     HasRoom (within s n is around) → IsStill (put_items (begun s n (more os)) is)

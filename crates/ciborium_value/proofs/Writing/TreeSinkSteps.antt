@@ -35,7 +35,7 @@ pub boolean-tree : (b : Bool) → trees.boolean b ≡ written_tree (boolean_item
 boolean-tree false = refl
 boolean-tree true = refl
 
--- ---- a sink that is still open
+-- ---- a sink that is unfinished
 
 opens_are : (w : Option Value) (os os' : List TreeFrame) → placed_of w os ≡ more os' → (w ≡ None) × (os ≡ os')
 opens_are (Some v) os os' h = cc

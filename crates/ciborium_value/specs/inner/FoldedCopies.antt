@@ -1,4 +1,4 @@
--- The copying of a tree, folded, by a walk that keeps what is open and what is still to come.
+-- The copying of a tree, folded, by a walk that keeps what is unfinished and what is still to come.
 use Rattle.std.specs.Prelude.{◌≡◌, ℕ, ◌+◌, ◌<◌, List, [], ◌∷◌, ◌++◌, map, reverse, Option, Some, None}
 use Rattle.ciborium_value.specs.{Counts.node_count, Folded.folded, Sources.{Fault, of_kind, of_nesting, of_syntax}}
 use Rattle.ciborium_value.specs.{Sources.{of_memory, of_device, of_end, of_length}, Tree.Tree, View.tree_of}
@@ -43,7 +43,7 @@ abbrev pub nodes_of : List Tree → ℕ
 nodes_of [] = 0
 nodes_of (t ∷ ts) = node_count t + nodes_of ts
 
--- what a tree begins with: it is whole, or it opens and its parts come
+-- what a tree begins with: it is whole, or it is entered and its parts come
 abbrev pub IsCopyBegun : Tree → Part → Type 0
 IsCopyBegun t (part.Whole v) = folded t ≡ Some (tree_of v)
 IsCopyBegun t (part.Begun o c) = ((os : List TreeFrame) (ts : List Tree) →

@@ -50,7 +50,7 @@ abbrev pub completed : Option ℕ → Option (List ℕ × List ℕ) → Option (
 completed None found = found
 completed (Some b) found = tokens.prepended (b ∷ []) found
 
--- ---- what is open, the innermost first, with what is in it so far
+-- ---- what is unfinished, the innermost first, with what is in it so far
 
 pub data Around : Type 0 where
   in_array : List Tree → Around
@@ -66,15 +66,15 @@ around_of (level.Keys pairs) = in_keys (map pair_trees pairs.items)
 around_of (level.Values pairs key) = in_values (map pair_trees pairs.items) (tree_of key)
 around_of (level.Tag n) = in_tag n
 
-abbrev pub open_in : Levels → List Around
-open_in levels = map around_of (reverse levels.levels.items)
+abbrev pub unfinished_in : Levels → List Around
+unfinished_in levels = map around_of (reverse levels.levels.items)
 
--- whether a token opens a level
-abbrev pub opens : Token → Bool
-opens (tokens.begin_tag n) = true
-opens tokens.begin_array = true
-opens tokens.begin_map = true
-opens _ = false
+-- whether a token enters a level
+abbrev pub enters : Token → Bool
+enters (tokens.begin_tag n) = true
+enters tokens.begin_array = true
+enters tokens.begin_map = true
+enters _ = false
 
 -- ---- what is due
 
@@ -93,7 +93,7 @@ await_of due.ArrayPart = array_part
 await_of due.MapPart = map_part
 await_of (due.Behind v) = behind (tree_of v)
 
--- of so many open levels no more are open than may be, and one more may be where an array or a map
+-- of so many levels no more are unfinished than may be, and one more may be where an array or a map
 -- has begun
 abbrev pub IsRoom : ℕ → ℕ → Await → Type 0
 IsRoom limit count array_part = count < limit
@@ -111,7 +111,7 @@ abbrev pub pairs_before : List (Tree × Tree) → TreePairs → TreePairs
 pairs_before [] ps = ps
 pairs_before (q ∷ qs) ps = trees.tree_pair q.0 q.1 (pairs_before qs ps)
 
--- behind an item that means w in these levels, where m more may be open, the text t completes the
+-- behind an item that means w in these levels, where m more may be unfinished, the text t completes the
 -- tree v
 abbrev pub Complete : ℕ → List Around → Tree → List ℕ → Tree → Type 0
 Complete m [] w t v = (behind_blanks t ≡ Some []) × (v ≡ w)

@@ -49,7 +49,7 @@ IsSound (top name before is) = Unit {0}
 IsSound (within s n is around) = HasRoom around × IsSound around
 IsSound (tagged t p) = IsSound p
 
--- what a sink holds: the whole tree, or what is still open
+-- what a sink holds: the whole tree, or what is unfinished
 abbrev pub state_of : TreeSink → Placed
 state_of s = placed_of s.whole (frames_of s.stack)
 

@@ -1,4 +1,5 @@
-//! The arrays, maps and tags that are open while a text is read, and what each token does to them.
+//! The arrays, maps and tags that are unfinished while a text is read, and what each token does to
+//! them.
 
 ghost use Rattle.std.specs.Prelude.{◌≡◌, ◌<◌, ◌∷◌, [], IfErr, IfOk, List, Some, length, map};
 ghost use Rattle.std.specs.Prelude.{nat_le, ℕ};
@@ -9,7 +10,7 @@ ghost use Rattle.ciborium_value.specs.inner.ReadTokens.{Completes, IsMisplaced, 
 ghost use Rattle.ciborium_value.specs.inner.ReadTokens.{array_part};
 ghost use Rattle.ciborium_value.specs.inner.ReadTokens.{await_of, behind, in_array, in_keys};
 ghost use Rattle.ciborium_value.specs.inner.ReadTokens.{in_tag};
-ghost use Rattle.ciborium_value.specs.inner.ReadTokens.{in_values, item, map_part, open_in};
+ghost use Rattle.ciborium_value.specs.inner.ReadTokens.{in_values, item, map_part, unfinished_in};
 ghost use Rattle.ciborium_value.specs.inner.ReadTokens.{token_read};
 
 use super::error::{NotationError, NotationFault};
@@ -17,7 +18,7 @@ use super::tokens::Token;
 use crate::tree::Value;
 use std::alloc::Global;
 
-/// An array, map or tag that is open, with what is in it so far.
+/// An array, map or tag that is unfinished, with what is in it so far.
 #[derive(Drop)]
 pub enum Level {
     Array(Vec<Value>),
@@ -51,9 +52,9 @@ pub struct Levels {
 
 #[tactic(auto, using(crate::proofs::Denoting::BegunLevels::around_last))]
 impl Levels {
-    /// None is open, and so many may be.
+    /// None is unfinished, and so many may be.
     pub fn new(alloc: Global, limit: usize) -> Levels
-        ensures open_levels { open_in result ≡ [] }
+        ensures levels { unfinished_in result ≡ [] }
         ensures limit { result.limit ≡ limit }
     {
         Levels {
@@ -69,10 +70,10 @@ impl Levels {
     ///
     /// What is wanted at the end.
     pub fn end(&self, due: Due) -> Result<Value, NotationError>
-        ensures ok { IfOk result (λ v. (open_in self.now ≡ []) ×
+        ensures ok { IfOk result (λ v. (unfinished_in self.now ≡ []) ×
             (await_of due ≡ behind (tree_of v))) }
         ensures refused { IfErr result (λ _. (l : ℕ) (t : List ℕ) (v : Tree) →
-            behind_blanks t ≡ Some [] → ¬ Completes l (open_in self.now) (await_of due) t v) }
+            behind_blanks t ≡ Some [] → ¬ Completes l (unfinished_in self.now) (await_of due) t v) }
     {
         let Due::Behind(value) = due else {
             return Err(NotationError::At(0, NotationFault::Item));
@@ -89,11 +90,11 @@ impl Levels {
     ///
     /// Why it may not stand there, and `Memory`.
     pub fn take(&mut self, due: Due, token: Token, place: usize) -> Result<Due, NotationError>
-        ensures taken { IfOk result (λ next. Leads (open_in self.old) (await_of due) (token_read
+        ensures taken { IfOk result (λ next. Leads (unfinished_in self.old) (await_of due) (token_read
             token)
-            (open_in self.new) (await_of next)) }
+            (unfinished_in self.new) (await_of next)) }
         ensures refused { IfErr result
-            (IsMisplaced (open_in self.old) (await_of due) (token_read token) self.old.limit) }
+            (IsMisplaced (unfinished_in self.old) (await_of due) (token_read token) self.old.limit) }
         ensures limit { self.new.limit ≡ self.old.limit }
         ensures room { IfOk result (λ next.
             IsRoom self.old.limit (length self.old.levels.items) (await_of due) →
@@ -117,10 +118,10 @@ impl Levels {
 
     // Takes the first token of an item.
     fn take_item(&mut self, token: Token, place: usize) -> Result<Due, NotationError>
-        ensures taken { IfOk result (λ next. Leads (open_in self.old) item (token_read token)
-            (open_in self.new) (await_of next)) }
+        ensures taken { IfOk result (λ next. Leads (unfinished_in self.old) item (token_read token)
+            (unfinished_in self.new) (await_of next)) }
         ensures refused { IfErr result
-            (IsMisplaced (open_in self.old) item (token_read token) self.old.limit) }
+            (IsMisplaced (unfinished_in self.old) item (token_read token) self.old.limit) }
         ensures limit { self.new.limit ≡ self.old.limit }
         ensures room { IfOk result (λ next.
             IsRoom self.old.limit (length self.old.levels.items) item →
@@ -141,7 +142,7 @@ impl Levels {
         }
     }
 
-    // Whether as many levels are open as may be.
+    // Whether as many levels are unfinished as may be.
     fn is_full(&self) -> bool
         ensures { result ≡ nat_le self.now.limit (length self.now.levels.items) }
     {
@@ -150,10 +151,10 @@ impl Levels {
 
     // Takes the first token of the first item of an array, or its end.
     fn take_array_part(&mut self, token: Token, place: usize) -> Result<Due, NotationError>
-        ensures taken { IfOk result (λ next. Leads (open_in self.old) array_part (token_read token)
-            (open_in self.new) (await_of next)) }
+        ensures taken { IfOk result (λ next. Leads (unfinished_in self.old) array_part (token_read token)
+            (unfinished_in self.new) (await_of next)) }
         ensures refused { IfErr result
-            (IsMisplaced (open_in self.old) array_part (token_read token) self.old.limit) }
+            (IsMisplaced (unfinished_in self.old) array_part (token_read token) self.old.limit) }
         ensures limit { self.new.limit ≡ self.old.limit }
         ensures room { IfOk result (λ next.
             IsRoom self.old.limit (length self.old.levels.items) array_part →
@@ -169,10 +170,10 @@ impl Levels {
 
     // Takes the first token of the first key of a map, or its end.
     fn take_map_part(&mut self, token: Token, place: usize) -> Result<Due, NotationError>
-        ensures taken { IfOk result (λ next. Leads (open_in self.old) map_part (token_read token)
-            (open_in self.new) (await_of next)) }
+        ensures taken { IfOk result (λ next. Leads (unfinished_in self.old) map_part (token_read token)
+            (unfinished_in self.new) (await_of next)) }
         ensures refused { IfErr result
-            (IsMisplaced (open_in self.old) map_part (token_read token) self.old.limit) }
+            (IsMisplaced (unfinished_in self.old) map_part (token_read token) self.old.limit) }
         ensures limit { self.new.limit ≡ self.old.limit }
         ensures room { IfOk result (λ next.
             IsRoom self.old.limit (length self.old.levels.items) map_part →
@@ -194,10 +195,10 @@ impl Levels {
         token: Token,
         place: usize,
     ) -> Result<Due, NotationError>
-        ensures taken { IfOk result (λ next. Leads (in_array (map tree_of items.items) ∷ open_in
+        ensures taken { IfOk result (λ next. Leads (in_array (map tree_of items.items) ∷ unfinished_in
             self.old)
-            (behind (tree_of value)) (token_read token) (open_in self.new) (await_of next)) }
-        ensures refused { IfErr result (IsMisplaced (in_array (map tree_of items.items) ∷ open_in
+            (behind (tree_of value)) (token_read token) (unfinished_in self.new) (await_of next)) }
+        ensures refused { IfErr result (IsMisplaced (in_array (map tree_of items.items) ∷ unfinished_in
             self.old)
             (behind (tree_of value)) (token_read token) self.old.limit) }
         ensures limit { self.new.limit ≡ self.old.limit }
@@ -226,10 +227,10 @@ impl Levels {
         token: Token,
         place: usize,
     ) -> Result<Due, NotationError>
-        ensures taken { IfOk result (λ next. Leads (in_keys (map pair_trees pairs.items) ∷ open_in
+        ensures taken { IfOk result (λ next. Leads (in_keys (map pair_trees pairs.items) ∷ unfinished_in
             self.old)
-            (behind (tree_of value)) (token_read token) (open_in self.new) (await_of next)) }
-        ensures refused { IfErr result (IsMisplaced (in_keys (map pair_trees pairs.items) ∷ open_in
+            (behind (tree_of value)) (token_read token) (unfinished_in self.new) (await_of next)) }
+        ensures refused { IfErr result (IsMisplaced (in_keys (map pair_trees pairs.items) ∷ unfinished_in
             self.old)
             (behind (tree_of value)) (token_read token) self.old.limit) }
         ensures limit { self.new.limit ≡ self.old.limit }
@@ -255,10 +256,10 @@ impl Levels {
         place: usize,
     ) -> Result<Due, NotationError>
         ensures taken { IfOk result (λ next. Leads (in_values (map pair_trees pairs.items) (tree_of
-            key) ∷ open_in self.old)
-            (behind (tree_of value)) (token_read token) (open_in self.new) (await_of next)) }
+            key) ∷ unfinished_in self.old)
+            (behind (tree_of value)) (token_read token) (unfinished_in self.new) (await_of next)) }
         ensures refused { IfErr result (IsMisplaced (in_values (map pair_trees pairs.items)
-            (tree_of key) ∷ open_in self.old)
+            (tree_of key) ∷ unfinished_in self.old)
             (behind (tree_of value)) (token_read token) self.old.limit) }
         ensures limit { self.new.limit ≡ self.old.limit }
         ensures room { IfOk result (λ next. length self.old.levels.items < self.old.limit →
@@ -286,9 +287,9 @@ impl Levels {
         token: Token,
         place: usize,
     ) -> Result<Due, NotationError>
-        ensures taken { IfOk result (λ next. Leads (in_tag tag ∷ open_in self.old)
-            (behind (tree_of value)) (token_read token) (open_in self.new) (await_of next)) }
-        ensures refused { IfErr result (IsMisplaced (in_tag tag ∷ open_in self.old)
+        ensures taken { IfOk result (λ next. Leads (in_tag tag ∷ unfinished_in self.old)
+            (behind (tree_of value)) (token_read token) (unfinished_in self.new) (await_of next)) }
+        ensures refused { IfErr result (IsMisplaced (in_tag tag ∷ unfinished_in self.old)
             (behind (tree_of value)) (token_read token) self.old.limit) }
         ensures limit { self.new.limit ≡ self.old.limit }
         ensures room { IfOk result (λ next. length self.old.levels.items < self.old.limit →

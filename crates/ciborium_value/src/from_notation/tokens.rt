@@ -34,11 +34,11 @@ pub enum Token {
 }
 
 impl Token {
-    ghost use Rattle.ciborium_value.specs.inner.ReadTokens.{opens, token_read};
+    ghost use Rattle.ciborium_value.specs.inner.ReadTokens.{enters, token_read};
 
-    /// Whether it opens a level.
+    /// Whether it enters a level.
     pub fn opens_level(&self) -> bool
-        ensures { result ≡ opens (token_read self.now) }
+        ensures { result ≡ enters (token_read self.now) }
     {
         matches!(
             self,

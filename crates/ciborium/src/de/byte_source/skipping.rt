@@ -50,7 +50,7 @@ pub(crate) struct Unfinished {
 }
 
 impl Unfinished {
-    // Opens a level, behind which this one is left of the innermost.
+    // Enters a level, behind which this one is left of the innermost.
     #[inline(always)]
     fn begin(&mut self, next: Level, inner: Level) -> Result<(), BareReadError>
         ensures ok { OnOk result
@@ -66,7 +66,7 @@ impl Unfinished {
         Ok(())
     }
 
-    // Whether none of so many levels is left for what this head opens.
+    // Whether none of so many levels is left for what this head enters.
     #[inline(always)]
     fn is_full(&self, header: Header, levels: usize) -> bool
         ensures full { IsTrue result →
@@ -171,7 +171,7 @@ impl<'a, R, A: Access<R>> ByteSource<'a, R, A> {
         self.skip_payload(header, offset)?;
         match step {
             Step::Within(next) => unfinished.level = next,
-            Step::Opens(next, inner) => {
+            Step::Enters(next, inner) => {
                 if unfinished.is_full(header, self.levels) {
                     self.skip_bignum(header)?;
                     unfinished.level = next;

@@ -1,8 +1,8 @@
 use Rattle.std.proofs.Common.{ap, refl, subst, ◌-◌, ◌≡◌, ◌≤◌, true, take, length}
 use Rattle.ciborium_ll.proofs.HeadsRead.{behind-bytes, cut-inside-head, cut-inside-payload, ends-in-head}
 use Rattle.ciborium_ll.proofs.HeadsRead.{ends-in-payload, front-behind, head-read, malformed, misplaced, no-chunk}
-use Rattle.ciborium_ll.proofs.HeadsRead.{no-text, opens-too-many, some-open, too-deep, was-misplaced, was-too-deep}
-use Rattle.ciborium_ll.{proofs.HeadsRead.whole-read, specs.{Bytes.AreBytes, Header.SpellsHeader, ItemHeads.open_in}}
+use Rattle.ciborium_ll.proofs.HeadsRead.{no-text, enters-too-many, some-unfinished, too-deep, was-misplaced, was-too-deep}
+use Rattle.ciborium_ll.{proofs.HeadsRead.whole-read, specs.{Bytes.AreBytes, Header.SpellsHeader, ItemHeads.unfinished_in}}
 use Rattle.ciborium_ll.specs.{ItemLengths.Misfits, Levels.IsPayloadOf, Refusal.is_ill_formed, inner.Fronts.IsCut}
 use Rattle.ciborium_ll.specs.inner.Fronts.{IsCutPayload, IsNoChunk, IsNoText, MayBeChunk}
 use Rattle.ciborium_ll.proofs.item_heads.ItemHeads.next.Goals as goal
@@ -13,7 +13,7 @@ returns-then-is_empty c h =
 
 pub returns-in-IllFormed : goal.returns-in-IllFormed
 returns-in-IllFormed c h =
-    let some = some-open _ _ c.is_empty.ensures c.if-is_empty.false in (
+    let some = some-unfinished _ _ c.is_empty.ensures c.if-is_empty.false in (
       malformed _ h some (Misfits.ill_formed (subst (λ b. is_ill_formed b ≡ true) c.rest-rest.ensures
           c.in-IllFormed.ensures.front)),
       refl,
@@ -21,30 +21,30 @@ returns-in-IllFormed c h =
 
 pub returns-in-Cut : goal.returns-in-Cut
 returns-in-Cut c h =
-    let some = some-open _ _ c.is_empty.ensures c.if-is_empty.false in (
+    let some = some-unfinished _ _ c.is_empty.ensures c.if-is_empty.false in (
       malformed _ h some (no-chunk _ _ (subst IsCut c.rest-rest.ensures c.in-Cut.ensures.front)
-          (subst (IsNoChunk (open_in c.args.self.now)) c.rest-rest.ensures
+          (subst (IsNoChunk (unfinished_in c.args.self.now)) c.rest-rest.ensures
           (c.is_no_chunk.ensures.yes c.if-is_no_chunk.true))),
       refl,
     )
 
 pub returns-in-Cut-2 : goal.returns-in-Cut-2
 returns-in-Cut-2 c h =
-    let some = some-open _ _ c.is_empty.ensures c.if-is_empty.false in (
+    let some = some-unfinished _ _ c.is_empty.ensures c.if-is_empty.false in (
       cut-inside-head _ h some (subst AreBytes c.rest-rest.ensures c.in-Cut-2.ensures.bytes)
           (subst IsCut c.rest-rest.ensures c.in-Cut-2.ensures.front)
-          (subst (MayBeChunk (open_in c.args.self.now)) c.rest-rest.ensures
+          (subst (MayBeChunk (unfinished_in c.args.self.now)) c.rest-rest.ensures
           (c.is_no_chunk.ensures.no c.if-is_no_chunk.false)),
       ends-in-head _ (subst IsCut c.rest-rest.ensures c.in-Cut-2.ensures.front),
     )
 
 pub returns-in-Err-Misplaced : goal.returns-in-Err-Misplaced
 returns-in-Err-Misplaced c h =
-    let some = some-open _ _ c.is_empty.ensures c.if-is_empty.false in
+    let some = some-unfinished _ _ c.is_empty.ensures c.if-is_empty.false in
     let spelled = subst (λ b. SpellsHeader (take c.in-Head.size b) c.in-Head.header) c.rest-rest.ensures
     c.in-Head.ensures.front.0 in (
       malformed _ h some (misplaced c.args.self.now c.in-Head.header c.in-Head.size spelled
-          (was-misplaced _ _ (open_in c.args.self.now) _ c.in-Err-Misplaced.field-0-is
+          (was-misplaced _ _ (unfinished_in c.args.self.now) _ c.in-Err-Misplaced.field-0-is
           c.in-Err-Misplaced.ensures)),
       refl,
     )
@@ -53,8 +53,8 @@ pub returns-in-Err-TooDeep : goal.returns-in-Err-TooDeep
 returns-in-Err-TooDeep c h =
     let spelled = subst (λ b. SpellsHeader (take c.in-Head.size b) c.in-Head.header) c.rest-rest.ensures
     c.in-Head.ensures.front.0 in (
-      too-deep c.args.self.now h (opens-too-many c.args.self.now c.in-Head.header c.in-Head.size spelled
-          (was-too-deep _ _ (open_in c.args.self.now) _ c.in-Err-TooDeep.field-0-is c.in-Err-TooDeep.ensures)),
+      too-deep c.args.self.now h (enters-too-many c.args.self.now c.in-Head.header c.in-Head.size spelled
+          (was-too-deep _ _ (unfinished_in c.args.self.now) _ c.in-Err-TooDeep.field-0-is c.in-Err-TooDeep.ensures)),
       refl,
     )
 
@@ -71,7 +71,7 @@ returns-in-Cut-payload_of c h =
 
 pub returns-in-NotText : goal.returns-in-NotText
 returns-in-NotText c h =
-    let some = some-open _ _ c.is_empty.ensures c.if-is_empty.false in
+    let some = some-unfinished _ _ c.is_empty.ensures c.if-is_empty.false in
     let spelled = subst (λ b. SpellsHeader (take c.in-Head.size b) c.in-Head.header) c.rest-rest.ensures
     c.in-Head.ensures.front.0 in (
       malformed _ h some (no-text c.args.self.now c.in-Head.header c.in-Head.size spelled

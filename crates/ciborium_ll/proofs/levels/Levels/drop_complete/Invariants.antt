@@ -9,4 +9,4 @@ invariant-loop-self l = record {
 }
 
 abbrev pub decreases-loop-self : goal.decreases-loop-self
-decreases-loop-self l = length l.self.room - l.self.free
+decreases-loop-self l = length l.self.kept - l.self.free

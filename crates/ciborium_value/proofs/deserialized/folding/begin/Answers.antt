@@ -1,4 +1,4 @@
--- A container that is not empty opens.
+-- A container that is not empty is entered.
 use Rattle.std.proofs.Common.{rules, arith}
 use Rattle.ciborium_value.proofs.FoldedTrees.FoldedCopies.{opens_array, opens_map}
 use Rattle.ciborium_value.proofs.deserialized.folding.begin.Goals as goal

@@ -1,4 +1,4 @@
--- What the value makes is what the trees that still come make of what is open.
+-- What the value makes is what the trees that still come make of what is unfinished.
 use Rattle.std.proofs.Common.{◌≡◌, [], ◌∷◌}
 use Rattle.ciborium_value.specs.{inner.FoldedCopies.{copied, path_trees, nodes_of}, inner.Frames.more}
 use Rattle.ciborium_value.specs.{inner.Stack.frames_of, View.tree_of}

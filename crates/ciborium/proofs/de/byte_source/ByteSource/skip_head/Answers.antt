@@ -54,7 +54,7 @@ pub returns-in_default-step-clause-ok : goal.returns-in_default-step-clause-ok
 returns-in_default-step-clause-ok g c =
     let old = c.args.self.now in
     let around = around_in c.args.unfinished.now in
-    let behind = is-end c.step_of-step.result _ around c.in_default-step.not-Within c.in_default-step.not-Opens
+    let behind = is-end c.step_of-step.result _ around c.in_default-step.not-Within c.in_default-step.not-Enters
     c.in_default.not-Misplaced (c.step_of-step.ensures around) in
     passed-ended _ _ old.levels (levels_in c.args.unfinished.now) around
     (head-passed (IsUnread g.A.Access.remaining old) (IsUnread g.A.Access.remaining c.next_head.new.self)
@@ -62,48 +62,48 @@ returns-in_default-step-clause-ok g c =
     around c.in_ok-header.header c.in_ok-header.ensures.head c.in_ok-skip_payload.ensures.ok behind
     (λ limited. stays old.levels limited c.in_ok-header.header _ around _ behind (omega arith)))
 
-pub returns-in_ok-skip_bignum-in-Opens-clause-ok : goal.returns-in_ok-skip_bignum-in-Opens-clause-ok
-returns-in_ok-skip_bignum-in-Opens-clause-ok g c =
+pub returns-in_ok-skip_bignum-in-Enters-clause-ok : goal.returns-in_ok-skip_bignum-in-Enters-clause-ok
+returns-in_ok-skip_bignum-in-Enters-clause-ok g c =
     let old = c.args.self.now in
     let around = around_in c.args.unfinished.now in
-    let behind = c.step_of-step.ensures around ∙ ap (λ s. levels_by s around) c.in-Opens.is in
+    let behind = c.step_of-step.ensures around ∙ ap (λ s. levels_by s around) c.in-Enters.is in
     bignum-passed (IsUnread g.A.Access.remaining old) (IsUnread g.A.Access.remaining c.next_head.new.self)
     (IsUnread g.A.Access.remaining c.skip_payload.new.self) old.levels
     (IsUnread g.A.Access.remaining c.skip_bignum.new.self) (levels_in c.args.unfinished.now)
-    (c.in-Opens.next ∷ around) c.in-Opens.inner c.in_ok-header.header c.in_ok-header.ensures.head
-    c.in_ok-skip_payload.ensures.ok c.in_ok-skip_bignum-in-Opens.ensures.ok behind
+    (c.in-Enters.next ∷ around) c.in-Enters.inner c.in_ok-header.header c.in_ok-header.ensures.head
+    c.in_ok-skip_payload.ensures.ok c.in_ok-skip_bignum-in-Enters.ensures.ok behind
 
-pub returns-in_ok-begin-in-Opens-clause-ok : goal.returns-in_ok-begin-in-Opens-clause-ok
-returns-in_ok-begin-in-Opens-clause-ok g c =
+pub returns-in_ok-begin-in-Enters-clause-ok : goal.returns-in_ok-begin-in-Enters-clause-ok
+returns-in_ok-begin-in-Enters-clause-ok g c =
     let old = c.args.self.now in
     let around = around_in c.args.unfinished.now in
-    let behind = c.step_of-step.ensures around ∙ ap (λ s. levels_by s around) c.in-Opens.is in
+    let behind = c.step_of-step.ensures around ∙ ap (λ s. levels_by s around) c.in-Enters.is in
     subst (PassesHeads (IsUnread g.A.Access.remaining old) (IsUnread g.A.Access.remaining c.skip_payload.new.self)
-    old.levels (levels_in c.args.unfinished.now)) (sym c.in_ok-begin-in-Opens.ensures.ok)
+    old.levels (levels_in c.args.unfinished.now)) (sym c.in_ok-begin-in-Enters.ensures.ok)
     (head-passed (IsUnread g.A.Access.remaining old) (IsUnread g.A.Access.remaining c.next_head.new.self)
     (IsUnread g.A.Access.remaining c.skip_payload.new.self) old.levels (levels_in c.args.unfinished.now)
-    (c.in-Opens.inner ∷ c.in-Opens.next ∷ around) c.in_ok-header.header c.in_ok-header.ensures.head
+    (c.in-Enters.inner ∷ c.in-Enters.next ∷ around) c.in_ok-header.header c.in_ok-header.ensures.head
     c.in_ok-skip_payload.ensures.ok behind
     (λ limited. fits old.levels limited c.in_ok-header.header c.args.unfinished.now.level around
     (λ one. let less = c.if-is_full.ensures.room refl one in let same = c.in_ok-skip_payload.ensures.levels in
     let levels = c.in_ok-header.ensures.levels in omega (arith, less, same, levels))))
 
-pub returns-in_err-skip_bignum-in-Opens-clause-denied : goal.returns-in_err-skip_bignum-in-Opens-clause-denied
-returns-in_err-skip_bignum-in-Opens-clause-denied g c =
-    let exit = err_from_is_err_and c.from_residual-in_err-skip_bignum-in-Opens.result
-    c.from_residual-in_err-skip_bignum-in-Opens.ensures.1 in
+pub returns-in_err-skip_bignum-in-Enters-clause-denied : goal.returns-in_err-skip_bignum-in-Enters-clause-denied
+returns-in_err-skip_bignum-in-Enters-clause-denied g c =
+    let exit = err_from_is_err_and c.from_residual-in_err-skip_bignum-in-Enters.result
+    c.from_residual-in_err-skip_bignum-in-Enters.ensures.1 in
     let old = c.args.self.now in
     let ahead = c.skip_payload.new.self in
     let around = around_in c.args.unfinished.now in
-    let behind = c.step_of-step.ensures around ∙ ap (λ s. levels_by s around) c.in-Opens.is in
+    let behind = c.step_of-step.ensures around ∙ ap (λ s. levels_by s around) c.in-Enters.is in
     rw (exit.1, exit.2) (bignum-denied (IsUnread g.A.Access.remaining old)
     (IsUnread g.A.Access.remaining c.next_head.new.self) (IsUnread g.A.Access.remaining ahead) old.levels
     (end_at g.A.Access.remaining old) (end_at g.A.Access.remaining ahead) c.args.unfinished.now.level around
-    (c.in-Opens.next ∷ around) c.in-Opens.inner c.in_ok-header.header
-    (fault_at g.A.Access.can_fail g.A.Access.remaining c.skip_bignum.new.self c.in_err-skip_bignum-in-Opens.field-0.0)
+    (c.in-Enters.next ∷ around) c.in-Enters.inner c.in_ok-header.header
+    (fault_at g.A.Access.can_fail g.A.Access.remaining c.skip_bignum.new.self c.in_err-skip_bignum-in-Enters.field-0.0)
     (open-levels _ _ c.requires) c.in_ok-header.ensures.head c.in_ok-skip_payload.ensures.ok behind
     (c.if-is_full.ensures.full refl).0 (let most = (c.if-is_full.ensures.full refl).1 in let same =
     c.in_ok-skip_payload.ensures.levels in
     let levels = c.in_ok-header.ensures.levels in omega (arith, most, same, levels))
     (same-end g.A.Access.remaining old ahead (λ first h. c.skip_payload.ensures.only first
-    (c.in_ok-header.ensures.only first h))) c.in_err-skip_bignum-in-Opens.ensures.denied)
+    (c.in_ok-header.ensures.only first h))) c.in_err-skip_bignum-in-Enters.ensures.denied)

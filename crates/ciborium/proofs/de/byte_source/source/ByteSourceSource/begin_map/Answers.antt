@@ -37,15 +37,15 @@ returns g c =
     let is : IsEntered mid new c.in-Map.count c.in_ok-seq.seq =
     (enter.decoder, enter.pending, enter.some, enter.levels, enter.left) in
     let (kept, none, fewer) = entered-kept new c.in-Map.count c.in_ok-seq.seq is reads in
-    let opens = map-entered g.A.Access.remaining old mid new c.in-Map.count c.in_ok-seq.seq reads.levels is given_pairs
+    let enters = map-entered g.A.Access.remaining old mid new c.in-Map.count c.in_ok-seq.seq reads.levels is given_pairs
     (λ span ps. give (takes_level span, ps))
     (subst (TakesBare (IsUnread g.A.Access.remaining) old mid false) c.in-Map.is c.in_ok-header.ensures.head)
     (pairs-given old.levels (λ z. enter.some (reads.levels ∙ z)) c.in-Map.count) in record {
       ok = pairs-stand g.A.Access.remaining old new c.in_ok-seq.seq kept (enter.back ∙ reads.levels) none
-          (omega (arith, fewer)) given_pairs (λ span ps. give (takes_level span, ps)) opens;
+          (omega (arith, fewer)) given_pairs (λ span ps. give (takes_level span, ps)) enters;
       refused = tt;
       memory = tt;
-      took = λ b u. let (w, un, owes, leads) = opens b u in (w, un, owes);
+      took = λ b u. let (w, un, owes, leads) = enters b u in (w, un, owes);
       only = λ first t. kept.1 first.decoder t;
       less = fewer;
       no_more = tt;

@@ -25,14 +25,14 @@ returns-in_ok-seq-in-Array g c =
     let is : IsEntered mid new c.in-Array.count q =
     (enter.decoder, enter.pending, enter.some, enter.levels, enter.left) in
     let (kept, none, fewer) = entered-kept new c.in-Array.count q is reads in
-    let opens = array-entered g.A.Access.remaining old mid new c.in-Array.count q reads.levels is given_seq
+    let enters = array-entered g.A.Access.remaining old mid new c.in-Array.count q reads.levels is given_seq
     (λ span is. give (takes_level span, is))
     (subst (TakesBare (IsUnread g.A.Access.remaining) old mid false) c.in-Array.is c.in_ok-header.ensures.head)
     (seq-given old.levels (λ z. enter.some (reads.levels ∙ z)) c.in-Array.count) in record {
       ok = items-stand g.A.Access.remaining old new q kept (enter.back ∙ reads.levels) none (omega (arith, fewer))
-          given_seq (λ span is. give (takes_level span, is)) opens;
+          given_seq (λ span is. give (takes_level span, is)) enters;
       refused = tt;
-      took = λ b u. let (w, un, owes, leads) = opens b u in (w, un, owes);
+      took = λ b u. let (w, un, owes, leads) = enters b u in (w, un, owes);
       only = λ first t. kept.1 first.decoder t;
       less = fewer;
       no_more = tt;
@@ -54,23 +54,23 @@ returns-in_ok-seq-in-Bytes g c =
     let mid = c.bare_head.new.self in
     let new = c.open_bytes.new.self in
     let q = c.in_ok-seq-in-Bytes.seq in
-    let opened = c.in_ok-seq-in-Bytes.ensures in
+    let entered = c.in_ok-seq-in-Bytes.ensures in
     let reads = c.in_ok-header.ensures.reads in
     let fewer : weight_left new + seq_left q < weight_left old = search rules in
-    let (v, is, content) = bytes-had q.left _ opened.ok in
-    let opens = bytes-entered g.A.Access.remaining old mid new q v c.in-Bytes.len (into_iter_items v) is refl
-    (opened.levels ∙ reads.levels)
+    let (v, is, content) = bytes-had q.left _ entered.ok in
+    let enters = bytes-entered g.A.Access.remaining old mid new q v c.in-Bytes.len (into_iter_items v) is refl
+    (entered.levels ∙ reads.levels)
     (subst (TakesBare (IsUnread g.A.Access.remaining) old mid false) c.in-Bytes.is c.in_ok-header.ensures.head)
     content in record {
       ok = items-stand g.A.Access.remaining old new q (
-        opened.same_reader ∙ reads.same_reader,
-        λ first t. opened.only first (reads.only first t),
+        entered.same_reader ∙ reads.same_reader,
+        λ first t. entered.only first (reads.only first t),
       )
-          (opened.back ∙ reads.levels) opened.pending (omega (arith, fewer)) given_seq
-          (λ span is. give (takes_level span, is)) opens;
+          (entered.back ∙ reads.levels) entered.pending (omega (arith, fewer)) given_seq
+          (λ span is. give (takes_level span, is)) enters;
       refused = tt;
-      took = λ b u. let (w, un, owes, leads) = opens b u in (w, un, owes);
-      only = λ first t. opened.only first.decoder (reads.only first.decoder t);
+      took = λ b u. let (w, un, owes, leads) = enters b u in (w, un, owes);
+      only = λ first t. entered.only first.decoder (reads.only first.decoder t);
       less = fewer;
       no_more = tt;
     }

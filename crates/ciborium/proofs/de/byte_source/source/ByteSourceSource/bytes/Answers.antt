@@ -56,18 +56,18 @@ returns-in_err-seq-in-Array g c =
 pub returns-in_ok-bytes-in-Array : goal.returns-in_ok-bytes-in-Array
 returns-in_ok-bytes-in-Array g c =
     let enter = c.in_ok-seq-in-Array.ensures in
-    let opened = array-begun g.A.Access.can_fail g.A.Access.remaining c.args.self.now c.bare_head.new.self
+    let entered = array-begun g.A.Access.can_fail g.A.Access.remaining c.args.self.now c.bare_head.new.self
     c.enter.new.self c.in-Array.count
     c.in_ok-seq-in-Array.seq c.in_ok-header.header c.in_ok-header.offset c.in-Array.is c.in_ok-header.ensures.head
     c.in_ok-header.ensures.reads (enter.decoder, enter.pending, enter.some, enter.levels, enter.left) enter.back in
     record {
       takes = record {
-        ok = array-takes g.A.Access.remaining c.args.self.now c.enter.new.self c.in_ok-seq-in-Array.seq opened
+        ok = array-takes g.A.Access.remaining c.args.self.now c.enter.new.self c.in_ok-seq-in-Array.seq entered
             c.read_byte_items.new.self c.in_ok-bytes-in-Array.bytes.items c.in_ok-bytes-in-Array.ensures.ok;
         refused = tt;
-        took = array-took g.A.Access.remaining c.args.self.now c.enter.new.self c.in_ok-seq-in-Array.seq opened
+        took = array-took g.A.Access.remaining c.args.self.now c.enter.new.self c.in_ok-seq-in-Array.seq entered
             c.read_byte_items.new.self c.in_ok-bytes-in-Array.ensures.took;
-        only = λ first t. c.read_byte_items.ensures.only first (opened.kept.1 first.decoder t);
+        only = λ first t. c.read_byte_items.ensures.only first (entered.kept.1 first.decoder t);
         less = search rules;
         no_more = tt;
       };
@@ -78,7 +78,7 @@ returns-in_err-bytes-in-Array g c =
     let exit = err_from_is_err_and c.from_residual-in_err-bytes-in-Array.result
     c.from_residual-in_err-bytes-in-Array.ensures.1 in
     let enter = c.in_ok-seq-in-Array.ensures in
-    let opened = array-begun g.A.Access.can_fail g.A.Access.remaining c.args.self.now c.bare_head.new.self
+    let entered = array-begun g.A.Access.can_fail g.A.Access.remaining c.args.self.now c.bare_head.new.self
     c.enter.new.self c.in-Array.count
     c.in_ok-seq-in-Array.seq c.in_ok-header.header c.in_ok-header.offset c.in-Array.is c.in_ok-header.ensures.head
     c.in_ok-header.ensures.reads (enter.decoder, enter.pending, enter.some, enter.levels, enter.left) enter.back in
@@ -86,10 +86,10 @@ returns-in_err-bytes-in-Array g c =
       takes = record {
         ok = tt;
         refused = array-refuses g.A.Access.remaining c.args.self.now c.enter.new.self c.in_ok-seq-in-Array.seq
-            opened (fault_at g.A.Access.can_fail g.A.Access.remaining c.read_byte_items.new.self
+            entered (fault_at g.A.Access.can_fail g.A.Access.remaining c.read_byte_items.new.self
             c.in_err-bytes-in-Array.field-0.0) c.in_err-bytes-in-Array.ensures.refused;
         took = tt;
-        only = λ first t. c.read_byte_items.ensures.only first (opened.kept.1 first.decoder t);
+        only = λ first t. c.read_byte_items.ensures.only first (entered.kept.1 first.decoder t);
         less = tt;
         no_more = search rules;
       };
