@@ -5,7 +5,8 @@ use Rattle.std.proofs.lemmas.Bool.Decides.{eqb_tells}
 use Rattle.ciborium_ll.specs.{ItemHeads.{HasRead, IsHeadRead, unfinished_in}, Levels.{behind_break, behind_bytes}}
 use Rattle.ciborium_ll.specs.{Levels.{behind_head, behind_item, behind_text, incomplete}, declared.header.Header.Header}
 use Rattle.ciborium_ll.specs.declared.{item_heads.{ItemHead.ItemHead, ItemHeads.ItemHeads}, levels.Level.Level}
-use Rattle.cbor.specs.Exact.{IsBegun, behind_begun, chunk_level, kind_of, open_level, string_header}
+use Rattle.ciborium_ll.specs.{StringRefusal.StringType, Strings.string_header}
+use Rattle.cbor.specs.Exact.{IsBegun, behind_begun, chunk_level, open_level}
 use Rattle.ciborium_ll.specs.declared.header.Header.TheVariants as header
 use Rattle.ciborium_ll.specs.declared.levels.Level.TheVariants as level
 
@@ -61,14 +62,14 @@ no-break old new head n around e (read, is) f =
 
 -- ---- parts of a string
 
-pub chunk-open : (is_text : Bool) (around : List Level) →
-    incomplete (chunk_level is_text ∷ around) ≡ chunk_level is_text ∷ around
-chunk-open true around = refl
-chunk-open false around = refl
+pub chunk-open : (string : StringType) (around : List Level) →
+    incomplete (chunk_level string ∷ around) ≡ chunk_level string ∷ around
+chunk-open StringType.Bytes around = refl
+chunk-open StringType.Text around = refl
 
-no-item-due : (is_text : Bool) (around : List Level) → behind_item (chunk_level is_text ∷ around) ≡ None
-no-item-due true around = refl
-no-item-due false around = refl
+no-item-due : (string : StringType) (around : List Level) → behind_item (chunk_level string ∷ around) ≡ None
+no-item-due StringType.Bytes around = refl
+no-item-due StringType.Text around = refl
 
 none-enters : (l : Level) (o : Option (List Level)) (more : List Level) → o ≡ None →
     option_map (λ rest. l ∷ rest) o ≡ Some more → ⊥
@@ -76,39 +77,39 @@ none-enters l None more e f = cc f
 none-enters l (Some x) more e f = cc e
 
 -- what is no break there is a part of the string
-chunk-head : (is_text : Bool) (h : Header) (around more : List Level) → h ≢ header.Break →
-    behind_head h (chunk_level is_text ∷ around) ≡ Some more →
-    ((n : ℕ) × (h ≡ string_header (kind_of is_text) n)) × (more ≡ chunk_level is_text ∷ around)
-chunk-head false (header.Bytes (Some n)) around more other e = ((n, refl), cc e)
-chunk-head true (header.Text (Some n)) around more other e = ((n, refl), cc e)
-chunk-head true (header.Bytes (Some n)) around more other e = absurd (cc e)
-chunk-head false (header.Text (Some n)) around more other e = absurd (cc e)
-chunk-head b (header.Bytes None) around more other e =
-    absurd (none-enters level.ByteChunks _ more (no-item-due b around) e)
-chunk-head b (header.Text None) around more other e =
-    absurd (none-enters level.TextChunks _ more (no-item-due b around) e)
-chunk-head b (header.Array (Some n)) around more other e =
-    absurd (none-enters (level.Items n) _ more (no-item-due b around) e)
-chunk-head b (header.Array None) around more other e =
-    absurd (none-enters level.OpenItems _ more (no-item-due b around) e)
-chunk-head b (header.Map (Some n)) around more other e =
-    absurd (none-enters (level.Items (n + n)) _ more (no-item-due b around) e)
-chunk-head b (header.Map None) around more other e = absurd (none-enters level.OpenKeys _ more (no-item-due b around) e)
-chunk-head b (header.Tag n) around more other e = absurd (none-enters (level.Items 1) _ more (no-item-due b around) e)
-chunk-head b (header.Positive n) around more other e = absurd (cc (e, no-item-due b around))
-chunk-head b (header.Negative n) around more other e = absurd (cc (e, no-item-due b around))
-chunk-head b (header.Simple n) around more other e = absurd (cc (e, no-item-due b around))
-chunk-head b (header.Float size) around more other e = absurd (cc (e, no-item-due b around))
-chunk-head b header.Break around more other e = absurd (other refl)
+chunk-head : (string : StringType) (h : Header) (around more : List Level) → h ≢ header.Break →
+    behind_head h (chunk_level string ∷ around) ≡ Some more →
+    ((n : ℕ) × (h ≡ string_header string n)) × (more ≡ chunk_level string ∷ around)
+chunk-head StringType.Bytes (header.Bytes (Some n)) around more other e = ((n, refl), cc e)
+chunk-head StringType.Text (header.Text (Some n)) around more other e = ((n, refl), cc e)
+chunk-head StringType.Text (header.Bytes (Some n)) around more other e = absurd (cc e)
+chunk-head StringType.Bytes (header.Text (Some n)) around more other e = absurd (cc e)
+chunk-head string (header.Bytes None) around more other e =
+    absurd (none-enters level.ByteChunks _ more (no-item-due string around) e)
+chunk-head string (header.Text None) around more other e =
+    absurd (none-enters level.TextChunks _ more (no-item-due string around) e)
+chunk-head string (header.Array (Some n)) around more other e =
+    absurd (none-enters (level.Items n) _ more (no-item-due string around) e)
+chunk-head string (header.Array None) around more other e =
+    absurd (none-enters level.OpenItems _ more (no-item-due string around) e)
+chunk-head string (header.Map (Some n)) around more other e =
+    absurd (none-enters (level.Items (n + n)) _ more (no-item-due string around) e)
+chunk-head string (header.Map None) around more other e = absurd (none-enters level.OpenKeys _ more (no-item-due string around) e)
+chunk-head string (header.Tag n) around more other e = absurd (none-enters (level.Items 1) _ more (no-item-due string around) e)
+chunk-head string (header.Positive n) around more other e = absurd (cc (e, no-item-due string around))
+chunk-head string (header.Negative n) around more other e = absurd (cc (e, no-item-due string around))
+chunk-head string (header.Simple n) around more other e = absurd (cc (e, no-item-due string around))
+chunk-head string (header.Float size) around more other e = absurd (cc (e, no-item-due string around))
+chunk-head string header.Break around more other e = absurd (other refl)
 
-pub chunk-read : (is_text : Bool) (old new : ItemHeads) (head : ItemHead) (around : List Level) →
-    unfinished_in old ≡ chunk_level is_text ∷ around → head.header ≢ header.Break → HasRead new × IsHeadRead old new head →
-    ((n : ℕ) × (head.header ≡ string_header (kind_of is_text) n)) × (unfinished_in new ≡ chunk_level is_text ∷ around)
-chunk-read is_text old new head around e other (read, is) =
+pub chunk-read : (string : StringType) (old new : ItemHeads) (head : ItemHead) (around : List Level) →
+    unfinished_in old ≡ chunk_level string ∷ around → head.header ≢ header.Break → HasRead new × IsHeadRead old new head →
+    ((n : ℕ) × (head.header ≡ string_header string n)) × (unfinished_in new ≡ chunk_level string ∷ around)
+chunk-read string old new head around e other (read, is) =
     let (more, f, g) = is.levels in
-    let (kind, same) = chunk-head is_text head.header around more other
+    let (kind, same) = chunk-head string head.header around more other
     (subst (λ x. behind_head head.header x ≡ Some more) e f) in
-    (kind, g ∙ ap incomplete same ∙ chunk-open is_text around)
+    (kind, g ∙ ap incomplete same ∙ chunk-open string around)
 
 -- ---- parts of an open array or map
 

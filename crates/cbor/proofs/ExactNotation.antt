@@ -6,12 +6,13 @@ use Rattle.std.proofs.lemmas.{Bool.{eqb-true, Decides.eqb_tells}, List.append_ca
 use Rattle.hex.specs.Hex.{encode_lower}
 use Rattle.ciborium_ll.specs.{Head.{IsFloat, IsHead, break_byte, open_byte}, Header.{IsFloatOf, SpellsHeader}}
 use Rattle.ciborium_ll.specs.{ItemHeads.{HasRead, IsHeadRead, unfinished_in, unread, was_read}, Levels.{AreItem, EndAll}}
-use Rattle.ciborium_ll.specs.{Levels.IsPayloadOf, StringRefusal.{IsAllowed, StringKind, of_bytes, of_text}}
-use Rattle.ciborium_ll.specs.{StringRefusal.string_major, declared.item_heads.{ItemHead.ItemHead, ItemHeads.ItemHeads}}
+use Rattle.ciborium_ll.specs.{Levels.IsPayloadOf, StringRefusal.{StringType, IsAllowed}}
+use Rattle.ciborium_ll.specs.{StringRefusal.string_major, Strings.string_header}
+use Rattle.ciborium_ll.specs.declared.item_heads.{ItemHead.{ItemHead}, ItemHeads.{ItemHeads}}
 use Rattle.cbor.{proofs.DumpedHeads.less-unread, specs.Exact.{AreChunksExactly, AreExactly, AreOpenChunks}}
 use Rattle.cbor.specs.Exact.{AreOpenParts, HasPassed, IsExactly, IsItemPushed, IsPushed, IsStringExactly, empty_text}
-use Rattle.cbor.specs.Exact.{head_bytes, lead, mark, open_text, IsFrontPushed, TellsNoItem, kind_of, payload_text}
-use Rattle.cbor.specs.{Exact.string_header, Line.trailing_text}
+use Rattle.cbor.specs.Exact.{head_bytes, lead, mark, open_text, IsFrontPushed, TellsNoItem, payload_text}
+use Rattle.cbor.specs.Line.{trailing_text}
 use Rattle.ciborium_ll.specs.declared.header.Header.TheVariants as header
 
 -- ---- bytes that were read
@@ -65,30 +66,29 @@ behind-both t u v x y e f = f ∙ (ap (λ (s : List ℕ). s ++ y) e ∙ append_a
 -- ---- strings
 
 -- so many parts of a string were read, and the text grew by them
-abbrev pub AreChunksBegun : StringKind → ℕ → ItemHeads → ItemHeads → List ℕ → List ℕ → Type 0
+abbrev pub AreChunksBegun : StringType → ℕ → ItemHeads → ItemHeads → List ℕ → List ℕ → Type 0
 AreChunksBegun kind n old new text longer = (b : List ℕ) × (u : List ℕ) × HasPassed old new b ×
     AreChunksExactly kind n b u × (longer ≡ text ++ (if n == 0 then [] else codes "(_ " ++ u))
 
-pub no-chunks : (kind : StringKind) (h : ItemHeads) (t : List ℕ) → HasRead h → AreChunksBegun kind 0 h h t t
+pub no-chunks : (kind : StringType) (h : ItemHeads) (t : List ℕ) → HasRead h → AreChunksBegun kind 0 h h t t
 no-chunks kind h t read = ([], [], passed-none h read, AreChunksExactly.none, sym (append-nil t))
 
-definite : (kind : StringKind) (n : ℕ) (h payload : List ℕ) → SpellsHeader h (string_header kind n) →
+definite : (kind : StringType) (n : ℕ) (h payload : List ℕ) → SpellsHeader h (string_header kind n) →
     IsPayloadOf (string_header kind n) payload → IsHead h (string_major kind) (length payload) × IsAllowed kind payload
-definite of_bytes n h payload is (size, allowed) = (rw size is, allowed)
-definite of_text n h payload is (size, allowed) = (rw size is, allowed)
+definite StringType.Bytes n h payload is (size, allowed) = (rw size is, allowed)
+definite StringType.Text n h payload is (size, allowed) = (rw size is, allowed)
 
 -- a string and its mark
-pub marked-string : {E : Type 0} (is_text b : Bool) (n : ℕ) (head : ItemHead) (r : Result (Unit {0}) E)
-    (t u v m : List ℕ) → is_text ≡ b → SpellsHeader head.bytes.now head.header →
-    IsPayloadOf head.header head.payload.now → head.header ≡ string_header (kind_of b) n →
-    u ≡ t ++ payload_text (kind_of b) head.payload.now →
+pub marked-string : {E : Type 0} (string : StringType) (n : ℕ) (head : ItemHead) (r : Result (Unit {0}) E)
+    (t u v m : List ℕ) → SpellsHeader head.bytes.now head.header →
+    IsPayloadOf head.header head.payload.now → head.header ≡ string_header string n →
+    u ≡ t ++ payload_text string head.payload.now →
     m ≡ mark (length head.bytes.now) (length head.payload.now) → v ≡ (if is_ok r then u ++ m else u) →
-    OnOk r ((y : List ℕ) × IsStringExactly (kind_of is_text) (head_bytes head) y × (v ≡ t ++ y))
-marked-string is_text b n head (Err never) t u v m same is payload e f g h = tt
-marked-string is_text b n head (Ok done) t u v m same is payload e f g h =
-    let found = definite (kind_of b) n head.bytes.now head.payload.now (rw e at is) (rw e at payload) in
-    rw same (
-      payload_text (kind_of b) head.payload.now ++ mark (length head.bytes.now) (length head.payload.now),
+    OnOk r ((y : List ℕ) × IsStringExactly string (head_bytes head) y × (v ≡ t ++ y))
+marked-string string n head (Err never) t u v m is payload e f g h = tt
+marked-string string n head (Ok done) t u v m is payload e f g h =
+    let found = definite string n head.bytes.now head.payload.now (rw e at is) (rw e at payload) in (
+      payload_text string head.payload.now ++ mark (length head.bytes.now) (length head.payload.now),
       (head.bytes.now, head.payload.now, found.0, found.1, refl, refl),
       h ∙ rw (f, g) (append_assoc t _ _),
     )
@@ -103,11 +103,11 @@ passed-break a b c r head before is e =
     (passed-more a b c r (head_bytes head) before (passed-head b c head is))
 
 -- of no parts there is no text
-no-text : (kind : StringKind) (n : ℕ) (b u : List ℕ) → AreChunksExactly kind n b u → n ≡ 0 → u ≡ []
+no-text : (kind : StringType) (n : ℕ) (b u : List ℕ) → AreChunksExactly kind n b u → n ≡ 0 → u ≡ []
 no-text kind n b u AreChunksExactly.none e = refl
 no-text kind n b u (AreChunksExactly.next m c t s v are is) e = absurd (omega (arith, e))
 
-pub one-more-chunk : (kind : StringKind) (n : ℕ) (a b c : ItemHeads) (head : ItemHead) (t u v w : List ℕ) →
+pub one-more-chunk : (kind : StringType) (n : ℕ) (a b c : ItemHeads) (head : ItemHead) (t u v w : List ℕ) →
     AreChunksBegun kind n a b t u → HasRead c × IsHeadRead b c head →
     v ≡ u ++ (if n == 0 then codes "(_ " else codes ", ") →
     (y : List ℕ) × IsStringExactly kind (head_bytes head) y × (w ≡ v ++ y) → AreChunksBegun kind (n + 1) a c t w
@@ -129,7 +129,7 @@ one-more-chunk kind n a b c head t u v w (r, x, before, are, e) is f (y, string,
     joined true some empty more = rw (empty refl, more) (simp append_assoc refl)
     joined false some empty more = rw more (simp append_assoc refl)
 
-pub all-chunks : (kind : StringKind) (n : ℕ) (a b c : ItemHeads) (head : ItemHead) (t u v : List ℕ) →
+pub all-chunks : (kind : StringType) (n : ℕ) (a b c : ItemHeads) (head : ItemHead) (t u v : List ℕ) →
     AreChunksBegun kind n a b t u → HasRead c × IsHeadRead b c head → head.header ≡ header.Break →
     v ≡ u ++ (if n == 0 then empty_text kind else codes ")") → IsPushed (AreOpenChunks kind) a c t v
 all-chunks kind n a b c head t u v (r, x, before, are, e) is ends f = (
@@ -170,12 +170,12 @@ pub alone : (head : ItemHead) (h : ItemHeads) (u t v : List ℕ) → HasRead h �
 alone head h u t v read bare shows e =
     with-parts head h h [] u t v bare (passed-none h read) (rw (append-nil head.bytes.now) shows) e
 
-pub as-string : (kind : StringKind) (head : ItemHead) (h : ItemHeads) (t v : List ℕ) → HasRead h →
+pub as-string : (kind : StringType) (head : ItemHead) (h : ItemHeads) (t v : List ℕ) → HasRead h →
     (u : List ℕ) × IsStringExactly kind (head_bytes head) u × (v ≡ t ++ u) → IsItemPushed head h h t v
 as-string kind head h t v read (u, is, e) =
     ([], u, passed-none h read, rw (append-nil (head_bytes head)) (IsExactly.string kind (head_bytes head) u is), e)
 
-pub as-open-string : (kind : StringKind) (head : ItemHead) (a c : ItemHeads) (t v : List ℕ) → head.payload.now ≡ [] →
+pub as-open-string : (kind : StringType) (head : ItemHead) (a c : ItemHeads) (t v : List ℕ) → head.payload.now ≡ [] →
     head.bytes.now ≡ open_byte (string_major kind) ∷ [] → IsPushed (AreOpenChunks kind) a c t v →
     IsItemPushed head a c t v
 as-open-string kind head a c t v bare opens (b, u, passed, (n, r, x, ends, are, same), e) =

@@ -6,7 +6,7 @@ use Rattle.std.specs.{Prelude.{length, if◌then◌else◌, nat_lt, MatchResult,
 use Rattle.hex.specs.Hex.{decode_of, encode_lower}
 use Rattle.ciborium_ll.specs.{Head.{IsFloat, IsHead, IsSimple, break_byte, open_byte}, ItemHeads.{HasRead, unfinished_in}}
 use Rattle.ciborium_ll.specs.{ItemHeads.unread, ItemLengths.IsNoItem, Levels.{AreItem, incomplete}}
-use Rattle.ciborium_ll.specs.StringRefusal.{IsAllowed, StringKind, of_bytes, of_text, string_major}
+use Rattle.ciborium_ll.specs.StringRefusal.{StringType, IsAllowed, string_major}
 use Rattle.ciborium_ll.specs.{declared.header.Header.Header, declared.levels.Level.Level}
 use Rattle.ciborium_ll.specs.{declared.item_heads.ItemHead.ItemHead, declared.item_heads.ItemHeads.ItemHeads}
 use Rattle.ciborium_value.specs.Notation.{quoted}
@@ -33,12 +33,12 @@ spaced (x ∷ xs) = x ∷ (xs ++ codes " ")
 -- ---- strings (section 3.1)
 
 -- a payload: base16, or a text in quotation marks
-abbrev pub payload_text : StringKind → List ℕ → List ℕ
-payload_text of_bytes payload = codes "h'" ++ (encode_lower payload ++ codes "'")
-payload_text of_text payload = quoted payload
+abbrev pub payload_text : StringType → List ℕ → List ℕ
+payload_text StringType.Bytes payload = codes "h'" ++ (encode_lower payload ++ codes "'")
+payload_text StringType.Text payload = quoted payload
 
 -- b is a definite string, and the text shows it
-abbrev pub IsStringExactly : StringKind → List ℕ → List ℕ → Type 0
+abbrev pub IsStringExactly : StringType → List ℕ → List ℕ → Type 0
 IsStringExactly kind b text = (h : List ℕ) × (payload : List ℕ) × IsHead h (string_major kind) (length payload) ×
     IsAllowed kind payload × (b ≡ h ++ payload) × (text ≡ payload_text kind payload ++ mark (length h) (length payload))
 
@@ -48,18 +48,18 @@ abbrev pub lead : Bool → ℕ → List ℕ
 lead is_map n = if n == 0 then [] else if is_map && (n % 2 == 1) then codes ": " else codes ", "
 
 -- b are n definite strings in a row, the parts of an open one, and the text shows them
-pub data AreChunksExactly (kind : StringKind) : ℕ → List ℕ → List ℕ → Type 0 where
+pub data AreChunksExactly (kind : StringType) : ℕ → List ℕ → List ℕ → Type 0 where
   none : AreChunksExactly kind 0 [] []
   next : (n : ℕ) (b t s u : List ℕ) → AreChunksExactly kind n b t → IsStringExactly kind s u →
       AreChunksExactly kind (suc n) (b ++ s) (t ++ (lead false n ++ u))
 
 -- an open string of no parts
-abbrev pub empty_text : StringKind → List ℕ
-empty_text of_bytes = codes "''_"
-empty_text of_text = codes "\"\"_"
+abbrev pub empty_text : StringType → List ℕ
+empty_text StringType.Bytes = codes "''_"
+empty_text StringType.Text = codes "\"\"_"
 
 -- an open string of n parts, which the text t shows
-abbrev pub open_text : StringKind → ℕ → List ℕ → List ℕ
+abbrev pub open_text : StringType → ℕ → List ℕ → List ℕ
 open_text kind n t = if n == 0 then empty_text kind else codes "(_ " ++ (t ++ codes ")")
 
 -- ---- items
@@ -78,8 +78,8 @@ mutual
   pub data IsExactly : List ℕ → List ℕ → Type 0 where
     unsigned : (h : List ℕ) (n : ℕ) → IsHead h 0 n → IsExactly h (decimal n ++ mark (length h) n)
     negative : (h : List ℕ) (n : ℕ) → IsHead h 1 n → IsExactly h (codes "-" ++ (decimal (n + 1) ++ mark (length h) n))
-    string : (kind : StringKind) (b t : List ℕ) → IsStringExactly kind b t → IsExactly b t
-    open_string : (kind : StringKind) (n : ℕ) (b t : List ℕ) → AreChunksExactly kind n b t →
+    string : (kind : StringType) (b t : List ℕ) → IsStringExactly kind b t → IsExactly b t
+    open_string : (kind : StringType) (n : ℕ) (b t : List ℕ) → AreChunksExactly kind n b t →
         IsExactly (opened (string_major kind) b) (open_text kind n t)
     array : (h : List ℕ) (n : ℕ) (b t : List ℕ) → IsHead h 4 n → AreExactly false n b t →
         IsExactly (h ++ b) (codes "[" ++ (spaced (mark (length h) n) ++ (t ++ codes "]")))
@@ -154,23 +154,16 @@ AreOpenParts is_map b t = (n : ℕ) × (r : List ℕ) × (b ≡ r ++ (break_byte
     AreExactly is_map (if is_map then n + n else n) r t
 
 -- the parts of a string before a break
-abbrev pub AreOpenChunks : StringKind → List ℕ → List ℕ → Type 0
+abbrev pub AreOpenChunks : StringType → List ℕ → List ℕ → Type 0
 AreOpenChunks kind b t = (n : ℕ) × (r : List ℕ) × (u : List ℕ) × (b ≡ r ++ (break_byte ∷ [])) ×
     AreChunksExactly kind n r u × (t ≡ open_text kind n u)
-
-abbrev pub kind_of : Bool → StringKind
-kind_of is_text = if is_text then of_text else of_bytes
-
--- the head of a definite string
-abbrev pub string_header : StringKind → ℕ → Header
-string_header of_bytes n = header.Bytes (Some n)
-string_header of_text n = header.Text (Some n)
 
 -- ---- levels
 
 -- the level that an open string enters
-abbrev pub chunk_level : Bool → Level
-chunk_level is_text = if is_text then level.TextChunks else level.ByteChunks
+abbrev pub chunk_level : StringType → Level
+chunk_level StringType.Bytes = level.ByteChunks
+chunk_level StringType.Text = level.TextChunks
 
 -- the level in an open array or map behind so many parts
 abbrev pub open_level : Bool → ℕ → Level

@@ -6,19 +6,19 @@ ghost use Rattle.hex.specs.Hex.{encode_lower};
 ghost use Rattle.ciborium_ll.specs.Header.{SpellsHeader};
 ghost use Rattle.ciborium_ll.specs.ItemHeads.{HasRead, IsHeadRead, unfinished_in};
 ghost use Rattle.ciborium_ll.specs.Levels.{IsPayloadOf, incomplete};
+ghost use Rattle.ciborium_ll.specs.Strings.{string_header};
 ghost use Rattle.ciborium_ll.specs.declared.header.Header.TheVariants.{Break};
 ghost use Rattle.ciborium_ll.specs.declared.levels.Level.{Level};
 ghost use Rattle.ciborium_ll.specs.declared.levels.Level.TheVariants.{Items};
 ghost use Rattle.cbor.specs.Exact.{AreExactly, AreOpenChunks, AreOpenParts, Explains};
 ghost use Rattle.cbor.specs.Exact.{IsExactAnswer, IsExactly, IsFrontPushed, IsItemPushed, IsPushed};
 ghost use Rattle.cbor.specs.Exact.{IsBegun, IsStringExactly, chunk_level, empty_text, head_bytes};
-ghost use Rattle.cbor.specs.Exact.{kind_of, lead, mark, open_level, simple_text, spaced};
-ghost use Rattle.cbor.specs.Exact.{string_header};
+ghost use Rattle.cbor.specs.Exact.{lead, mark, open_level, simple_text, spaced};
 ghost use Rattle.cbor.specs.declared.exact.Unshown.TheVariants.{Memory};
 
 use crate::digits::push_digits;
 use crate::dumping::{push_quoted, push_reason, push_trailing};
-use ciborium_ll::{Header, ItemHead, ItemHeads, NoItem};
+use ciborium_ll::{Header, ItemHead, ItemHeads, NoItem, StringType};
 use std::alloc::{AllocError, Global};
 use std::io::Write;
 
@@ -144,10 +144,10 @@ fn push_item(
     match head.header {
         Header::Positive(n) => push_number(n, head.bytes.len(), text)?,
         Header::Negative(n) => push_negative(n, head.bytes.len(), text)?,
-        Header::Bytes(Some(_)) => push_string(alloc, false, head, text)?,
-        Header::Text(Some(_)) => push_string(alloc, true, head, text)?,
-        Header::Bytes(None) => push_chunks(alloc, false, heads, text)?,
-        Header::Text(None) => push_chunks(alloc, true, heads, text)?,
+        Header::Bytes(Some(_)) => push_string(alloc, StringType::Bytes, head, text)?,
+        Header::Text(Some(_)) => push_string(alloc, StringType::Text, head, text)?,
+        Header::Bytes(None) => push_chunks(alloc, StringType::Bytes, heads, text)?,
+        Header::Text(None) => push_chunks(alloc, StringType::Text, heads, text)?,
         Header::Array(Some(n)) => {
             push_opening(b"[", head.bytes.len(), n, text)?;
             push_parts(alloc, false, n as u128, heads, text)?;
@@ -236,27 +236,27 @@ fn push_open_parts(
 // Appends the parts of a text or a byte string before a break.
 fn push_chunks(
     alloc: Global,
-    is_text: bool,
+    string: StringType,
     heads: &mut ItemHeads,
     text: &mut Vec<u8>,
 ) -> Result<(), Unshown>
     requires read { HasRead heads.old }
-    requires due { (around : List Level) × (unfinished_in heads.old ≡ chunk_level is_text ∷ around) }
+    requires due { (around : List Level) × (unfinished_in heads.old ≡ chunk_level string ∷ around) }
     ensures shown { OnOk result
-        (IsPushed (AreOpenChunks (kind_of is_text)) heads.old heads.new text.old.items
+        (IsPushed (AreOpenChunks string) heads.old heads.new text.old.items
         text.new.items) }
     ensures left { OnOk result ((around : List Level) →
-        unfinished_in heads.old ≡ chunk_level is_text ∷ around → unfinished_in heads.new ≡ incomplete around) }
+        unfinished_in heads.old ≡ chunk_level string ∷ around → unfinished_in heads.new ≡ incomplete around) }
     ensures unshown { IfErr result (λ unshown. Explains heads.old.bytes.now unshown) }
 {
     'chunks: for place in 0..u128::MAX {
         let head = next_head(heads)?;
         if let Header::Break = head.header {
-            text.extend_from_slice(chunks_end(is_text, place))?;
+            text.extend_from_slice(chunks_end(string, place))?;
             return Ok(());
         }
         text.extend_from_slice(chunk_lead(place))?;
-        push_string(alloc, is_text, &head, text)?;
+        push_string(alloc, string, &head, text)?;
     }
     unreachable!()
 }
@@ -264,20 +264,19 @@ fn push_chunks(
 // Appends a definite string, which is a text or a byte string.
 fn push_string(
     alloc: Global,
-    is_text: bool,
+    string: StringType,
     head: &ItemHead,
     text: &mut Vec<u8>,
 ) -> Result<(), AllocError>
     requires spelled { SpellsHeader head.now.bytes.now head.now.header }
     requires payload { IsPayloadOf head.now.header head.now.payload.now }
-    requires string { (n : ℕ) × (head.now.header ≡ string_header (kind_of is_text) n) }
-    ensures { OnOk result ((t : List ℕ) × IsStringExactly (kind_of is_text) (head_bytes head.now) t
+    requires string { (n : ℕ) × (head.now.header ≡ string_header string n) }
+    ensures { OnOk result ((t : List ℕ) × IsStringExactly string (head_bytes head.now) t
         × (text.new.items ≡ text.old.items ++ t)) }
 {
-    match head.header {
-        Header::Bytes(Some(_)) if !is_text => push_bytes(b"h'", head.payload, text)?,
-        Header::Text(Some(_)) if is_text => push_quoted(alloc, head.payload, text)?,
-        _ => unreachable!(),
+    match string {
+        StringType::Bytes => push_bytes(b"h'", head.payload, text)?,
+        StringType::Text => push_quoted(alloc, head.payload, text)?,
     }
     text.extend_from_slice(mark(head.bytes.len(), head.payload.len() as u64))
 }
@@ -393,15 +392,13 @@ fn chunk_lead(n: u128) -> &'static [u8]
 }
 
 // What stands behind n parts of an open string.
-fn chunks_end(is_text: bool, n: u128) -> &'static [u8]
-    ensures { result.now ≡ (if n == 0 then empty_text (kind_of is_text) else codes ")") }
+fn chunks_end(string: StringType, n: u128) -> &'static [u8]
+    ensures { result.now ≡ (if n == 0 then empty_text string else codes ")") }
 {
-    if n > 0 {
-        b")"
-    } else if is_text {
-        b"\"\"_"
-    } else {
-        b"''_"
+    match string {
+        _ if n > 0 => b")",
+        StringType::Bytes => b"''_",
+        StringType::Text => b"\"\"_",
     }
 }
 

@@ -7,7 +7,7 @@ use Rattle.ciborium_ll.{proofs.OneHeader.one_header_at_front, specs.{Head.{IsHea
 use Rattle.ciborium_ll.specs.Item.{Item, unsigned, negative, bytes, text, array, map, tag, simple, float, items_count}
 use Rattle.ciborium_ll.specs.{Item.pairs_count, Levels.{EndAll, IsPayloadOf, AreUnfinishedBehind, AreItem, entered}}
 use Rattle.ciborium_ll.specs.Levels.{behind_item, behind_bytes, behind_text, behind_break, behind_head, incomplete}
-use Rattle.ciborium_ll.specs.{Spells.Spells, StringRefusal.{IsAllowed, StringKind, of_bytes, of_text, string_major}}
+use Rattle.ciborium_ll.specs.{Spells.Spells, StringRefusal.{StringType, IsAllowed, string_major}}
 use Rattle.ciborium_ll.specs.declared.{header.Header.Header, levels.Level.{Level, TheVariants.{Items, OpenItems}}}
 use Rattle.ciborium_ll.specs.declared.levels.Level.TheVariants.{OpenKeys, OpenValues, ByteChunks, TextChunks}
 use Rattle.ciborium_ll.specs.declared.header.Header.TheVariants as heads
@@ -58,15 +58,15 @@ behind-unfinished header (level ∷ levels) more behind = tt
 -- ---- what stands first
 
 -- the level of parts of a string
-abbrev pub parts_of : StringKind → Level
-parts_of of_bytes = ByteChunks
-parts_of of_text = TextChunks
+abbrev pub parts_of : StringType → Level
+parts_of StringType.Bytes = ByteChunks
+parts_of StringType.Text = TextChunks
 
 -- what ends levels begins with an item, with a part of a string, or with the break
 pub data FirstOf (S : Standing) (level : Level) (levels : List Level) (b z : List ℕ) : Type 0 where
   of_item : (c : List ℕ) (more : List Level) → ItemTo S (length levels) b c →
       behind_item (level ∷ levels) ≡ Some more → LevelsTo S more c z → FirstOf S level levels b z
-  of_part : (kind : StringKind) (h p c : List ℕ) → IsHead h (string_major kind) (length p) → IsAllowed kind p →
+  of_part : (kind : StringType) (h p c : List ℕ) → IsHead h (string_major kind) (length p) → IsAllowed kind p →
       b ≡ h ++ (p ++ c) → level ≡ parts_of kind → LevelsTo S (level ∷ levels) c z → FirstOf S level levels b z
   of_break : (c : List ℕ) → b ≡ 255 ∷ c → behind_break (level ∷ levels) ≡ Some levels → LevelsTo S levels c z →
       FirstOf S level levels b z
@@ -92,12 +92,12 @@ first-of S OpenValues levels b z some (c, (k, (d, one, others)), ends) =
 first-of S ByteChunks levels b z some (c, ([], r, none, e), ends) =
     of_break c (e ∙ ap (λ (x : List ℕ). x ++ (255 ∷ c)) none) refl ends
 first-of S ByteChunks levels b z some (c, (p ∷ ps, r, (t, u, (h, head, allowed, f), parts, g), e), ends) =
-    of_part of_bytes h p (u ++ (255 ∷ c)) head allowed (first-part h p t u r (255 ∷ c) b f g e) refl
+    of_part StringType.Bytes h p (u ++ (255 ∷ c)) head allowed (first-part h p t u r (255 ∷ c) b f g e) refl
     (c, (ps, u, parts, refl), ends)
 first-of S TextChunks levels b z some (c, ([], r, none, e), ends) =
     of_break c (e ∙ ap (λ (x : List ℕ). x ++ (255 ∷ c)) none) refl ends
 first-of S TextChunks levels b z some (c, (p ∷ ps, r, (t, u, (h, head, allowed, f), parts, g), e), ends) =
-    of_part of_text h p (u ++ (255 ∷ c)) head allowed (first-part h p t u r (255 ∷ c) b f g e) refl
+    of_part StringType.Text h p (u ++ (255 ∷ c)) head allowed (first-part h p t u r (255 ∷ c) b f g e) refl
     (c, (ps, u, parts, refl), ends)
 
 -- ---- the head at the front
@@ -204,13 +204,13 @@ module _ (S : Standing) (b c z : List ℕ) (levels more : List Level) (behind : 
       head-first S (heads.Float (length raw)) s [] b c z levels more (raw, spelled, refl) refl split behind ends
 
 module _ (S : Standing) where
-  part-first : (kind : StringKind) (level : Level) (levels : List Level) (h p c b z : List ℕ) →
+  part-first : (kind : StringType) (level : Level) (levels : List Level) (h p c b z : List ℕ) →
       IsHead h (string_major kind) (length p) → IsAllowed kind p → b ≡ h ++ (p ++ c) → level ≡ parts_of kind →
       LevelsTo S (level ∷ levels) c z → HeadTo S (level ∷ levels) b z
-  part-first of_bytes level levels h p c b z head allowed whole is ends =
+  part-first StringType.Bytes level levels h p c b z head allowed whole is ends =
       head-first S (heads.Bytes (Some (length p))) h p b c z (level ∷ levels) (level ∷ levels) head (refl, allowed)
       whole (subst (λ k. behind_bytes (k ∷ levels) ≡ Some (k ∷ levels)) (sym is) refl) ends
-  part-first of_text level levels h p c b z head allowed whole is ends =
+  part-first StringType.Text level levels h p c b z head allowed whole is ends =
       head-first S (heads.Text (Some (length p))) h p b c z (level ∷ levels) (level ∷ levels) head (refl, allowed)
       whole (subst (λ k. behind_text (k ∷ levels) ≡ Some (k ∷ levels)) (sym is) refl) ends
 

@@ -6,7 +6,7 @@ use Rattle.ciborium_ll.specs.declared.levels.Level.TheVariants.{Items, OpenItems
 use Rattle.ciborium_ll.specs.{Head.{IsHead, open_byte}, Header.SpellsHeader, Item.{Item, unsigned, negative, bytes}}
 use Rattle.ciborium_ll.specs.{Item.{text, array, map, tag, simple, float}, Levels.{IsPayloadOf, entered, behind_item}}
 use Rattle.ciborium_ll.specs.{Levels.{behind_bytes, behind_text, behind_break, behind_head}, Spells.{Spells, joined}}
-use Rattle.ciborium_ll.specs.StringRefusal.{IsAllowed, StringKind, of_bytes, of_text, string_major}
+use Rattle.ciborium_ll.specs.StringRefusal.{StringType, IsAllowed, string_major}
 use Rattle.ciborium_ll.proofs.LevelsTo.{Standing, IsFlat, ItemTo, ItemsTo, LevelTo, LevelsTo, ChunksTo, around}
 use Rattle.ciborium_ll.proofs.LevelsTo.{behind-around, item-to, to-items, to-pairs}
 use Rattle.ciborium_ll.specs.declared.header.Header.TheVariants as heads
@@ -35,7 +35,7 @@ open-whole m h s y c e f = ap (λ (x : List ℕ). x ++ y) e ∙
     ap (λ (x : List ℕ). open_byte m ∷ x) (f ∙ sym (append_assoc s (255 ∷ []) c))
 
 -- one part more in front of the others
-chunk-more : (kind : StringKind) (h p y c : List ℕ) → IsHead h (string_major kind) (length p) →
+chunk-more : (kind : StringType) (h p y c : List ℕ) → IsHead h (string_major kind) (length p) →
     IsAllowed kind p → ChunksTo kind y c → ChunksTo kind (h ++ (p ++ y)) c
 chunk-more kind h p y c head allowed (ps, r, parts, e) = (
   p ∷ ps,
@@ -132,21 +132,21 @@ module _ (S : Standing) (h p y z : List ℕ) (levels more : List Level) (ends : 
       (i, h, spelled, ap (λ (x : List ℕ). h ++ (x ++ y)) none, S.flat (around levels) i flat) ends
 
 module _ (S : Standing) where
-  bytes-to : (h p y z : List ℕ) (levels more : List Level) → IsHead h 2 (length p) → IsAllowed of_bytes p →
+  bytes-to : (h p y z : List ℕ) (levels more : List Level) → IsHead h 2 (length p) → IsAllowed StringType.Bytes p →
       behind_bytes levels ≡ Some more → LevelsTo S more y z → LevelsTo S levels (h ++ (p ++ y)) z
   bytes-to h p y z (ByteChunks ∷ levels) more head allowed behind ends =
       let same : more ≡ ByteChunks ∷ levels = cc behind in
       let (c, parts, rest) = subst (λ m. LevelsTo S m y z) same ends in
-      (c, chunk-more of_bytes h p y c head allowed parts, rest)
+      (c, chunk-more StringType.Bytes h p y c head allowed parts, rest)
   bytes-to h p y z levels more head allowed behind ends =
       whole-to S h p y z levels more ends (bytes false p) tt (h, head, allowed, refl) behind
 
-  text-to : (h p y z : List ℕ) (levels more : List Level) → IsHead h 3 (length p) → IsAllowed of_text p →
+  text-to : (h p y z : List ℕ) (levels more : List Level) → IsHead h 3 (length p) → IsAllowed StringType.Text p →
       behind_text levels ≡ Some more → LevelsTo S more y z → LevelsTo S levels (h ++ (p ++ y)) z
   text-to h p y z (TextChunks ∷ levels) more head allowed behind ends =
       let same : more ≡ TextChunks ∷ levels = cc behind in
       let (c, parts, rest) = subst (λ m. LevelsTo S m y z) same ends in
-      (c, chunk-more of_text h p y c head allowed parts, rest)
+      (c, chunk-more StringType.Text h p y c head allowed parts, rest)
   text-to h p y z levels more head allowed behind ends =
       whole-to S h p y z levels more ends (text false p) tt (h, head, allowed, refl) behind
 

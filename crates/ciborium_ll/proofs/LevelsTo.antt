@@ -5,7 +5,7 @@ use Rattle.ciborium_ll.specs.{declared.levels.Level.Level, declared.levels.Level
 use Rattle.ciborium_ll.specs.declared.levels.Level.TheVariants.{OpenKeys, OpenValues, ByteChunks, TextChunks}
 use Rattle.ciborium_ll.specs.Item.{Item, array, map, tag, no_items, item, no_pairs, pair, items_count, pairs_count}
 use Rattle.ciborium_ll.specs.{Levels.{behind_item, incomplete}, Spells.{AreChunks, Spells, SpellsItems, SpellsPairs}}
-use Rattle.ciborium_ll.specs.StringRefusal.{IsAllowed, StringKind, of_bytes, of_text, string_major}
+use Rattle.ciborium_ll.specs.StringRefusal.{StringType, IsAllowed, string_major}
 use Rattle.ciborium_ll.specs.Item as items
 
 -- no array, no map and no tag
@@ -34,7 +34,7 @@ pub record Standing : Type 1 where
   pub tags : (n t : ℕ) (i : Item) → (Room n → May (suc n) i → May n (tag t i)) × (May n (tag t i) → May (suc n) i)
 
 -- parts of a string and the break begin b, and z follows them
-abbrev pub ChunksTo : StringKind → List ℕ → List ℕ → Type 0
+abbrev pub ChunksTo : StringType → List ℕ → List ℕ → Type 0
 ChunksTo kind b z = (payloads : List (List ℕ)) × (r : List ℕ) ×
     AreChunks (string_major kind) (IsAllowed kind) r payloads × (b ≡ r ++ (255 ∷ z))
 
@@ -66,8 +66,8 @@ module _ (S : Standing) where
   LevelTo n OpenItems b z = (k : ℕ) × ItemsTo n k b (255 ∷ z)
   LevelTo n OpenKeys b z = (k : ℕ) × ItemsTo n (k + k) b (255 ∷ z)
   LevelTo n OpenValues b z = (k : ℕ) × ItemsTo n (suc (k + k)) b (255 ∷ z)
-  LevelTo n ByteChunks b z = ChunksTo of_bytes b z
-  LevelTo n TextChunks b z = ChunksTo of_text b z
+  LevelTo n ByteChunks b z = ChunksTo StringType.Bytes b z
+  LevelTo n TextChunks b z = ChunksTo StringType.Text b z
 
   -- what ends these levels, the innermost first
   abbrev pub LevelsTo : List Level → List ℕ → List ℕ → Type 0
@@ -178,7 +178,7 @@ module _ (S : Standing) where
   break-longer : (b z : List ℕ) → length (255 ∷ z) ≤ length b → length z ≤ length b
   break-longer b z le = omega arith
 
-  chunks-longer : (kind : StringKind) (b z : List ℕ) → ChunksTo kind b z → length z ≤ length b
+  chunks-longer : (kind : StringType) (b z : List ℕ) → ChunksTo kind b z → length z ≤ length b
   chunks-longer kind b z (ps, r, parts, e) =
       let long : length b ≡ length r + suc (length z) = ap length e ∙ length-append r (255 ∷ z) in
       omega arith
@@ -188,8 +188,8 @@ module _ (S : Standing) where
   level-longer n OpenItems b z (k, h) = break-longer b z (items-longer n k b (255 ∷ z) h)
   level-longer n OpenKeys b z (k, h) = break-longer b z (items-longer n (k + k) b (255 ∷ z) h)
   level-longer n OpenValues b z (k, h) = break-longer b z (items-longer n (suc (k + k)) b (255 ∷ z) h)
-  level-longer n ByteChunks b z h = chunks-longer of_bytes b z h
-  level-longer n TextChunks b z h = chunks-longer of_text b z h
+  level-longer n ByteChunks b z h = chunks-longer StringType.Bytes b z h
+  level-longer n TextChunks b z h = chunks-longer StringType.Text b z h
 
   pub longer : (levels : List Level) (b z : List ℕ) → LevelsTo levels b z → length z ≤ length b
   longer [] b z e = let same : length b ≡ length z = ap length e in omega arith

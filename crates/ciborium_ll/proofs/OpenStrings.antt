@@ -5,7 +5,7 @@ use Rattle.std.proofs.KnownBytes.{Consumes-nil}
 use Rattle.ciborium_ll.proofs.{Advancing.Advances-then, HeadAnswers.header-fits, UsableHeads.usable-fits}
 use Rattle.ciborium_ll.specs.{Bytes.greatest_offset, Head.{IsHead, break_byte}, Header.{SpellsHeader, announced_length}}
 use Rattle.ciborium_ll.specs.{ReaderSteps.{Advances, IsHeadTaken}, Spells.{IsDefiniteString, AreChunks, joined}}
-use Rattle.ciborium_ll.specs.StringRefusal.{StringKind, of_bytes, of_text, string_major, IsAllowed}
+use Rattle.ciborium_ll.specs.StringRefusal.{StringType, string_major, IsAllowed}
 use Rattle.ciborium_ll.specs.Strings.{string_header, IsChunk, IsPayloadTaken, IsChunkTaken, AreChunksTaken}
 use Rattle.ciborium_ll.specs.declared.header.{Error.{Error, TheVariants.{Syntax, TooLong}}, Header.Header}
 use Rattle.ciborium_ll.specs.declared.strings.Chunk.TheVariants.{Other}
@@ -26,27 +26,27 @@ joined-more (q ∷ ps) p = ap (λ (c : List ℕ). q ++ c) (joined-more ps p) ∙
 -- ---- the loop
 
 -- good parts were taken between the offsets p and q, and their payloads appended
-abbrev pub GoodParts : StringKind → Option (List ℕ) → Option (List ℕ) → ℕ → ℕ → List ℕ → List ℕ → Type 0
+abbrev pub GoodParts : StringType → Option (List ℕ) → Option (List ℕ) → ℕ → ℕ → List ℕ → List ℕ → Type 0
 GoodParts kind a b p q old new = (payloads : List (List ℕ)) × (s : List ℕ) × AreChunks (string_major kind)
     (IsAllowed kind) s payloads × (new ≡ old ++ joined payloads) × Advances a b p q (λ x. x ≡ s) × (q ≤ greatest_offset)
 
-string-head : (kind : StringKind) (h : List ℕ) (n : ℕ) → SpellsHeader h (string_header kind n) →
+string-head : (kind : StringType) (h : List ℕ) (n : ℕ) → SpellsHeader h (string_header kind n) →
     IsHead h (string_major kind) n
-string-head of_bytes h n s = s
-string-head of_text h n s = s
+string-head StringType.Bytes h n s = s
+string-head StringType.Text h n s = s
 
 -- a payload of n bytes was taken and appended
-abbrev pub WholePayload : StringKind → ℕ → List ℕ → List ℕ → Type 0
+abbrev pub WholePayload : StringType → ℕ → List ℕ → List ℕ → Type 0
 WholePayload kind n b added = (length b ≡ n) × IsAllowed kind b × (added ≡ b)
 
 -- all parts were taken and appended, from offset p on
-abbrev pub WholeParts : StringKind → List ℕ → ℕ → List ℕ → Type 0
+abbrev pub WholeParts : StringType → List ℕ → ℕ → List ℕ → Type 0
 WholeParts kind b p added =
     (payloads : List (List ℕ)) × (s : List ℕ) × AreChunks (string_major kind) (IsAllowed kind) s payloads ×
     (p + length b ≤ greatest_offset) × (b ≡ s ++ break_byte ∷ []) × (added ≡ joined payloads)
 
 -- a part was taken
-pub parts-more : {E : Type 0} (kind : StringKind) (a b c d : Option (List ℕ)) (p q r t n : ℕ) (old mid new : List ℕ)
+pub parts-more : {E : Type 0} (kind : StringType) (a b c d : Option (List ℕ)) (p q r t n : ℕ) (old mid new : List ℕ)
     (h : Header) → h ≡ string_header kind n →
     GoodParts kind a b p q old mid → Advances b c q r (λ x. IsHeadTaken {E = E} x q (Ok h)) →
     Advances c d r t (λ x. (added : List ℕ) × (new ≡ mid ++ added) × WholePayload kind n x added) →
@@ -74,7 +74,7 @@ parts-more {E} kind a b c d p q r t n old mid new h is (ps, s, parts, was, taken
     )
 
 -- the break
-pub parts-end : {E : Type 0} (kind : StringKind) (a b c : Option (List ℕ)) (p q r : ℕ) (old mid : List ℕ) (h : Header) →
+pub parts-end : {E : Type 0} (kind : StringType) (a b c : Option (List ℕ)) (p q r : ℕ) (old mid : List ℕ) (h : Header) →
     h ≡ header.Break → GoodParts kind a b p q old mid → Advances b c q r (λ x. IsHeadTaken {E = E} x q (Ok h)) →
     Advances a c p r (λ x. (added : List ℕ) × (mid ≡ old ++ added) × WholeParts kind x p added)
 parts-end {E} kind a b c p q r old mid h is (ps, s, parts, was, taken, below) head =
@@ -92,7 +92,7 @@ parts-end {E} kind a b c p q r old mid h is (ps, s, parts, was, taken, below) he
     taken (head.0, head.1, head.2, broken, head.4)
 
 -- a refusal behind some parts
-pub parts-refused : {E : Type 0} (kind : StringKind) (a b c : Option (List ℕ)) (p q r : ℕ) (old mid new : List ℕ)
+pub parts-refused : {E : Type 0} (kind : StringType) (a b c : Option (List ℕ)) (p q r : ℕ) (old mid new : List ℕ)
     (e : Error E) → GoodParts kind a b p q old mid → new ≡ mid →
     Advances b c q r (λ x. IsChunkTaken {E = E} kind x q e) →
     Advances a c p r (λ x. (added : List ℕ) × (new ≡ old ++ added) × AreChunksTaken {E = E} kind x p (Err e) added)
@@ -119,14 +119,14 @@ parts-refused {E} kind a b c p q r old mid new e (ps, s, parts, was, taken, belo
     taken part
 
 -- a refused payload appended nothing
-pub nothing-appended : {E : Type 0} (kind : StringKind) (n p : ℕ) (e : Error E) (added b : List ℕ) →
+pub nothing-appended : {E : Type 0} (kind : StringType) (n p : ℕ) (e : Error E) (added b : List ℕ) →
     IsPayloadTaken {E = E} kind n p b (Err e) added → (added ≡ []) × IsPayloadTaken {E = E} kind n p b (Err e) []
 nothing-appended kind n p (Syntax at) added b h = (h.3, (h.0, h.1, h.2, refl))
 nothing-appended kind n p TooLong added b h = absurd h
 nothing-appended kind n p u added b h = (h.1, (h.0, refl))
 
 -- the payload of a part was refused
-pub payload-refused : {E : Type 0} (kind : StringKind) (b c d : Option (List ℕ)) (k q r t n : ℕ) (mid new : List ℕ)
+pub payload-refused : {E : Type 0} (kind : StringType) (b c d : Option (List ℕ)) (k q r t n : ℕ) (mid new : List ℕ)
     (h : Header) (e : Error E) →
     k ≡ q → h ≡ string_header kind n → Advances b c q r (λ x. IsHeadTaken {E = E} x q (Ok h)) →
     Advances c d r t (λ x. (added : List ℕ) × (new ≡ mid ++ added) × IsPayloadTaken {E = E} kind n k x (Err e) added) →
@@ -142,7 +142,7 @@ payload-refused {E} kind b c d k q r t n mid new h e here is head payload =
     )
 
 -- before the first part
-pub parts-none : (kind : StringKind) (a : Option (List ℕ)) (p : ℕ) (old : List ℕ) → p ≤ greatest_offset →
+pub parts-none : (kind : StringType) (a : Option (List ℕ)) (p : ℕ) (old : List ℕ) → p ≤ greatest_offset →
     GoodParts kind a a p p old old
 parts-none kind a p old fits = (
   [],
@@ -154,7 +154,7 @@ parts-none kind a p old fits = (
 )
 
 -- a head that is no part's
-pub other-refused : {E : Type 0} (kind : StringKind) (b c : Option (List ℕ)) (k q r : ℕ) (h : Header) → k ≡ q →
+pub other-refused : {E : Type 0} (kind : StringType) (b c : Option (List ℕ)) (k q r : ℕ) (h : Header) → k ≡ q →
     IsChunk kind h Other → Advances b c q r (λ x. IsHeadTaken {E = E} x q (Ok h)) →
     Advances b c q r (λ x. IsChunkTaken {E = E} kind x q (Syntax k))
 other-refused {E} kind b c k q r h here other head = (
@@ -166,17 +166,17 @@ other-refused {E} kind b c k q r h here other head = (
 )
 
 -- a head that was refused
-pub part-head-refused : {E : Type 0} (kind : StringKind) (b c : Option (List ℕ)) (q r : ℕ) (e : Error E) →
+pub part-head-refused : {E : Type 0} (kind : StringType) (b c : Option (List ℕ)) (q r : ℕ) (e : Error E) →
     Advances b c q r (λ x. IsHeadTaken {E = E} x q (Err e)) → Advances b c q r (λ x. IsChunkTaken {E = E} kind x q e)
 part-head-refused {E} kind b c q r e head = (head.0, head.1, head.2, inl head.3, head.4)
 
 -- the payload of a part fits behind its head
-pub payload-fits : {E : Type 0} (kind : StringKind) (b c : Option (List ℕ)) (q r n : ℕ) (h : Header) →
+pub payload-fits : {E : Type 0} (kind : StringType) (b c : Option (List ℕ)) (q r n : ℕ) (h : Header) →
     h ≡ string_header kind n → Advances b c q r (λ x. IsHeadTaken {E = E} x q (Ok h)) → r + n ≤ greatest_offset
 payload-fits {E} kind b c q r n h is head =
     let fits = header-fits {E = E} head.0 q (string_header kind n)
     (subst (λ k. IsHeadTaken {E = E} head.0 q (Ok k)) is head.3) in omega (arith, fits, announced kind, head.2)
   where
-    announced : (k : StringKind) → announced_length (string_header k n) ≡ n
-    announced of_bytes = refl
-    announced of_text = refl
+    announced : (k : StringType) → announced_length (string_header k n) ≡ n
+    announced StringType.Bytes = refl
+    announced StringType.Text = refl

@@ -3,7 +3,7 @@ use Rattle.std.proofs.Common.{◌≡◌, ℕ, ◌+◌, ◌-◌, List, [], ◌++�
 use Rattle.std.proofs.{Common.{refl, sym, ap, ◌∙◌, arith, append_assoc, length-append}, Math.Seq.take-append_seam}
 use Rattle.std.proofs.{Math.Seq.drop-append_seam, lemmas.List.take_all}
 use Rattle.ciborium_ll.{proofs.Advancing.{Advances-map, Advances-then}, specs.ReaderSteps.Advances}
-use Rattle.ciborium_ll.specs.{StringRefusal.{IsAllowed, StringKind}, Strings.{Extends, Grows, IsPayloadTaken}}
+use Rattle.ciborium_ll.specs.{StringRefusal.{StringType, IsAllowed}, Strings.{Extends, Grows, IsPayloadTaken}}
 use Rattle.ciborium_ll.specs.{Strings.{IsPiecesTaken, IsSomeTaken}, declared.header.Error.{Error, TheVariants.Io}}
 use Rattle.ciborium_ll.specs.declared.header.Error.TheVariants.{Syntax, TooLong, Memory}
 
@@ -58,7 +58,7 @@ behind old mid x start at more =
     take_all (length mid - start) (drop start mid) (omega
     (arith, at, ap length more, length-append old x, ap length rest)) ∙ rest
 
-dropped : {E : Type 0} (kind : StringKind) (n head start : ℕ) (old mid new x : List ℕ) (e : Error E) →
+dropped : {E : Type 0} (kind : StringType) (n head start : ℕ) (old mid new x : List ℕ) (e : Error E) →
     start ≡ length old → new ≡ take start mid → IsPiecesTaken {E = E} n x (Err e) old mid →
     Grows old new (IsPayloadTaken {E = E} kind n head x (Err e))
 dropped kind n head start old mid new x (Io e) at same h = ([], taken-off old mid new start at same h.1, (h.0, refl))
@@ -67,7 +67,7 @@ dropped kind n head start old mid new x TooLong at same h = absurd h
 dropped kind n head start old mid new x Memory at same h = ([], taken-off old mid new start at same h.1, (h.0, refl))
 
 -- a piece was refused
-pub payload-dropped : {E : Type 0} (kind : StringKind) (a b : Option (List ℕ)) (p q n head start : ℕ)
+pub payload-dropped : {E : Type 0} (kind : StringType) (a b : Option (List ℕ)) (p q n head start : ℕ)
     (old mid new : List ℕ) (e : Error E) → start ≡ length old → new ≡ take start mid →
     Advances a b p q (λ x. IsPiecesTaken {E = E} n x (Err e) old mid) →
     Advances a b p q (λ x. Grows old new (IsPayloadTaken {E = E} kind n head x (Err e)))
@@ -77,7 +77,7 @@ payload-dropped {E} kind a b p q n head start old mid new e at same =
     (λ x h. dropped {E = E} kind n head start old mid new x e at same h)
 
 -- the payload is none of its kind
-pub payload-refused : (kind : StringKind) (a b : Option (List ℕ)) (p q n head start : ℕ) (old mid new : List ℕ) →
+pub payload-refused : (kind : StringType) (a b : Option (List ℕ)) (p q n head start : ℕ) (old mid new : List ℕ) →
     start ≡ length old → new ≡ take start mid → ¬ IsAllowed kind (take (length mid - start) (drop start mid)) →
     Advances a b p q (λ x. (length x ≡ n) × (mid ≡ old ++ x)) →
     Advances a b p q (λ x. Grows old new (λ added. (head ≡ head) × (length x ≡ n) × ¬ IsAllowed kind x × (added ≡ [])))
@@ -91,7 +91,7 @@ payload-refused kind a b p q n head start old mid new at same not =
     ))
 
 -- it is one
-pub payload-whole : (kind : StringKind) (a b : Option (List ℕ)) (p q n start : ℕ) (old mid : List ℕ) →
+pub payload-whole : (kind : StringType) (a b : Option (List ℕ)) (p q n start : ℕ) (old mid : List ℕ) →
     start ≡ length old → IsAllowed kind (take (length mid - start) (drop start mid)) →
     Advances a b p q (λ x. (length x ≡ n) × (mid ≡ old ++ x)) →
     Advances a b p q (λ x. Grows old mid (λ added. (length x ≡ n) × IsAllowed kind x × (added ≡ x)))

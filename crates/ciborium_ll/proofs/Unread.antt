@@ -5,7 +5,7 @@ use Rattle.std.{proofs.lemmas.Str.IsUtf8-nil, specs.{Io.KnownBytes.Consumes, Pre
 use Rattle.ciborium_ll.{proofs.{MoreBytes.refusal-more, OneHeader.one_header_at_front}, specs.Decoding.PullsTo}
 use Rattle.ciborium_ll.specs.{Head.break_byte, Header.SpellsHeader, ReaderSteps.{Advances, IsRefusalOf, IsHeadTaken}}
 use Rattle.ciborium_ll.specs.Refusal.{Refusal, io, syntax, too_long, HeadRefuses, IsUsable, HasHead, IsAtFront}
-use Rattle.ciborium_ll.specs.{Spells.{AreChunks, joined}, StringRefusal.{StringKind, of_bytes, of_text, string_major}}
+use Rattle.ciborium_ll.specs.{Spells.{AreChunks, joined}, StringRefusal.{StringType, string_major}}
 use Rattle.ciborium_ll.specs.StringRefusal.{IsAllowed, PayloadRefuses, HasStringHead, ChunkRefuses, ChunksRefuse}
 use Rattle.ciborium_ll.specs.{StringRefusal.ContentRefuses, Strings.{string_header, IsPayloadTaken, IsChunkTaken}}
 use Rattle.ciborium_ll.specs.{Strings.{AreChunksTaken, IsStringTaken}, declared.header.Error.{Error, TheVariants.Io}}
@@ -81,7 +81,7 @@ pulls-head {E} old new last count b q p (Err e) (at, known) here taken =
 -- ---- strings
 
 -- where a payload was refused, what was left refuses so
-pub payload-refuses : {E : Type 0} (kind : StringKind) (n p : ℕ) (left : Option (List ℕ)) (e : Error E)
+pub payload-refuses : {E : Type 0} (kind : StringType) (n p : ℕ) (left : Option (List ℕ)) (e : Error E)
     (added x r b : List ℕ) → IsPayloadTaken {E = E} kind n p x (Err e) added →
     b ≡ x ++ r → left ≡ Some r → IsRefusalOf left e (PayloadRefuses kind n p b)
 payload-refuses kind n p left (Io e) added x r b t is rest =
@@ -100,17 +100,17 @@ refused-map left (Syntax at) P Q f h = f (syntax at) h
 refused-map left TooLong P Q f h = f too_long h
 refused-map left Memory P Q f h = tt
 
-string-stands : (kind : StringKind) (n : ℕ) (x r b : List ℕ) → SpellsHeader x (string_header kind n) → b ≡ x ++ r →
+string-stands : (kind : StringType) (n : ℕ) (x r b : List ℕ) → SpellsHeader x (string_header kind n) → b ≡ x ++ r →
     HasHead b (string_major kind) n (length x) r
-string-stands of_bytes n x r b s is = (x, s, refl, is)
-string-stands of_text n x r b s is = (x, s, refl, is)
+string-stands StringType.Bytes n x r b s is = (x, s, refl, is)
+string-stands StringType.Text n x r b s is = (x, s, refl, is)
 
 -- a string begins here only where its head was read
-string-begun : (kind : StringKind) (x r b : List ℕ) (h : Header) → SpellsHeader x h → b ≡ x ++ r →
+string-begun : (kind : StringType) (x r b : List ℕ) (h : Header) → SpellsHeader x h → b ≡ x ++ r →
     HasStringHead kind b → (n : ℕ) × (h ≡ string_header kind n)
-string-begun of_bytes x r b h s is (n, k, q, (y, head, len, whole)) =
+string-begun StringType.Bytes x r b h s is (n, k, q, (y, head, len, whole)) =
     (n, (one_header_at_front x y r q h (header.Bytes (Some n)) s head (sym is ∙ whole)).2)
-string-begun of_text x r b h s is (n, k, q, (y, head, len, whole)) =
+string-begun StringType.Text x r b h s is (n, k, q, (y, head, len, whole)) =
     (n, (one_header_at_front x y r q h (header.Text (Some n)) s head (sym is ∙ whole)).2)
 
 break-begun : (x r b : List ℕ) (h : Header) → SpellsHeader x h → b ≡ x ++ r → IsAtFront break_byte b → h ≡ header.Break
@@ -118,7 +118,7 @@ break-begun x r b h s is (q, whole) = (one_header_at_front x (break_byte ∷ [])
     (sym is ∙ whole)).2
 
 -- where a part was refused, what was left refuses so
-pub part-refuses : {E : Type 0} (kind : StringKind) (x r b : List ℕ) (p : ℕ) (left : Option (List ℕ)) (e : Error E) →
+pub part-refuses : {E : Type 0} (kind : StringType) (x r b : List ℕ) (p : ℕ) (left : Option (List ℕ)) (e : Error E) →
     IsChunkTaken {E = E} kind x p e → b ≡ x ++ r → left ≡ Some r → IsRefusalOf left e (ChunkRefuses kind b p)
 part-refuses {E} kind x r b p left e (inl t) is rest = refused-map left e (HeadRefuses b p)
     (ChunkRefuses kind b p) (λ f h. ChunkRefuses.no_head h) (head-refuses {E = E} x r b p left e t is rest)
@@ -134,7 +134,7 @@ part-refuses {E} kind x r b p left e (inr (inr (n, s, y, split, t, payload))) is
     (n, length s, y ++ r, string-stands kind n s (y ++ r) b t.answers.0 whole, h))
     (payload-refuses {E = E} kind n p left e [] y r (y ++ r) payload refl rest)
 
-pub parts-refuse : {E : Type 0} (kind : StringKind) (x r b : List ℕ) (q : ℕ) (left : Option (List ℕ)) (e : Error E)
+pub parts-refuse : {E : Type 0} (kind : StringType) (x r b : List ℕ) (q : ℕ) (left : Option (List ℕ)) (e : Error E)
     (added : List ℕ) → AreChunksTaken {E = E} kind x q (Err e) added → b ≡ x ++ r →
     left ≡ Some r → IsRefusalOf left e (ChunksRefuse kind b q)
 parts-refuse {E} kind x r b q left e added (ps, s, parts, fits, (y, split, part), same) is rest =
@@ -142,7 +142,7 @@ parts-refuse {E} kind x r b q left e added (ps, s, parts, fits, (y, split, part)
     (λ f h. (s, ps, y ++ r, parts, fits, is ∙ ap (λ (c : List ℕ). c ++ r) split ∙ append_assoc s y r, h))
     (part-refuses {E = E} kind y r (y ++ r) (q + length s) left e part refl rest)
 
-pub string-refuses : {E : Type 0} (kind : StringKind) (len : Option ℕ) (p : ℕ) (x r b : List ℕ) (q : ℕ)
+pub string-refuses : {E : Type 0} (kind : StringType) (len : Option ℕ) (p : ℕ) (x r b : List ℕ) (q : ℕ)
     (left : Option (List ℕ)) (e : Error E) (added : List ℕ) → IsStringTaken {E = E} kind len p x q (Err e) added →
     b ≡ x ++ r → left ≡ Some r → IsRefusalOf left e (ContentRefuses kind len p b q)
 string-refuses {E} kind (Some n) p x r b q left (Io e) added (inl (over, is, none, nothing)) split rest = absurd cc
@@ -157,14 +157,14 @@ string-refuses {E} kind None p x r b q left e added t split rest =
     parts-refuse {E = E} kind x r b q left e added t split rest
 
 -- the same, where the bytes were known
-pub reads-string : {E : Type 0} (kind : StringKind) (len : Option ℕ) (p q t : ℕ) (old new : Option (List ℕ))
+pub reads-string : {E : Type 0} (kind : StringType) (len : Option ℕ) (p q t : ℕ) (old new : Option (List ℕ))
     (e : Error E) (b : List ℕ) (A : List ℕ → List ℕ → Type 0) →
     Advances old new q t (λ x. (added : List ℕ) × A added x × IsStringTaken {E = E} kind len p x q (Err e) added) →
     old ≡ Some b → IsRefusalOf new e (ContentRefuses kind len p b q)
 reads-string {E} kind len p q t old new e b A (x, taken, count, (added, h, s), bytes) is =
     let k = rest-of old new b x is taken in string-refuses {E = E} kind len p x k.0 b q new e added s k.2 k.1
 
-pub refused-string : {E : Type 0} (kind : StringKind) (len : Option ℕ) (p q t : ℕ) (old new : Option (List ℕ))
+pub refused-string : {E : Type 0} (kind : StringType) (len : Option ℕ) (p q t : ℕ) (old new : Option (List ℕ))
     (result : Result (Unit {0}) (Error E)) (b : List ℕ) (A : List ℕ → List ℕ → Type 0) →
     Advances old new q t (λ x. (added : List ℕ) × A added x × IsStringTaken {E = E} kind len p x q result added) →
     old ≡ Some b → IfErr result (λ e. IsRefusalOf new e (ContentRefuses kind len p b q))
@@ -173,7 +173,7 @@ refused-string {E} kind len p q t old new (Err e) b A h is = reads-string {E = E
 
 -- ---- what is appended of a text is UTF-8
 
-joined-utf8 : (ps : List (List ℕ)) (s : List ℕ) → AreChunks 3 (IsAllowed of_text) s ps → IsUtf8 (joined ps)
+joined-utf8 : (ps : List (List ℕ)) (s : List ℕ) → AreChunks 3 (IsAllowed StringType.Text) s ps → IsUtf8 (joined ps)
 joined-utf8 [] s h = IsUtf8-nil
 joined-utf8 (p ∷ ps) s (t, r, (y, head, ok, is), rest, e) = IsUtf8-append p (joined ps) ok (joined-utf8 ps r rest)
 
@@ -181,14 +181,14 @@ utf8-none : (added : List ℕ) → added ≡ [] → IsUtf8 added
 utf8-none added e = subst IsUtf8 (sym e) IsUtf8-nil
 
 payload-utf8 : {E : Type 0} (n p : ℕ) (result : Result (Unit {0}) (Error E)) (added x : List ℕ) →
-    IsPayloadTaken {E = E} of_text n p x result added → IsUtf8 added
+    IsPayloadTaken {E = E} StringType.Text n p x result added → IsUtf8 added
 payload-utf8 n p (Ok u) added x h = subst IsUtf8 (sym h.2) h.1
 payload-utf8 n p (Err (Syntax at)) added x h = utf8-none added h.3
 payload-utf8 n p (Err TooLong) added x h = absurd h
 payload-utf8 n p u added x h = utf8-none added h.1
 
 pub appended-utf8 : {E : Type 0} (len : Option ℕ) (p q : ℕ) (result : Result (Unit {0}) (Error E)) (added x : List ℕ) →
-    IsStringTaken {E = E} of_text len p x q result added → IsUtf8 added
+    IsStringTaken {E = E} StringType.Text len p x q result added → IsUtf8 added
 appended-utf8 (Some n) p q result added x (inl h) = utf8-none added h.2
 appended-utf8 {E} (Some n) p q result added x (inr h) = payload-utf8 {E = E} n p result added x h.1
 appended-utf8 None p q (Ok u) added x (ps, s, parts, fits, split, same) =
@@ -200,6 +200,6 @@ appended-utf8 None p q (Err e) added x (ps, s, parts, fits, last, same) =
 pub grown-utf8 : {E : Type 0} (len : Option ℕ) (p q t : ℕ) (a b : Option (List ℕ))
     (result : Result (Unit {0}) (Error E)) (old new : List ℕ) → IsUtf8 old →
     Advances a b q t (λ x. (added : List ℕ) × (new ≡ old ++ added) ×
-    IsStringTaken {E = E} of_text len p x q result added) → IsUtf8 new
+    IsStringTaken {E = E} StringType.Text len p x q result added) → IsUtf8 new
 grown-utf8 {E} len p q t a b result old new ok (x, taken, count, (added, is, s), bytes) =
     subst IsUtf8 (sym is) (IsUtf8-append old added ok (appended-utf8 {E = E} len p q result added x s))

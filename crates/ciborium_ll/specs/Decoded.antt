@@ -7,7 +7,7 @@ use Rattle.ciborium_ll.specs.{declared.header.Error.TheVariants.{Io, Syntax, Too
 use Rattle.ciborium_ll.specs.{declared.decoder.Decoder.Decoder, Decoding.{HasEndedFor, HasSameReader, IsAhead}}
 use Rattle.ciborium_ll.specs.Decoding.{ReadsNothing, MeasuresHead, Pulls, Takes, count_of, head_len_of, last_of}
 use Rattle.ciborium_ll.specs.{Decoding.{left_of, pushed_of}, ReaderSteps.{IsFillTaken, IsHeadTaken, IsRefusalOf}}
-use Rattle.ciborium_ll.specs.{StringRefusal.{ContentRefuses, StringKind}, Strings.{Grows, IsStringTaken}}
+use Rattle.ciborium_ll.specs.{StringRefusal.{StringType, ContentRefuses}, Strings.{Grows, IsStringTaken}}
 
 -- a head was pulled, or refused
 pub record HasPulled {S W E : Type 0} (can_fail : Bool) (remaining : S → Option (List ℕ))
@@ -61,7 +61,7 @@ pub record HasVisited {S W V E : Type 0} (can_fail : Bool) (remaining : S → Op
 
 -- what the last head, that of a string, announces was put behind `before`, whole or up to what is
 -- refused
-pub record HasAppended {S W E : Type 0} (kind : StringKind) (len : Option ℕ) (can_fail : Bool)
+pub record HasAppended {S W E : Type 0} (kind : StringType) (len : Option ℕ) (can_fail : Bool)
     (remaining : S → Option (List ℕ)) (old new : Decoder S W) (before after : List ℕ)
     (result : Result (Unit {0}) (Error E)) : Type 0 where
   pub same_reader : HasSameReader old new

@@ -5,7 +5,7 @@ use Rattle.ciborium_ll.specs.{declared.header.Header.Header, declared.levels.Lev
 use Rattle.ciborium_ll.specs.declared.levels.Level.TheVariants.{Items, OpenItems, OpenKeys, OpenValues, ByteChunks}
 use Rattle.ciborium_ll.specs.{declared.levels.Level.TheVariants.TextChunks, declared.levels.Step.Step, Head.break_byte}
 use Rattle.ciborium_ll.specs.{Item.{Item, items_count}, Spells.{AreChunks, Spells, SpellsItems, SpellsPairs}}
-use Rattle.ciborium_ll.specs.StringRefusal.{IsAllowed, StringKind, of_bytes, of_text, string_major}
+use Rattle.ciborium_ll.specs.StringRefusal.{StringType, IsAllowed, string_major}
 use Rattle.ciborium_ll.specs.declared.header.Header.TheVariants as header
 use Rattle.ciborium_ll.specs.declared.levels.Step.TheVariants as step
 use Rattle.ciborium_ll.specs.Item as item
@@ -17,7 +17,7 @@ abbrev pub EndsPairs : List ℕ → Type 0
 EndsPairs b = (ps : item.Pairs) × (r : List ℕ) × SpellsPairs r ps × (b ≡ r ++ (break_byte ∷ []))
 
 -- parts of a string and the break behind them
-abbrev pub EndsChunks : StringKind → List ℕ → Type 0
+abbrev pub EndsChunks : StringType → List ℕ → Type 0
 EndsChunks kind b = (payloads : List (List ℕ)) × (r : List ℕ) ×
     AreChunks (string_major kind) (IsAllowed kind) r payloads × (b ≡ r ++ (break_byte ∷ []))
 
@@ -27,8 +27,8 @@ Ends (Items n) b = (is : item.Items) × (items_count is ≡ n) × SpellsItems b 
 Ends OpenItems b = (is : item.Items) × (r : List ℕ) × SpellsItems r is × (b ≡ r ++ (break_byte ∷ []))
 Ends OpenKeys b = EndsPairs b
 Ends OpenValues b = (v : Item) × (s : List ℕ) × (r : List ℕ) × Spells s v × EndsPairs r × (b ≡ s ++ r)
-Ends ByteChunks b = EndsChunks of_bytes b
-Ends TextChunks b = EndsChunks of_text b
+Ends ByteChunks b = EndsChunks StringType.Bytes b
+Ends TextChunks b = EndsChunks StringType.Text b
 
 -- b are the bytes that end these levels, the innermost first
 abbrev pub EndAll : List Level → List ℕ → Type 0
@@ -113,6 +113,6 @@ incomplete (level ∷ levels) = level ∷ levels
 
 -- what a head's string may hold, where it is one of definite length: anything else has no payload
 abbrev pub IsPayloadOf : Header → List ℕ → Type 0
-IsPayloadOf (header.Bytes (Some n)) payload = (length payload ≡ n) × IsAllowed of_bytes payload
-IsPayloadOf (header.Text (Some n)) payload = (length payload ≡ n) × IsAllowed of_text payload
+IsPayloadOf (header.Bytes (Some n)) payload = (length payload ≡ n) × IsAllowed StringType.Bytes payload
+IsPayloadOf (header.Text (Some n)) payload = (length payload ≡ n) × IsAllowed StringType.Text payload
 IsPayloadOf _ payload = payload ≡ []

@@ -1,44 +1,40 @@
 -- When a string is refused whose head is usable (RFC 8949, sections 3.1 and 3.2.3).
 use Rattle.std.specs.Prelude.{◌≡◌, ℕ, ◌+◌, ◌<◌, ◌≤◌, ◌⊎◌, List, ◌∷◌, ◌++◌, length, Option, Some, None, IsUtf8}
 use Rattle.ciborium_ll.specs.{Bytes.{AreBytes, greatest_offset}, Head.{open_byte, break_byte}, Spells.AreChunks}
+pub use Rattle.ciborium_ll.specs.declared.strings.StringType.{StringType}
 use Rattle.ciborium_ll.specs.Refusal.{Refusal, io, syntax, too_long, HeadRefuses, IsUsable, HasHead, IsAtFront}
 
--- the two kinds of string
-pub data StringKind : Type 0 where
-  of_bytes : StringKind
-  of_text : StringKind
-
--- the major type of a kind
-abbrev pub string_major : StringKind → ℕ
-string_major of_bytes = 2
-string_major of_text = 3
+-- the major type of a string
+abbrev pub string_major : StringType → ℕ
+string_major StringType.Bytes = 2
+string_major StringType.Text = 3
 
 -- what a definite string of a kind may hold
-abbrev pub IsAllowed : StringKind → List ℕ → Type 0
-IsAllowed of_bytes payload = AreBytes payload
-IsAllowed of_text payload = IsUtf8 payload
+abbrev pub IsAllowed : StringType → List ℕ → Type 0
+IsAllowed StringType.Bytes payload = AreBytes payload
+IsAllowed StringType.Text payload = IsUtf8 payload
 
 -- what is left refuses as the payload, of n bytes, of a definite string whose head is at offset p:
 -- it ends early, or the payload
 -- was read whole and is not UTF-8
-pub data PayloadRefuses (kind : StringKind) (n p : ℕ) : List ℕ → Refusal → Type 0 where
+pub data PayloadRefuses (kind : StringType) (n p : ℕ) : List ℕ → Refusal → Type 0 where
   ends_early : {r : List ℕ} → length r < n → PayloadRefuses kind n p r io
   not_allowed : (payload r : List ℕ) → length payload ≡ n → ¬ IsAllowed kind payload →
       PayloadRefuses kind n p (payload ++ r) (syntax p)
 
 -- a definite string at offset p: its payload refuses
-abbrev pub StringRefuses : StringKind → List ℕ → ℕ → Refusal → Type 0
+abbrev pub StringRefuses : StringType → List ℕ → ℕ → Refusal → Type 0
 StringRefuses kind b p e = (n : ℕ) × (k : ℕ) × (r : List ℕ) × HasHead b (string_major kind) n k r ×
     PayloadRefuses kind n p r e
 
 -- a definite string of a kind begins here
-abbrev pub HasStringHead : StringKind → List ℕ → Type 0
+abbrev pub HasStringHead : StringType → List ℕ → Type 0
 HasStringHead kind b = (n : ℕ) × (k : ℕ) × (r : List ℕ) × HasHead b (string_major kind) n k r
 
 -- a chunk of an open string at offset p: its head refuses, it refuses as a string of the kind, or
 -- it is neither such a string
 -- nor the break
-pub data ChunkRefuses (kind : StringKind) : List ℕ → ℕ → Refusal → Type 0 where
+pub data ChunkRefuses (kind : StringType) : List ℕ → ℕ → Refusal → Type 0 where
   no_head : {b : List ℕ} {p : ℕ} {e : Refusal} → HeadRefuses b p e → ChunkRefuses kind b p e
   chunk : {b : List ℕ} {p : ℕ} {e : Refusal} → IsUsable b p → StringRefuses kind b p e → ChunkRefuses kind b p e
   other : {b : List ℕ} {p : ℕ} →
@@ -47,18 +43,18 @@ pub data ChunkRefuses (kind : StringKind) : List ℕ → ℕ → Refusal → Typ
 -- what is left, from offset p on, refuses as the chunks of an open string: behind good chunks,
 -- which end within the greatest offset,
 -- a chunk refuses
-abbrev pub ChunksRefuse : StringKind → List ℕ → ℕ → Refusal → Type 0
+abbrev pub ChunksRefuse : StringType → List ℕ → ℕ → Refusal → Type 0
 ChunksRefuse kind b p e = (good : List ℕ) ×
     (payloads : List (List ℕ)) × (r : List ℕ) × AreChunks (string_major kind) (IsAllowed kind) good payloads ×
     (p + length good ≤ greatest_offset) × (b ≡ good ++ r) × ChunkRefuses kind r (p + length good) e
 
 -- an open string at offset p: its chunks refuse
-abbrev pub OpenStringRefuses : StringKind → List ℕ → ℕ → Refusal → Type 0
+abbrev pub OpenStringRefuses : StringType → List ℕ → ℕ → Refusal → Type 0
 OpenStringRefuses kind b p e = (r : List ℕ) × (b ≡ open_byte (string_major kind) ∷ r) × ChunksRefuse kind r (p + 1) e
 
 -- what follows the head at offset p of a string of this length (None: open) refuses, its first byte
 -- at offset q
-abbrev pub ContentRefuses : StringKind → Option ℕ → ℕ → List ℕ → ℕ → Refusal → Type 0
+abbrev pub ContentRefuses : StringType → Option ℕ → ℕ → List ℕ → ℕ → Refusal → Type 0
 ContentRefuses kind (Some n) p b q e = ((greatest_offset < q + n) × (e ≡ too_long)) ⊎
     ((q + n ≤ greatest_offset) × PayloadRefuses kind n p b e)
 ContentRefuses kind None p b q e = ChunksRefuse kind b q e

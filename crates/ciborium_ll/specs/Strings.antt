@@ -3,24 +3,18 @@
 use Rattle.std.specs.Prelude.{◌≡◌, ◌≢◌, ℕ, ◌+◌, ◌<◌, ◌≤◌, ◌⊎◌, List, [], ◌∷◌, ◌++◌, length, Option, Some, None, Result}
 use Rattle.std.specs.Prelude.{Ok, Err}
 use Rattle.ciborium_ll.specs.{Bytes.greatest_offset, Head.break_byte, ReaderSteps.IsHeadTaken, Spells.AreChunks}
-use Rattle.ciborium_ll.specs.{Spells.joined, StringRefusal.{StringKind, of_bytes, of_text, string_major, IsAllowed}}
+use Rattle.ciborium_ll.specs.{Spells.joined, StringRefusal.{StringType, string_major, IsAllowed}}
 use Rattle.ciborium_ll.specs.declared.header.{Error.{Error, TheVariants.{Io, Syntax, TooLong, Memory}}, Header.Header}
-use Rattle.ciborium_ll.specs.declared.strings.{Chunk.{Chunk, TheVariants.{End, Definite, Other}}, StringType.StringType}
+use Rattle.ciborium_ll.specs.declared.strings.Chunk.{Chunk, TheVariants.{End, Definite, Other}}
 use Rattle.ciborium_ll.specs.declared.header.Header.TheVariants as header
-use Rattle.ciborium_ll.specs.declared.strings.StringType.TheVariants as kind
-
--- the kind that the code names
-abbrev pub string_kind_of : StringType → StringKind
-string_kind_of kind.Bytes = of_bytes
-string_kind_of kind.Text = of_text
 
 -- the head of a definite string of a kind
-abbrev pub string_header : StringKind → ℕ → Header
-string_header of_bytes n = header.Bytes (Some n)
-string_header of_text n = header.Text (Some n)
+abbrev pub string_header : StringType → ℕ → Header
+string_header StringType.Bytes n = header.Bytes (Some n)
+string_header StringType.Text n = header.Text (Some n)
 
 -- what a head is inside an open string
-abbrev pub IsChunk : StringKind → Header → Chunk → Type 0
+abbrev pub IsChunk : StringType → Header → Chunk → Type 0
 IsChunk kind h End = h ≡ header.Break
 IsChunk kind h (Definite n) = h ≡ string_header kind n
 IsChunk kind h Other = (h ≢ header.Break) × ((n : ℕ) → h ≢ string_header kind n)
@@ -54,7 +48,7 @@ IsPiecesTaken n b (Err Memory) old new = (length b ≤ n) × Extends old new
 -- b is taken where the payload, of n bytes, of a definite string is appended whose head is at
 -- offset p: all of it is added, or
 -- nothing
-abbrev pub IsPayloadTaken : {E : Type 0} → StringKind → ℕ → ℕ → List ℕ → Result (Unit {0}) (Error E) → List ℕ → Type 0
+abbrev pub IsPayloadTaken : {E : Type 0} → StringType → ℕ → ℕ → List ℕ → Result (Unit {0}) (Error E) → List ℕ → Type 0
 IsPayloadTaken kind n p b (Ok u) added = (length b ≡ n) × IsAllowed kind b × (added ≡ b)
 IsPayloadTaken kind n p b (Err (Io e)) added = (length b < n) × (added ≡ [])
 IsPayloadTaken kind n p b (Err (Syntax at)) added = (at ≡ p) × (length b ≡ n) × ¬ IsAllowed kind b × (added ≡ [])
@@ -63,7 +57,7 @@ IsPayloadTaken kind n p b (Err Memory) added = (length b ≤ n) × (added ≡ []
 
 -- b is taken at offset p, where a chunk of an open string is refused: its head is, or it is no
 -- chunk, or its payload is
-abbrev pub IsChunkTaken : {E : Type 0} → StringKind → List ℕ → ℕ → Error E → Type 0
+abbrev pub IsChunkTaken : {E : Type 0} → StringType → List ℕ → ℕ → Error E → Type 0
 IsChunkTaken {E} kind b p e = IsHeadTaken {E = E} b p (Err e) ⊎
     ((h : Header) × IsHeadTaken {E = E} b p (Ok h) × IsChunk kind h Other × (e ≡ Syntax p)) ⊎
     ((n : ℕ) × (s : List ℕ) × (r : List ℕ) × (b ≡ s ++ r) ×
@@ -71,7 +65,7 @@ IsChunkTaken {E} kind b p e = IsHeadTaken {E = E} b p (Err e) ⊎
 
 -- b is taken at offset p, where the chunks of an open string are appended: good chunks, and then
 -- the break, or a chunk that is refused
-abbrev pub AreChunksTaken : {E : Type 0} → StringKind → List ℕ → ℕ → Result (Unit {0}) (Error E) → List ℕ → Type 0
+abbrev pub AreChunksTaken : {E : Type 0} → StringType → List ℕ → ℕ → Result (Unit {0}) (Error E) → List ℕ → Type 0
 AreChunksTaken kind b p (Ok u) added =
     (payloads : List (List ℕ)) × (s : List ℕ) × AreChunks (string_major kind) (IsAllowed kind) s payloads ×
     (p + length b ≤ greatest_offset) × (b ≡ s ++ break_byte ∷ []) × (added ≡ joined payloads)
@@ -81,7 +75,7 @@ AreChunksTaken kind b p (Err e) added = (payloads : List (List ℕ)) ×
 
 -- b is taken at offset q, where the payload of a string of this length (None: open) is appended,
 -- whose head is at offset p
-abbrev pub IsStringTaken : {E : Type 0} → StringKind → Option ℕ → ℕ → List ℕ → ℕ →
+abbrev pub IsStringTaken : {E : Type 0} → StringType → Option ℕ → ℕ → List ℕ → ℕ →
     Result (Unit {0}) (Error E) → List ℕ → Type 0
 IsStringTaken kind (Some n) p b q r added = ((greatest_offset < q + n) × (r ≡ Err TooLong) × (added ≡ []) × (b ≡ [])) ⊎
     ((q + n ≤ greatest_offset) × IsPayloadTaken kind n p b r added)

@@ -61,7 +61,7 @@ impl<'a, R, A: Access<R>> Decoder<'a, R, A> {
     ghost use Rattle.ciborium_ll.specs.FirstHeads.{IsEndOrFault, IsFirstTaken, MeasuresFirst};
     ghost use Rattle.ciborium_ll.specs.FirstHeads.{PullsFirst};
     ghost use Rattle.ciborium_ll.specs.ReaderSteps.{IsHeadTaken};
-    ghost use Rattle.ciborium_ll.specs.StringRefusal.{of_bytes, of_text};
+    ghost use Rattle.ciborium_ll.specs.StringRefusal.{StringType};
 
     /// A decoder that takes the bytes of its reader as `A` says, whose offsets begin at the given
     /// offset.
@@ -322,7 +322,7 @@ impl<'a, R, A: Access<R>> Decoder<'a, R, A> {
         out: &mut Vec<u8>,
     ) -> Result<(), Error<io::Error>>
         requires { pushed_of self.old ≡ None }
-        ensures { HasAppended of_bytes len A.can_fail A.remaining self.old self.new
+        ensures { HasAppended StringType.Bytes len A.can_fail A.remaining self.old self.new
             out.old.items out.new.items result }
     {
         self.bytes_into_keeping(len, scratch, out, &mut Answered)
@@ -338,7 +338,7 @@ impl<'a, R, A: Access<R>> Decoder<'a, R, A> {
         keep: &mut K,
     ) -> Result<(), Error<K::Kept>>
         requires { pushed_of self.old ≡ None }
-        ensures { HasAppended of_bytes len A.can_fail A.remaining self.old self.new
+        ensures { HasAppended StringType.Bytes len A.can_fail A.remaining self.old self.new
             out.old.items out.new.items result }
     {
         let head = self.last;
@@ -368,7 +368,7 @@ impl<'a, R, A: Access<R>> Decoder<'a, R, A> {
         out: &mut String,
     ) -> Result<(), Error<io::Error>>
         requires { pushed_of self.old ≡ None }
-        ensures { HasAppended of_text len A.can_fail A.remaining self.old self.new
+        ensures { HasAppended StringType.Text len A.can_fail A.remaining self.old self.new
             (string_bytes out.old) (string_bytes out.new) result }
     {
         self.text_into_keeping(len, scratch, out, &mut Answered)
@@ -384,7 +384,7 @@ impl<'a, R, A: Access<R>> Decoder<'a, R, A> {
         keep: &mut K,
     ) -> Result<(), Error<K::Kept>>
         requires { pushed_of self.old ≡ None }
-        ensures { HasAppended of_text len A.can_fail A.remaining self.old self.new
+        ensures { HasAppended StringType.Text len A.can_fail A.remaining self.old self.new
             (string_bytes out.old) (string_bytes out.new) result }
     {
         let empty = String::new(*out.allocator());

@@ -32,5 +32,6 @@ pub use item_bytes::{NotCopied, copy_item};
 pub use item_heads::{ItemHead, ItemHeads, NoItem, is_well_formed, item_len};
 pub use keep::{Answered, Keep};
 pub use levels::{Level, Step, step_of};
+pub use strings::StringType;
 pub use visitor::Visitor;
 pub use writing::Failed;

@@ -2,17 +2,19 @@
 
 ghost use Rattle.std.specs.Prelude.{◌≡◌, ◌↔◌, IsTrue};
 ghost use Rattle.ciborium_ll.specs.StringRefusal.{IsAllowed};
-ghost use Rattle.ciborium_ll.specs.Strings.{IsChunk, string_kind_of};
+ghost use Rattle.ciborium_ll.specs.Strings.{IsChunk};
 
 use crate::access::{Access, end_of_bytes};
 use crate::cursor::Cursor;
 use crate::header::{Error, Header};
 use crate::keep::Keep;
 
-// What a string holds.
+/// What a string holds: bytes (major type 2) or UTF-8 (major type 3; RFC 8949, section 3.1).
 #[derive(Clone, Copy)]
-pub(crate) enum StringType {
+pub enum StringType {
+    /// Bytes.
     Bytes,
+    /// Text.
     Text,
 }
 
@@ -22,7 +24,7 @@ const OWN_SCRATCH: usize = 64;
 // Whether a string of the kind may hold these bytes.
 #[inline(always)]
 fn is_allowed(kind: StringType, payload: &[u8]) -> bool
-    ensures { IsTrue result ↔ IsAllowed (string_kind_of kind) payload.now }
+    ensures { IsTrue result ↔ IsAllowed kind payload.now }
 {
     match kind {
         StringType::Bytes => true,
@@ -38,7 +40,7 @@ enum Chunk {
 }
 
 fn chunk_of(kind: StringType, header: Header) -> Chunk
-    ensures { IsChunk (string_kind_of kind) header result }
+    ensures { IsChunk kind header result }
 {
     match (kind, header) {
         (_, Header::Break) => Chunk::End,
@@ -143,7 +145,7 @@ impl<'c, R, A: Access<R>, K: Keep> Cursor<'c, R, A, K> {
         requires { count_at self.old + n ≤ usize.MAX }
         ensures same { IsSameCursor self.old self.new }
         ensures bytes { Moves A.remaining self.old self.new (λ b. Grows out.old.items out.new.items
-            (IsPayloadTaken (string_kind_of kind) n head b result)) }
+            (IsPayloadTaken kind n head b result)) }
         ensures ended { IfErr result (λ e. HasEndedAt A.can_fail A.remaining self.new e) }
     {
         let start = out.len();
@@ -168,7 +170,7 @@ impl<'c, R, A: Access<R>, K: Keep> Cursor<'c, R, A, K> {
     ) -> Result<(), Error<K::Kept>>
         ensures same { IsSameCursor self.old self.new }
         ensures bytes { Moves A.remaining self.old self.new (λ b. Grows out.old.items out.new.items
-            (AreChunksTaken (string_kind_of kind) b (count_at self.old) result)) }
+            (AreChunksTaken kind b (count_at self.old) result)) }
         ensures ended { IfErr result (λ e. HasEndedAt A.can_fail A.remaining self.new e) }
     {
         let mut head = self.counter.count;
@@ -196,7 +198,7 @@ impl<'c, R, A: Access<R>, K: Keep> Cursor<'c, R, A, K> {
     ) -> Result<(), Error<K::Kept>>
         ensures same { IsSameCursor self.old self.new }
         ensures bytes { Moves A.remaining self.old self.new (λ b. Grows out.old.items out.new.items
-            (IsStringTaken (string_kind_of kind) len head b (count_at self.old) result)) }
+            (IsStringTaken kind len head b (count_at self.old) result)) }
         ensures ended { IfErr result (λ e. HasEndedAt A.can_fail A.remaining self.new e) }
     {
         match len {

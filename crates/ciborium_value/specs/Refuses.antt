@@ -7,7 +7,7 @@ use Rattle.std.specs.Prelude.{None, option_and_then}
 use Rattle.ciborium_ll.specs.{Bytes.greatest_offset, Head.{open_byte, break_byte, IsSimple}, Refusal.SemanticKind}
 use Rattle.ciborium_ll.specs.Refusal.{Float, Simple, Break, TooLarge, NotFolded, Refusal, semantic}
 use Rattle.ciborium_ll.specs.Refusal.{recursion_limit_exceeded, HeadRefuses, KeyOrder, IsUsable, HasHead, IsAtFront}
-use Rattle.ciborium_ll.specs.StringRefusal.{StringKind, StringRefuses, OpenStringRefuses}
+use Rattle.ciborium_ll.specs.StringRefusal.{StringType, StringRefuses, OpenStringRefuses}
 use Rattle.ciborium_value.specs.{Meaning.{simple_meaning, big_endian, is_bignum_tag}, Nesting.{Limit, IsOneLess}}
 use Rattle.ciborium_value.specs.{Spelling.{Spelling, IsReadAs, spelling_fault, IsUnwanted, AreInOrder}, Tree.Tree}
 use Rattle.ciborium_value.specs.Tree.{bytes}
@@ -119,9 +119,9 @@ pub data Refuses (spelling : Spelling) : List ℕ → ℕ → Limit → Refusal 
   bad_head : {b : List ℕ} {p : ℕ} {l : Limit} (kind : SemanticKind) → IsUsable b p →
       spelling_fault spelling b ≡ Some kind → Refuses spelling b p l (semantic p kind)
   -- a string, definite or open (sections 3.1 and 3.2.3)
-  string : {b : List ℕ} {p : ℕ} {l : Limit} {e : Refusal} (kind : StringKind) →
+  string : {b : List ℕ} {p : ℕ} {l : Limit} {e : Refusal} (kind : StringType) →
       HasGoodHead spelling b p → StringRefuses kind b p e → Refuses spelling b p l e
-  open_string : {b : List ℕ} {p : ℕ} {l : Limit} {e : Refusal} (kind : StringKind) →
+  open_string : {b : List ℕ} {p : ℕ} {l : Limit} {e : Refusal} (kind : StringType) →
       HasGoodHead spelling b p → OpenStringRefuses kind b p e → Refuses spelling b p l e
   -- what has no meaning by itself: a float, an unassigned simple value (section 3.3), a break
   float : {x p : ℕ} {b : List ℕ} {l : Limit} → IsUsable (x ∷ b) p → 0xf9 ≤ x → x ≤ 0xfb →

@@ -2,7 +2,7 @@
 use Rattle.std.proofs.Common.{◌≡◌, ◌≢◌, ℕ, ◌<◌, ◌≤◌, Bool, false, List, [], ◌∷◌, ◌++◌, Option, Some, None, Result}
 use Rattle.std.proofs.Common.{arith, Ok, Err, refl, sym, ap, ◌∙◌, subst, append_assoc, append-nil}
 use Rattle.ciborium_ll.{proofs.UniqueSpelling.one_at_front, specs.{Header.SpellsHeader, Item.Item, Spells.Spells}}
-use Rattle.ciborium_ll.specs.{StringRefusal.StringKind, declared.header.Header.Header}
+use Rattle.ciborium_ll.specs.{StringRefusal.StringType, declared.header.Header.Header}
 use Rattle.ciborium.proofs.Containers.EnteredContainers.{HasItems, IsEntered, array-entered, entered-kept, items-stand}
 use Rattle.ciborium.proofs.Containers.{EnteredContainers.within-is, NextParts.{fits-past, none-past}}
 use Rattle.ciborium.proofs.Items.BareHeads.{head-denied, nested-denied, other-denied, string-denied, string-read}
@@ -309,7 +309,7 @@ module _ {S W A : Type 0} {can_fail : Bool} {remaining : S → Option (List ℕ)
         (nested-denied remaining old taken mid h head can_fail new k is e err nested)
 
     -- the payload of the string that it begins was refused
-    pub string-refuses : (fault : Fault) (kind : StringKind) (len : Option ℕ) → h ≡ head_of kind len →
+    pub string-refuses : (fault : Fault) (kind : StringType) (len : Option ℕ) → h ≡ head_of kind len →
         DeniesContent (IsUnread remaining mid) (end_at remaining mid) kind len fault →
         RefusesAhead (StandsBefore remaining) old taken fault
     string-refuses fault kind len is denied = refuses-denied remaining old taken fault
@@ -389,7 +389,7 @@ module _ {S W T A : Type 0} {can_fail : Bool} {remaining : S → Option (List �
         (levels ∙ reads.levels) none (taken-fewer old mid new h fewer none reads.fewer)
 
     -- the payload of the string that it begins was read
-    pub string-given : {v : T} → TakesBare (IsUnread remaining) old mid false h → (kind : StringKind) (len : Option ℕ) →
+    pub string-given : {v : T} → TakesBare (IsUnread remaining) old mid false h → (kind : StringType) (len : Option ℕ) →
         h ≡ head_of kind len → IsKept remaining mid new → new.levels ≡ mid.levels → new.pending ≡ None →
         bytes_weight new ≤ bytes_weight mid → (payload : List ℕ) → TakesContent (IsUnread remaining mid)
         (IsUnread remaining new) kind len payload → ((ts : List ℕ) → AreSkipped false ts →

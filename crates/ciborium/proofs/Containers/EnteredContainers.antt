@@ -4,7 +4,7 @@ use Rattle.std.proofs.Common.{Option, Some, None, refl, sym, ap, ◌∙◌, subs
 use Rattle.std.specs.Vec.Iter.{into_iter_items}
 use Rattle.ciborium_ll.{proofs.UniqueSpelling.one_at_front, specs.{Head.{IsHead, break_byte}, Header.SpellsHeader}}
 use Rattle.ciborium_ll.specs.Item.{Item, Items, Pairs, unsigned, negative, bytes, text, array, tag, simple, float}
-use Rattle.ciborium_ll.specs.{Spells.Spells, StringRefusal.of_bytes as bytes_kind, declared.header.Header.Header}
+use Rattle.ciborium_ll.specs.{Spells.Spells, StringRefusal.StringType, declared.header.Header.Header}
 use Rattle.ciborium_value.specs.Ahead.{Span, Rest, parts, after, item, inside, of_bytes, pairs, takes_level}
 use Rattle.ciborium_value.specs.Given.{Outcome, Steps, Given, deeper, give, gives, nests, outcome, refuses, untagged}
 use Rattle.ciborium_value.specs.Given.{bare_pairs, bare_seq, given_pairs, given_seq, unpack, unpack_pairs, within_level}
@@ -260,7 +260,7 @@ bytes-had u v h = absurd h
 pub bytes-entered : {S W : Type 0} (remaining : S → Option (List ℕ)) (old mid new : ByteSource S W) (q : ByteSeq)
     (v : _) (len : Option ℕ) (payload : List ℕ) → q.left ≡ left.Bytes v → into_iter_items v ≡ payload →
     new.levels ≡ old.levels → TakesBare (IsUnread remaining) old mid false (header.Bytes len) →
-    TakesContent (IsUnread remaining mid) (IsUnread remaining new) bytes_kind len payload →
+    TakesContent (IsUnread remaining mid) (IsUnread remaining new) StringType.Bytes len payload →
     EntersItemsUnread remaining old new given_seq (λ span is. give (takes_level span, is)) q
 bytes-entered remaining old mid new q v len payload is same levels bare content b u =
     let (ts, w, x, y, tagged, all, hd, e, un) = bare b u in

@@ -2,7 +2,7 @@
 use Rattle.std.proofs.Common.{◌≡◌, ◌≤◌, ◌+◌, ◌++◌, ◌∙◌, List, None, Option, Some, append_assoc, ap, false, length, refl}
 use Rattle.std.proofs.Common.{sym, subst, ℕ}
 use Rattle.ciborium_ll.specs.{Header.SpellsHeader, Item.{Item, array, bytes, float, negative, simple, tag, text}}
-use Rattle.ciborium_ll.specs.{Item.unsigned, Spells.Spells, StringRefusal.of_text, declared.header.Header.Header}
+use Rattle.ciborium_ll.specs.{Item.unsigned, Spells.Spells, StringRefusal.StringType, declared.header.Header.Header}
 use Rattle.ciborium_value.{proofs.Sources.Sequences.fault_map, specs.Given.{Given, gives, mapped, outcome}}
 use Rattle.ciborium_value.specs.{Labels.{Label, label_kind, label_place, name_place, placed}, Nesting.Limit}
 use Rattle.ciborium_value.specs.{Places.is_open, Sources.{Fault, IsFaultOf, TakesOnly}}
@@ -54,7 +54,7 @@ module _ {S W P : Type 0} (remaining : S → Option (List ℕ)) (old : ByteSourc
     module _ (len : Option ℕ) (is : h ≡ header.Text len) where
       -- it is a text, whose payload was taken
       pub key-text : (new : ByteSource S W) (v : P) →
-          TakesPlace (IsUnread remaining mid) (IsUnread remaining new) of_text len (name_place place) v → IsKey new v
+          TakesPlace (IsUnread remaining mid) (IsUnread remaining new) StringType.Text len (name_place place) v → IsKey new v
       key-text new v (payload, content, same) b u =
           let (x, y, hd, e, un) = head b u in
           let (c, z, make, f, un') = content y un in (
@@ -69,9 +69,9 @@ module _ {S W P : Type 0} (remaining : S → Option (List ℕ)) (old : ByteSourc
 
       -- or refused
       pub no-key-text : TakesOnly (HasTaken remaining) old.decoder mid.decoder → (fault : Fault) →
-          DeniesContent (IsUnread remaining mid) (end_at remaining mid) of_text len fault → IsNoKey fault
+          DeniesContent (IsUnread remaining mid) (end_at remaining mid) StringType.Text len fault → IsNoKey fault
       no-key-text only fault = denies-string (IsUnread remaining) (end_at remaining) (Some old.levels)
-          (label_place place) old mid of_text len fault (same-end remaining old mid only)
+          (label_place place) old mid StringType.Text len fault (same-end remaining old mid only)
           (bare-head (IsUnread remaining) old mid false (header.Text len)
           (subst (TakesHead (IsUnread remaining) old mid) is head))
 

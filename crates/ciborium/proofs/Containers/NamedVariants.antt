@@ -4,7 +4,7 @@ use Rattle.std.proofs.Common.{subst, append_assoc, append-nil, arith, inl, lengt
 use Rattle.std.{proofs.lemmas.Str.is_utf8-from_IsUtf8, specs.Str.{is_utf8, IsUtf8}}
 use Rattle.ciborium_ll.{proofs.{OneHeader.one_header_at_front, UniqueSpelling.one_at_front}, specs.Header.SpellsHeader}
 use Rattle.ciborium_ll.specs.Item.{Item, unsigned, negative, bytes, text, array, tag, simple, float, Pairs, no_pairs}
-use Rattle.ciborium_ll.specs.{Item.{pair, pairs_count}, Spells.Spells, StringRefusal.of_bytes}
+use Rattle.ciborium_ll.specs.{Item.{pair, pairs_count}, Spells.Spells, StringRefusal.StringType}
 use Rattle.ciborium_ll.specs.declared.{decoder.Decoder.Decoder, header.Header.Header}
 use Rattle.ciborium_value.{proofs.Sources.{Sequences.fault_map, TreeLevels.utf8_not}, specs.Given.{gives, refuses}}
 use Rattle.ciborium_value.specs.Given.{nests, deeper, untagged, outcome_map, given_name, bare_name, given_variant}
@@ -29,7 +29,7 @@ bytes-name ts l open_ b u = let t = is_utf8-from_IsUtf8 b u in
 -- another one is none
 pub bytes-no-name : {S : Type 0} (IsUnread : S → List ℕ → Type 0) (End : S → ℕ) (old mid new : S) (len : Option ℕ)
     (l : Limit) (payload : List ℕ) → (IsUtf8 payload → ⊥) → TakesBare IsUnread old mid false (header.Bytes len) →
-    TakesContent (IsUnread mid) (IsUnread new) of_bytes len payload →
+    TakesContent (IsUnread mid) (IsUnread new) StringType.Bytes len payload →
     Denies IsUnread End old l given_name (of_kind kinds.Name)
 bytes-no-name IsUnread End old mid new len l payload not bare content b s z j end u sp e fits =
     let bad = utf8_not payload not (is_utf8 payload) refl in

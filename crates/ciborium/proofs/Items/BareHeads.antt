@@ -1,6 +1,6 @@
 -- What an exit says behind the next head that is not a tag.
 use Rattle.std.proofs.Common.{Bool, ◌≡◌, ℕ, List, Option, Some, false, ap, subst}
-use Rattle.ciborium_ll.specs.{declared.header.Header.Header, Item.Item, StringRefusal.StringKind}
+use Rattle.ciborium_ll.specs.{declared.header.Header.Header, Item.Item, StringRefusal.StringType}
 use Rattle.ciborium_value.specs.{Sources.{Fault, TakesOnly, of_kind}, Given.{Given, gives, nests, outcome, refuses}}
 use Rattle.ciborium_value.specs.declared.kind.Kind.{Kind}
 use Rattle.ciborium.specs.{declared.de.byte_source.ByteSource.ByteSource, declared.de.error.Error.Error}
@@ -35,7 +35,7 @@ module _ {S W A : Type 0} (remaining : S → Option (List ℕ)) (old : ByteSourc
         (end_at remaining) old mid (fault_at can_fail remaining new e) (ap (fault_at can_fail remaining new) err)
         (subst (TakesBare (IsUnread remaining) old mid false) is head) nested
 
-    module _ (kind : StringKind) (len : Option ℕ) (is : h ≡ head_of kind len) where
+    module _ (kind : StringType) (len : Option ℕ) (is : h ≡ head_of kind len) where
       -- the payload of the string that it begins was refused
       pub string-denied : TakesOnly (HasTaken remaining) old.decoder mid.decoder → (fault : Fault) →
           DeniesContent (IsUnread remaining mid) (end_at remaining mid) kind len fault → IsDenied fault

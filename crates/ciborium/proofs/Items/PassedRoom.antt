@@ -3,7 +3,7 @@ use Rattle.std.proofs.Common.{◌≡◌, ℕ, suc, ◌≤◌, List, [], ◌∷�
 use Rattle.std.proofs.Common.{ap, ◌∙◌, subst, append_assoc, arith, ◌-◌}
 use Rattle.ciborium_ll.specs.{declared.header.Header.Header, declared.levels.Level.Level, Header.SpellsHeader}
 use Rattle.ciborium_ll.specs.Item.{Item, unsigned, negative, bytes, text, array, tag, simple, float, items_count}
-use Rattle.ciborium_ll.specs.{Item.pairs_count, Spells.Spells, StringRefusal.{of_bytes, of_text}}
+use Rattle.ciborium_ll.specs.{Item.pairs_count, Spells.Spells, StringRefusal.StringType}
 use Rattle.ciborium_ll.proofs.LevelFronts.{AreUnfinished, FirstOf, of_item, of_part, of_break, first-of}
 use Rattle.ciborium_ll.proofs.OneHeader.{one_header_at_front}
 use Rattle.ciborium_value.specs.{Meaning.{folding_bytes, is_bignum_tag}, Nesting.{Limit, IsWithin, nesting}}
@@ -34,9 +34,9 @@ module _ (l : Limit) where
 
       by : FirstOf (within l) level levels (h ++ y) z → (c : List ℕ) × ItemTo l (length levels) (h ++ y) c
       by (of_item c more one behind rest) = (c, one)
-      by (of_part of_bytes x p c head allowed whole is rest) =
+      by (of_part StringType.Bytes x p c head allowed whole is rest) =
           absurd (other (heads.Bytes (Some (length p))) x (p ++ c) head refl whole)
-      by (of_part of_text x p c head allowed whole is rest) =
+      by (of_part StringType.Text x p c head allowed whole is rest) =
           absurd (other (heads.Text (Some (length p))) x (p ++ c) head refl whole)
       by (of_break c whole behind rest) = absurd (other heads.Break (255 ∷ []) c refl refl whole)
 

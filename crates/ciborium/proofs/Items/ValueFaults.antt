@@ -9,7 +9,7 @@ use Rattle.ciborium_ll.specs.{Head.{eight_bytes, open_byte, break_byte}, Header.
 use Rattle.ciborium_ll.specs.Item.{no_items, item, no_pairs, pair, unsigned, negative, bytes, text, array, tag, simple}
 use Rattle.ciborium_ll.specs.{Item.{float, items_count, pairs_count}, Refusal.{Refusal, io, syntax, too_long, semantic}}
 use Rattle.ciborium_ll.specs.Refusal.{recursion_limit_exceeded, HeadRefuses, IsUsable, HasHead, IsAtFront, head_refusal}
-use Rattle.ciborium_ll.specs.{Spells.{Spells, SpellsItems, SpellsPairs}, StringRefusal.{StringKind, of_bytes, of_text}}
+use Rattle.ciborium_ll.specs.{Spells.{Spells, SpellsItems, SpellsPairs}, StringRefusal.StringType}
 use Rattle.ciborium_ll.specs.StringRefusal.{string_major, StringRefuses, ChunksRefuse, OpenStringRefuses}
 use Rattle.ciborium_ll.specs.declared.header.Header.{Header}
 use Rattle.ciborium_value.proofs.GoodItems.{Bignums.large-none, Spelled.{folding-over, folding-string, folds-none}}
@@ -72,7 +72,7 @@ head-faults b p end e i s z o h sp f fits =
     let size : length b ≡ length x + length (y ++ z) = ap length split ∙ length-append x (y ++ z) in
     long-faults end e o is (omega (arith, past, there, more, size, fits))
 
-string-faults : {A : Type 0} (kind : StringKind) (b : List ℕ) (p end : ℕ) (e : Refusal) (i : Item) (s z : List ℕ)
+string-faults : {A : Type 0} (kind : StringType) (b : List ℕ) (p end : ℕ) (e : Refusal) (i : Item) (s z : List ℕ)
     (o : Outcome A) → StringRefuses kind b p e → Spells s i → b ≡ s ++ z → IsFaultOf end (fault_of e) o
 string-faults kind b p end e i s z o (n, k, r, (h, hd, len, g), w) sp f =
     let spelled : SpellsHeader h (head_of kind (Some n)) = string-spells kind n h hd in
@@ -80,11 +80,11 @@ string-faults kind b p end e i s z o (n, k, r, (h, hd, len, g), w) sp f =
     (sym f ∙ g)).0 in
     absurd (definite-never kind n p e r h s z payload spelled (subst (Spells s) is sp) (sym g ∙ f) w)
 
-open-head : (kind : StringKind) → SpellsHeader (open_byte (string_major kind) ∷ []) (head_of kind None)
-open-head of_bytes = refl
-open-head of_text = refl
+open-head : (kind : StringType) → SpellsHeader (open_byte (string_major kind) ∷ []) (head_of kind None)
+open-head StringType.Bytes = refl
+open-head StringType.Text = refl
 
-open-faults : {A : Type 0} (kind : StringKind) (b : List ℕ) (p end : ℕ) (e : Refusal) (i : Item) (s z : List ℕ)
+open-faults : {A : Type 0} (kind : StringType) (b : List ℕ) (p end : ℕ) (e : Refusal) (i : Item) (s z : List ℕ)
     (o : Outcome A) → OpenStringRefuses kind b p e → Spells s i → b ≡ s ++ z → p + length b ≤ end + length z →
     IsFaultOf end (fault_of e) o
 open-faults kind b p end e i s z o (r, g, w) sp f fits =

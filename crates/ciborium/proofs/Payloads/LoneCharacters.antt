@@ -4,7 +4,7 @@ use Rattle.std.proofs.Common.{None, Ok, Err, refl, sym, ap, ◌∙◌, subst, le
 use Rattle.std.proofs.{Math.{Seq.take-append_seam, Utf8.{encode, encodes}}, lemmas.List.nil_from_length}
 use Rattle.std.proofs.lemmas.Str.{cons_from_encodes, encodes-chars, length-encode, len_utf8_bounds, length-le-encodes}
 use Rattle.ciborium_ll.{proofs.Unread.rest-of, specs.{Decoding.{Takes, left_of}, Head.IsHead, Item.{Item, text}}}
-use Rattle.ciborium_ll.specs.{ReaderSteps.IsFillTaken, Spells.Spells, StringRefusal.of_text}
+use Rattle.ciborium_ll.specs.{ReaderSteps.IsFillTaken, Spells.Spells, StringRefusal.StringType}
 use Rattle.ciborium_ll.specs.declared.{decoder.Decoder.Decoder, header.Header.Header}
 use Rattle.ciborium_value.specs.Given.{bare_character, gives, lone_character, outcome, refuses, settled}
 use Rattle.ciborium_value.specs.{Given.{given_character, untagged}, Nesting.Limit, Sources.{Fault, IsFaultOf, of_kind}}
@@ -69,7 +69,7 @@ character-given l payload c e ts all = ap settled (ap bare_character (untagged-u
 
 -- the payload that was read into a buffer
 pub payload-taken : (P Q : List ℕ → Type 0) (n : ℕ) (buffer : List ℕ) → length buffer ≡ n → IsUtf8 buffer →
-    TakesJust P Q buffer → TakesContent P Q of_text (Some n) buffer
+    TakesJust P Q buffer → TakesContent P Q StringType.Text (Some n) buffer
 payload-taken P Q n buffer size utf8 took y u =
     let (z, split, un) = took y u in
     (buffer, z, λ x hd. (x, subst (IsHead x 3) (sym size) hd, utf8, refl), split, un)
@@ -84,9 +84,9 @@ module _ {S : Type 0} (IsUnread : S → List ℕ → Type 0) (End : S → ℕ) (
   text-denied fault same blames b s z j end u sp e fits =
       let (ts, w, x, y, tagged, all, hd, f, un) = bare b u in
       let (i, t, is, sq, g) = tagged.inward j s z sp e in
-      let (payload, io) = string-only of_text (Some n) i
+      let (payload, io) = string-only StringType.Text (Some n) i
       (same-head t z x y i (header.Text (Some n)) sq hd (sym g ∙ f)).0 in
-      let (size, utf8, h) = definite-payload of_text n y x t z payload hd (subst (Spells t) io sq) (sym f ∙ g) in
+      let (size, utf8, h) = definite-payload StringType.Text n y x t z payload hd (subst (Spells t) io sq) (sym f ∙ g) in
       subst (λ o. IsFaultOf end fault o) (sym (ap settled (ap (λ k. bare_character (untagged k)) is ∙
       ap bare_character (untagged-under ts i) ∙ ap (λ k. bare_character (untagged k)) io)))
       (blames y z payload end un (sym size) utf8 h (subst (λ n. n ≤ end + length z) (sym (same b u)) fits))

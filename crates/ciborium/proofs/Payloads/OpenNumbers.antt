@@ -5,7 +5,7 @@ use Rattle.std.proofs.lemmas.List.Elements.{All-append}
 use Rattle.ciborium_ll.proofs.{OneHeader.one_header_at_front, OpenStrings.{AreParts-more, joined-more}}
 use Rattle.ciborium_ll.{proofs.UniqueSpelling.one_at_front, specs.{Bytes.AreBytes, Head.{IsHead, open_byte}}}
 use Rattle.ciborium_ll.specs.{Head.break_byte, Header.{SpellsHeader, announced_length}, Item.{Item, bytes}}
-use Rattle.ciborium_ll.specs.{Spells.{Spells, AreChunks, joined}, StringRefusal.of_bytes, declared.header.Header.Header}
+use Rattle.ciborium_ll.specs.{Spells.{Spells, AreChunks, joined}, StringRefusal.StringType, declared.header.Header.Header}
 use Rattle.ciborium_value.{proofs.Sources.Sequences.fault_outside, specs.Given.{bignum_of, settled, given_bignum}}
 use Rattle.ciborium_value.specs.{Places.is_open, Sources.{Fault, IsOutsideFault, of_kind}}
 use Rattle.ciborium.proofs.Items.ItemHeads.{header_of, first-head, first-payload, same-head, no-break-head, by-shape}
@@ -78,10 +78,10 @@ parts-front good t r z [] (q ∷ qs) g (s, c, (x, hd, ok, i), rest, j) f =
           omega (arith, more, rest)),
     )
 parts-front good t r z (m ∷ ps) [] (s, c, (x, hd, ok, i), rest, j) h f =
-    absurd (string-break of_bytes x m (c ++ r) z hd (sym (opened-up x m s c good r i j) ∙ f ∙
+    absurd (string-break StringType.Bytes x m (c ++ r) z hd (sym (opened-up x m s c good r i j) ∙ f ∙
     ap (λ (k : List ℕ). k ++ (break_byte ∷ z)) h))
 parts-front good t r z (m ∷ ps) (q ∷ qs) (s, c, (x, hd, ok, i), rest, j) (s', c', (x', hd', ok', i'), rest', j') f =
-    let same = same-payload of_bytes x x' m q (c ++ r) (c' ++ (break_byte ∷ z)) hd hd'
+    let same = same-payload StringType.Bytes x x' m q (c ++ r) (c' ++ (break_byte ∷ z)) hd hd'
     (sym (opened-up x m s c good r i j) ∙ f ∙ opened-up x' q s' c' t (break_byte ∷ z) i' j') in
     parts-front c c' r z ps qs rest rest' same.1
 
@@ -104,7 +104,7 @@ module _ (P M : List ℕ → Type 0) (v : Option ℕ) (parts : TakesParts P M v)
   pub parts-no-head : (mid end : ℕ) (fault : Fault) → ((y : List ℕ) → P y → mid ≡ end) →
       ((b x y : List ℕ) (h : Header) (n o : ℕ) → M b → SpellsHeader x h → b ≡ x ++ y →
       announced_length h + n ≤ length y → mid ≤ o + n → IsOutsideFault o fault) →
-      DeniesContent P end of_bytes None fault
+      DeniesContent P end StringType.Bytes None fault
   parts-no-head mid end fault same none y x s z payload o u hd sp e fits =
       let (r, un, w) = front y x s z payload u hd sp e in
       by r un w (subst (λ n. n ≤ o + length z) (sym (same y u)) fits)
@@ -115,7 +115,7 @@ module _ (P M : List ℕ → Type 0) (v : Option ℕ) (parts : TakesParts P M v)
 
   pub parts-other : (end : ℕ) (fault : Fault) (h : Header) →
       ((y : List ℕ) → M y → (x : List ℕ) × (r : List ℕ) × SpellsHeader x h × (y ≡ x ++ r)) → h ≢ header.Break →
-      ((n : ℕ) → h ≢ header.Bytes (Some n)) → DeniesContent P end of_bytes None fault
+      ((n : ℕ) → h ≢ header.Bytes (Some n)) → DeniesContent P end StringType.Bytes None fault
   parts-other end fault h head p q y x s z payload o u hd sp e fits =
       let (r, un, w) = front y x s z payload u hd sp e in
       let (a, b, ad, f) = head r un in
@@ -130,7 +130,7 @@ module _ (P M : List ℕ → Type 0) (v : Option ℕ) (parts : TakesParts P M v)
   -- the bytes of a further part are refused
   pub parts-cut : (Q : List ℕ → Type 0) (mid end n : ℕ) (fault : Fault) → ((y : List ℕ) → P y → mid ≡ end) →
       ((y : List ℕ) → M y → (x : List ℕ) × (r : List ℕ) × SpellsHeader x (header.Bytes (Some n)) × (y ≡ x ++ r) × Q r) →
-      DeniesJust Q mid n fault → DeniesContent P end of_bytes None fault
+      DeniesJust Q mid n fault → DeniesContent P end StringType.Bytes None fault
   parts-cut Q mid end n fault same head denied y x s z payload o u hd sp e fits =
       let (r, un, w) = front y x s z payload u hd sp e in
       let (a, b, ad, f, un') = head r un in
@@ -185,11 +185,11 @@ module _ {S : Type 0} (IsUnread : S → List ℕ → Type 0) (End : S → ℕ) (
       ap settled (ap bignum_of one.2 ∙ digits-none payload small val)
 
   pub bignum-content : (len : Option ℕ) (fault : Fault) → ((b : List ℕ) → IsUnread old b → End mid ≡ End old) →
-      TakesHead IsUnread old mid (header.Bytes len) → DeniesContent (IsUnread mid) (End mid) of_bytes len fault →
+      TakesHead IsUnread old mid (header.Bytes len) → DeniesContent (IsUnread mid) (End mid) StringType.Bytes len fault →
       Denies IsUnread End old None given_bignum fault
   bignum-content len fault same took none b s z i end u sp e fits =
       let (x, y, hd, f, un) = took b u in
-      let (payload, io) = string-only of_bytes len i (same-head s z x y i (header.Bytes len) sp hd (sym e ∙ f)).0 in
+      let (payload, io) = string-only StringType.Bytes len i (same-head s z x y i (header.Bytes len) sp hd (sym e ∙ f)).0 in
       fault_outside end fault (settled (bignum_of i)) (none y x s z payload end un hd (subst (Spells s) io sp)
       (sym f ∙ e)
       (subst (λ n. n ≤ end + length z) (sym (same b u)) fits))

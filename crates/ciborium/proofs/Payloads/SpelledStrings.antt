@@ -6,7 +6,7 @@ use Rattle.ciborium_ll.specs.{declared.decoder.Decoder.Decoder, declared.header.
 use Rattle.ciborium_ll.specs.{declared.header.Error.Error as LlError, Accesses.{HasEnded, left_at_failure}}
 use Rattle.ciborium_ll.specs.{Bytes.greatest_offset, Head.{IsHead, open_byte, break_byte}, Header.SpellsHeader}
 use Rattle.ciborium_ll.specs.{Header.announced_length, Refusal.{Refusal, io, syntax, too_long, HeadRefuses}}
-use Rattle.ciborium_ll.specs.{Spells.{Spells, AreChunks}, StringRefusal.{StringKind, of_bytes, of_text, string_major}}
+use Rattle.ciborium_ll.specs.{Spells.{Spells, AreChunks}, StringRefusal.{StringType, string_major}}
 use Rattle.ciborium_ll.specs.StringRefusal.{IsAllowed, PayloadRefuses, ChunkRefuses, ContentRefuses}
 use Rattle.ciborium_ll.proofs.OneHeader.{one_header_at_front}
 use Rattle.ciborium_value.specs.Sources.{IsOutsideFault}
@@ -19,20 +19,20 @@ use Rattle.ciborium_ll.specs.ReaderSteps as reading
 
 -- ---- one head, and behind it one payload
 
-pub string-spells : (kind : StringKind) (n : ℕ) (h : List ℕ) → IsHead h (string_major kind) n →
+pub string-spells : (kind : StringType) (n : ℕ) (h : List ℕ) → IsHead h (string_major kind) n →
     SpellsHeader h (head_of kind (Some n))
-string-spells of_bytes n h hd = hd
-string-spells of_text n h hd = hd
+string-spells StringType.Bytes n h hd = hd
+string-spells StringType.Text n h hd = hd
 
-same-size : (kind : StringKind) (n m : ℕ) → head_of kind (Some n) ≡ head_of kind (Some m) → n ≡ m
-same-size of_bytes n m e = cc
-same-size of_text n m e = cc
+same-size : (kind : StringType) (n m : ℕ) → head_of kind (Some n) ≡ head_of kind (Some m) → n ≡ m
+same-size StringType.Bytes n m e = cc
+same-size StringType.Text n m e = cc
 
-no-break : (kind : StringKind) (n : ℕ) → head_of kind (Some n) ≡ header.Break → ⊥
-no-break of_bytes n e = cc
-no-break of_text n e = cc
+no-break : (kind : StringType) (n : ℕ) → head_of kind (Some n) ≡ header.Break → ⊥
+no-break StringType.Bytes n e = cc
+no-break StringType.Text n e = cc
 
-pub same-payload : (kind : StringKind) (h k p q a b : List ℕ) → IsHead h (string_major kind) (length p) →
+pub same-payload : (kind : StringType) (h k p q a b : List ℕ) → IsHead h (string_major kind) (length p) →
     IsHead k (string_major kind) (length q) → h ++ (p ++ a) ≡ k ++ (q ++ b) → (p ≡ q) × (a ≡ b)
 same-payload kind h k p q a b hd kd e =
     let one = one_header_at_front h k (p ++ a) (q ++ b) (head_of kind (Some (length p)))
@@ -42,7 +42,7 @@ same-payload kind h k p q a b hd kd e =
       sym (drop-append_seam p a) ∙ ap (λ n. drop n (p ++ a)) size ∙ ap (drop (length q)) one.1 ∙ drop-append_seam q b,
     )
 
-pub string-break : (kind : StringKind) (h payload a z : List ℕ) → IsHead h (string_major kind) (length payload) →
+pub string-break : (kind : StringType) (h payload a z : List ℕ) → IsHead h (string_major kind) (length payload) →
     h ++ (payload ++ a) ≡ break_byte ∷ z → ⊥
 string-break kind h payload a z hd e =
     no-break kind (length payload) (one_header_at_front h (break_byte ∷ []) (payload ++ a) z
@@ -57,7 +57,7 @@ same-rest x a b e = cc
 
 -- ---- none is refused but as too long
 
-payload-never : (kind : StringKind) (n p : ℕ) (y : List ℕ) (e : Refusal) (payload z : List ℕ) →
+payload-never : (kind : StringType) (n p : ℕ) (y : List ℕ) (e : Refusal) (payload z : List ℕ) →
     n ≡ length payload → IsAllowed kind payload → y ≡ payload ++ z → PayloadRefuses kind n p y e → ⊥
 payload-never kind n p y io payload z size ok f (PayloadRefuses.ends_early lt) =
     let all : length y ≡ length payload + length z = ap length f ∙ length-append payload z in
@@ -68,7 +68,7 @@ payload-never kind n p y e payload z size ok f (PayloadRefuses.not_allowed other
     bad (subst (IsAllowed kind) (sym same) ok)
 
 -- at a break
-break-only : (kind : StringKind) (p : ℕ) (r z : List ℕ) (e : Refusal) → r ≡ break_byte ∷ z → ChunkRefuses kind r p e →
+break-only : (kind : StringType) (p : ℕ) (r z : List ℕ) (e : Refusal) → r ≡ break_byte ∷ z → ChunkRefuses kind r p e →
     e ≡ too_long
 break-only kind p r z e f (ChunkRefuses.no_head h) =
     only-long (break_byte ∷ []) z header.Break p e refl (subst (λ (k : List ℕ). HeadRefuses k p e) f h)
@@ -78,7 +78,7 @@ break-only kind p r z e f (ChunkRefuses.chunk u (n, k, r', (h, hd, len, g), w)) 
 break-only kind p r z e f (ChunkRefuses.other u string end) = absurd (end (z, f))
 
 -- at a good part
-part-only : (kind : StringKind) (p : ℕ) (r h payload z : List ℕ) (e : Refusal) → IsHead h (string_major kind)
+part-only : (kind : StringType) (p : ℕ) (r h payload z : List ℕ) (e : Refusal) → IsHead h (string_major kind)
     (length payload) → IsAllowed kind payload → r ≡ h ++ (payload ++ z) → ChunkRefuses kind r p e → e ≡ too_long
 part-only kind p r h payload z e hd ok f (ChunkRefuses.no_head w) =
     only-long h (payload ++ z) (head_of kind (Some (length payload))) p e (string-spells kind (length payload) h hd)
@@ -90,7 +90,7 @@ part-only kind p r h payload z e hd ok f (ChunkRefuses.chunk u (n, k, r', (x, xd
 part-only kind p r h payload z e hd ok f (ChunkRefuses.other u string end) =
     absurd (string (length payload, length h, payload ++ z, (h, hd, refl, f)))
 
-parts-only : (kind : StringKind) (p : ℕ) (good t r z : List ℕ) (ps qs : List (List ℕ)) (e : Refusal) →
+parts-only : (kind : StringType) (p : ℕ) (good t r z : List ℕ) (ps qs : List (List ℕ)) (e : Refusal) →
     AreChunks (string_major kind) (IsAllowed kind) good ps → AreChunks (string_major kind) (IsAllowed kind) t qs →
     good ++ r ≡ t ++ (break_byte ∷ z) → ChunkRefuses kind r p e → e ≡ too_long
 parts-only kind p good t r z [] [] e g h f w = break-only kind p r z e
@@ -107,24 +107,24 @@ parts-only kind p good t r z (m ∷ ps) (q ∷ qs) e (s, c, (x, hd, ok, i), rest
     (sym (opened-up x m s c good r i j) ∙ f ∙ opened-up x' q s' c' t (break_byte ∷ z) i' j') in
     parts-only kind p c c' r z ps qs e rest rest' same.1 w
 
-definite-parts : (kind : StringKind) (n : ℕ) (s payload : List ℕ) → Spells s (string_item kind (Some n) payload) →
+definite-parts : (kind : StringType) (n : ℕ) (s payload : List ℕ) → Spells s (string_item kind (Some n) payload) →
     (h : List ℕ) × IsHead h (string_major kind) (length payload) × IsAllowed kind payload × (s ≡ h ++ payload)
-definite-parts of_bytes n s payload h = h
-definite-parts of_text n s payload h = h
+definite-parts StringType.Bytes n s payload h = h
+definite-parts StringType.Text n s payload h = h
 
-open-parts : (kind : StringKind) (s payload : List ℕ) → Spells s (string_item kind None payload) →
+open-parts : (kind : StringType) (s payload : List ℕ) → Spells s (string_item kind None payload) →
     (ps : List (List ℕ)) × (r : List ℕ) × AreChunks (string_major kind) (IsAllowed kind) r ps ×
     (s ≡ open_byte (string_major kind) ∷ (r ++ (break_byte ∷ [])))
-open-parts of_bytes s payload (ps, r, a, j, e) = (ps, r, a, e)
-open-parts of_text s payload (ps, r, a, j, e) = (ps, r, a, e)
+open-parts StringType.Bytes s payload (ps, r, a, j, e) = (ps, r, a, e)
+open-parts StringType.Text s payload (ps, r, a, j, e) = (ps, r, a, e)
 
-open-spells : (kind : StringKind) (x : List ℕ) → SpellsHeader x (head_of kind None) →
+open-spells : (kind : StringType) (x : List ℕ) → SpellsHeader x (head_of kind None) →
     x ≡ open_byte (string_major kind) ∷ []
-open-spells of_bytes x h = h
-open-spells of_text x h = h
+open-spells StringType.Bytes x h = h
+open-spells StringType.Text x h = h
 
 -- behind the head of a definite string its payload stands
-pub definite-payload : (kind : StringKind) (n : ℕ) (y x s z payload : List ℕ) → SpellsHeader x (head_of kind (Some n)) →
+pub definite-payload : (kind : StringType) (n : ℕ) (y x s z payload : List ℕ) → SpellsHeader x (head_of kind (Some n)) →
     Spells s (string_item kind (Some n) payload) → x ++ y ≡ s ++ z → (n ≡ length payload) × IsAllowed kind payload ×
     (y ≡ payload ++ z)
 definite-payload kind n y x s z payload hd sp e =
@@ -133,14 +133,14 @@ definite-payload kind n y x s z payload hd sp e =
     (string-spells kind (length payload) h kd) (e ∙ ap (λ (k : List ℕ). k ++ z) f ∙ append_assoc h payload z) in
     (same-size kind n (length payload) one.2, ok, one.1)
 
-pub definite-never : (kind : StringKind) (n p : ℕ) (e : Refusal) (y x s z payload : List ℕ) →
+pub definite-never : (kind : StringType) (n p : ℕ) (e : Refusal) (y x s z payload : List ℕ) →
     SpellsHeader x (head_of kind (Some n)) → Spells s (string_item kind (Some n) payload) → x ++ y ≡ s ++ z →
     PayloadRefuses kind n p y e → ⊥
 definite-never kind n p e y x s z payload hd sp f w =
     let (size, ok, is) = definite-payload kind n y x s z payload hd sp f in
     payload-never kind n p y e payload z size ok is w
 
-pub content-only : (kind : StringKind) (len : Option ℕ) (p q : ℕ) (e : Refusal) (y x s z payload : List ℕ) →
+pub content-only : (kind : StringType) (len : Option ℕ) (p q : ℕ) (e : Refusal) (y x s z payload : List ℕ) →
     SpellsHeader x (head_of kind len) → Spells s (string_item kind len payload) → x ++ y ≡ s ++ z →
     ContentRefuses kind len p y q e → e ≡ too_long
 content-only kind (Some n) p q e y x s z payload hd sp f (inl (over, same)) = same
@@ -156,17 +156,17 @@ content-only kind None p q e y x s z payload hd sp f (good, ps, r, parts, room, 
 
 -- ---- what is refused as too long is
 
-pub payload-long : (kind : StringKind) (n p : ℕ) (y : List ℕ) (e : Refusal) → e ≡ too_long →
+pub payload-long : (kind : StringType) (n p : ℕ) (y : List ℕ) (e : Refusal) → e ≡ too_long →
     PayloadRefuses kind n p y e → ⊥
 payload-long kind n p y io is (PayloadRefuses.ends_early lt) = cc
 payload-long kind n p y e is (PayloadRefuses.not_allowed other r len bad) = cc
 
-announced-string : (kind : StringKind) (n : ℕ) → announced_length (head_of kind (Some n)) ≡ n
-announced-string of_bytes n = refl
-announced-string of_text n = refl
+announced-string : (kind : StringType) (n : ℕ) → announced_length (head_of kind (Some n)) ≡ n
+announced-string StringType.Bytes n = refl
+announced-string StringType.Text n = refl
 
 -- at a break, which z follows
-break-long : (kind : StringKind) (p : ℕ) (r z : List ℕ) (e : Refusal) → e ≡ too_long → r ≡ break_byte ∷ z →
+break-long : (kind : StringType) (p : ℕ) (r z : List ℕ) (e : Refusal) → e ≡ too_long → r ≡ break_byte ∷ z →
     ChunkRefuses kind r p e → greatest_offset + length z < p + length r
 break-long kind p r z e is f (ChunkRefuses.no_head h) =
     let past : greatest_offset < p + 1 + 0 = head-passes (break_byte ∷ []) z header.Break p refl
@@ -178,7 +178,7 @@ break-long kind p r z e is f (ChunkRefuses.chunk u (n, k, r', (h, hd, len, g), w
 break-long kind p r z e is f (ChunkRefuses.other u string end) = cc
 
 -- at a good part
-part-long : (kind : StringKind) (p : ℕ) (r h payload z : List ℕ) (e : Refusal) → e ≡ too_long →
+part-long : (kind : StringType) (p : ℕ) (r h payload z : List ℕ) (e : Refusal) → e ≡ too_long →
     IsHead h (string_major kind) (length payload) → r ≡ h ++ (payload ++ z) → ChunkRefuses kind r p e →
     greatest_offset + length z < p + length r
 part-long kind p r h payload z e is hd f (ChunkRefuses.no_head w) =
@@ -193,7 +193,7 @@ part-long kind p r h payload z e is hd f (ChunkRefuses.chunk u (n, k, r', (x, xd
     absurd (payload-long kind n p r' e is w)
 part-long kind p r h payload z e is hd f (ChunkRefuses.other u string end) = cc
 
-parts-long : (kind : StringKind) (p : ℕ) (good t r z : List ℕ) (ps qs : List (List ℕ)) (e : Refusal) → e ≡ too_long →
+parts-long : (kind : StringType) (p : ℕ) (good t r z : List ℕ) (ps qs : List (List ℕ)) (e : Refusal) → e ≡ too_long →
     AreChunks (string_major kind) (IsAllowed kind) good ps → AreChunks (string_major kind) (IsAllowed kind) t qs →
     good ++ r ≡ t ++ (break_byte ∷ z) → ChunkRefuses kind r p e → greatest_offset + length z < p + length r
 parts-long kind p good t r z [] [] e is g h f w = break-long kind p r z e is
@@ -213,7 +213,7 @@ parts-long kind p good t r z (m ∷ ps) (q ∷ qs) e is (s, c, (x, hd, ok, i), r
     parts-long kind p c c' r z ps qs e is rest rest' same.1 w
 
 -- where a string is spelled, and z behind it, what follows its head is refused as too long only where it is
-pub content-long : (kind : StringKind) (len : Option ℕ) (p q : ℕ) (y x s z payload : List ℕ) →
+pub content-long : (kind : StringType) (len : Option ℕ) (p q : ℕ) (y x s z payload : List ℕ) →
     SpellsHeader x (head_of kind len) → Spells s (string_item kind len payload) → x ++ y ≡ s ++ z →
     ContentRefuses kind len p y q too_long → greatest_offset + length z < q + length y
 content-long kind (Some n) p q y x s z payload hd sp e (inl (over, same)) =
@@ -232,7 +232,7 @@ content-long kind None p q y x s z payload hd sp e (good, ps, r, parts, room, sp
     let size : length y ≡ length good + length r = ap length split ∙ length-append good r in
     omega (arith, long, size)
 
-content-outside : {E : Type 0} (left : Option (List ℕ)) (e : LlError E) (kind : StringKind) (len : Option ℕ)
+content-outside : {E : Type 0} (left : Option (List ℕ)) (e : LlError E) (kind : StringType) (len : Option ℕ)
     (p q end : ℕ) (y x s z payload : List ℕ) → SpellsHeader x (head_of kind len) →
     Spells s (string_item kind len payload) → x ++ y ≡ s ++ z → q + length y ≤ end + length z →
     reading.IsRefusalOf left e (ContentRefuses kind len p y q) → IsOutsideFault end (fault_of left (from_ll e))
@@ -246,7 +246,7 @@ content-outside left ll.Memory kind len p q end y x s z payload hd sp f fits r =
 
 -- the payload of a string whose head was taken is refused for what no string decides
 pub content-denied : {S W E : Type 0} (can_fail : Bool) (remaining : S → Option (List ℕ)) (d e : Decoder S W)
-    (pending : Option (Header × ℕ)) (x : LlError E) (kind : StringKind) (len : Option ℕ) → pending ≡ None →
+    (pending : Option (Header × ℕ)) (x : LlError E) (kind : StringType) (len : Option ℕ) → pending ≡ None →
     ((y : List ℕ) → left_of remaining d ≡ Some y →
     reading.IsRefusalOf (left_of remaining e) x (ContentRefuses kind len d.last y d.counter.count)) →
     HasEnded can_fail (left_of remaining e) x → DeniesContent (IsUnreadBy remaining d pending) (known_end

@@ -3,7 +3,7 @@ use Rattle.std.proofs.Common.{◌≡◌, ℕ, ◌+◌, ◌-◌, ◌*◌, ◌≤�
 use Rattle.std.proofs.Common.{None, Ok, refl, sym, ap, ◌∙◌, subst, arith, inl, inr, length-append}
 use Rattle.ciborium_ll.{proofs.Unread.rest-of, specs.{Bytes.greatest_offset, Decoding.{Takes, left_of}, Head.IsHead}}
 use Rattle.ciborium_ll.specs.{Head.{open_byte, break_byte}, Item.{Item, bytes, text}, Spells.{Spells, AreChunks}}
-use Rattle.ciborium_ll.specs.{Spells.joined, StringRefusal.{StringKind, of_bytes, of_text, string_major, IsAllowed}}
+use Rattle.ciborium_ll.specs.{Spells.joined, StringRefusal.{StringType, string_major, IsAllowed}}
 use Rattle.ciborium_ll.specs.{Strings.IsStringTaken, declared.{decoder.Decoder.Decoder, header.Header.Header}}
 use Rattle.ciborium_value.specs.Given.{Given, bare_text, gives, outcome, refuses, settled, given_text, untagged}
 use Rattle.ciborium_value.specs.{Nesting.Limit, Sources.Fault}
@@ -16,29 +16,29 @@ use Rattle.ciborium_ll.specs.declared.header.Header.TheVariants as header
 use Rattle.ciborium_value.specs.declared.kind.Kind.TheVariants as kinds
 
 -- the payload that was taken makes a string with its head
-content-spelled : (E : Type 0) (kind : StringKind) (len : Option ℕ) (p q : ℕ) (added c : List ℕ) →
+content-spelled : (E : Type 0) (kind : StringType) (len : Option ℕ) (p q : ℕ) (added c : List ℕ) →
     IsStringTaken {E = E} kind len p c q (Ok tt) added → IsContent kind len c added
 content-spelled E kind (Some n) p q added c (inl (over, never, a, b)) x hd = cc
-content-spelled E of_bytes (Some n) p q added c (inr (w, (size, ok, same))) x hd = (
+content-spelled E StringType.Bytes (Some n) p q added c (inr (w, (size, ok, same))) x hd = (
   x,
   subst (IsHead x 2) (sym size ∙ ap length (sym same)) hd,
-  subst (IsAllowed of_bytes) (sym same) ok,
+  subst (IsAllowed StringType.Bytes) (sym same) ok,
   ap (λ (z : List ℕ). x ++ z) (sym same),
 )
-content-spelled E of_text (Some n) p q added c (inr (w, (size, ok, same))) x hd = (
+content-spelled E StringType.Text (Some n) p q added c (inr (w, (size, ok, same))) x hd = (
   x,
   subst (IsHead x 3) (sym size ∙ ap length (sym same)) hd,
-  subst (IsAllowed of_text) (sym same) ok,
+  subst (IsAllowed StringType.Text) (sym same) ok,
   ap (λ (z : List ℕ). x ++ z) (sym same),
 )
-content-spelled E of_bytes None p q added c (ps, s, parts, room, split, same) x hd =
+content-spelled E StringType.Bytes None p q added c (ps, s, parts, room, split, same) x hd =
     (ps, s, parts, same, ap (λ (z : List ℕ). z ++ c) hd ∙ ap (λ (z : List ℕ). open_byte 2 ∷ z) split)
-content-spelled E of_text None p q added c (ps, s, parts, room, split, same) x hd =
+content-spelled E StringType.Text None p q added c (ps, s, parts, room, split, same) x hd =
     (ps, s, parts, same, ap (λ (z : List ℕ). z ++ c) hd ∙ ap (λ (z : List ℕ). open_byte 3 ∷ z) split)
 
 -- a string that was appended to an empty one
 pub content-taken : (E : Type 0) {S W : Type 0} (remaining : S → Option (List ℕ)) (d e : Decoder S W)
-    (pending : Option (Header × ℕ)) (kind : StringKind) (len : Option ℕ) (start out : List ℕ) →
+    (pending : Option (Header × ℕ)) (kind : StringType) (len : Option ℕ) (start out : List ℕ) →
     pending ≡ None → start ≡ [] → Takes remaining d e (λ b. (added : List ℕ) × (out ≡ start ++ added) ×
     IsStringTaken {E = E} kind len d.last b d.counter.count (Ok tt) added) →
     TakesContent (IsUnreadBy remaining d pending) (IsUnreadBy remaining e pending) kind len out
@@ -54,17 +54,17 @@ content-taken E remaining d e pending kind len start out none empty (b, takes, c
     )
 
 -- an item that begins with the head of a string is a string
-pub string-only : (kind : StringKind) (len : Option ℕ) (i : Item) → header_of i ≡ head_of kind len →
+pub string-only : (kind : StringType) (len : Option ℕ) (i : Item) → header_of i ≡ head_of kind len →
     (payload : List ℕ) × (i ≡ string_item kind len payload)
-string-only of_bytes (Some n) (bytes false b) e = (b, refl)
-string-only of_bytes None (bytes true b) e = (b, refl)
-string-only of_text (Some n) (text false b) e = (b, refl)
-string-only of_text None (text true b) e = (b, refl)
+string-only StringType.Bytes (Some n) (bytes false b) e = (b, refl)
+string-only StringType.Bytes None (bytes true b) e = (b, refl)
+string-only StringType.Text (Some n) (text false b) e = (b, refl)
+string-only StringType.Text None (text true b) e = (b, refl)
 string-only _ _ _ e = cc
 
 -- a string whose payload is refused stands in no item
 pub denies-content : {S : Type 0} (IsUnread : S → List ℕ → Type 0) (End : S → ℕ) (numbers : Bool) (old mid : S)
-    (kind : StringKind) (len : Option ℕ) (fault : Fault) → ((b : List ℕ) → IsUnread old b → End mid ≡ End old) →
+    (kind : StringType) (len : Option ℕ) (fault : Fault) → ((b : List ℕ) → IsUnread old b → End mid ≡ End old) →
     TakesBare IsUnread old mid numbers (head_of kind len) → DeniesContent (IsUnread mid) (End mid) kind len fault →
     DeniesItem IsUnread End old fault
 denies-content IsUnread End numbers old mid kind len fault same bare none b s z j end u sp e fits =
@@ -76,7 +76,7 @@ denies-content IsUnread End numbers old mid kind len fault same bare none b s z 
 
 -- so the item that the string is in is refused
 pub denies-string : {S A : Type 0} (IsUnread : S → List ℕ → Type 0) (End : S → ℕ) (l : Limit) (taken : Given A)
-    (old mid : S) (kind : StringKind) (len : Option ℕ) (fault : Fault) →
+    (old mid : S) (kind : StringType) (len : Option ℕ) (fault : Fault) →
     ((b : List ℕ) → IsUnread old b → End mid ≡ End old) → TakesBare IsUnread old mid false (head_of kind len) →
     DeniesContent (IsUnread mid) (End mid) kind len fault → Denies IsUnread End old l taken fault
 denies-string IsUnread End l taken old mid kind len fault same bare none =
@@ -95,7 +95,7 @@ parts-long major P s (p ∷ ps) (a, r, (h, hd, ok, e), rest, f) =
     let n : length (p ++ joined ps) ≡ length p + length (joined ps) = length-append p (joined ps) in
     omega (arith, k, l, m, n)
 
-content-long : (E : Type 0) (kind : StringKind) (len : Option ℕ) (p q : ℕ) (added c : List ℕ) →
+content-long : (E : Type 0) (kind : StringType) (len : Option ℕ) (p q : ℕ) (added c : List ℕ) →
     IsStringTaken {E = E} kind len p c q (Ok tt) added → length added ≤ length c
 content-long E kind (Some n) p q added c (inl (over, never, a, b)) = cc
 content-long E kind (Some n) p q added c (inr (w, (size, ok, same))) = let k : length added ≡ length c =
@@ -107,7 +107,7 @@ content-long E kind None p q added c (ps, s, parts, room, split, same) =
     omega (arith, k, l, m)
 
 pub content-fewer : (E : Type 0) {S W : Type 0} (remaining : S → Option (List ℕ)) (d e : Decoder S W)
-    (kind : StringKind) (len : Option ℕ) (start out : List ℕ) →
+    (kind : StringType) (len : Option ℕ) (start out : List ℕ) →
     start ≡ [] → Takes remaining d e (λ b. (added : List ℕ) × (out ≡ start ++ added) ×
     IsStringTaken {E = E} kind len d.last b d.counter.count (Ok tt) added) →
     3 * (greatest_offset - e.counter.count) + length out ≤ 3 * (greatest_offset - d.counter.count)
@@ -120,7 +120,7 @@ content-fewer E remaining d e kind len start out empty (b, takes, count, (added,
 -- ---- strings behind skipped tags
 
 -- the string whose payload was taken
-pub string-behind : {S A : Type 0} (IsUnread : S → List ℕ → Type 0) (mid new : S) (kind : StringKind) (len : Option ℕ)
+pub string-behind : {S A : Type 0} (IsUnread : S → List ℕ → Type 0) (mid new : S) (kind : StringType) (len : Option ℕ)
     (l : Limit) (taken : Given A) (payload : List ℕ) (v : A) →
     TakesContent (IsUnread mid) (IsUnread new) kind len payload →
     ((ts : List ℕ) → AreSkipped false ts → outcome l (taken (under ts (string_item kind len payload))) ≡ gives v) →
@@ -129,7 +129,7 @@ string-behind IsUnread mid new kind len l taken payload v content give y un =
     let (c, z, make, f, un') = content y un in
     (string_item kind len payload, c, z, make, f, give, un')
 
-pub reads-string : {S A : Type 0} (IsUnread : S → List ℕ → Type 0) (old mid new : S) (kind : StringKind)
+pub reads-string : {S A : Type 0} (IsUnread : S → List ℕ → Type 0) (old mid new : S) (kind : StringType)
     (len : Option ℕ) (l : Limit) (taken : Given A) (payload : List ℕ) (v : A) →
     TakesBare IsUnread old mid false (head_of kind len) → TakesContent (IsUnread mid) (IsUnread new) kind len payload →
     ((ts : List ℕ) → AreSkipped false ts → outcome l (taken (under ts (string_item kind len payload))) ≡ gives v) →

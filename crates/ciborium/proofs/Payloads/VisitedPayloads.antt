@@ -1,7 +1,7 @@
 -- Payloads that are visited where they are held.
 use Rattle.std.proofs.Common.{◌≡◌, ℕ, ◌+◌, ◌≤◌, List, ◌++◌, length, take, Option, IsUtf8, Some, ◌∙◌, sym, ap, arith}
 use Rattle.std.proofs.{Common.{length-append, subst, IfErr, Result, Ok, Err}, Math.Seq.take-append_seam}
-use Rattle.ciborium_ll.specs.{Levels.IsPayloadOf, StringRefusal.StringKind, declared.header.Header.Header}
+use Rattle.ciborium_ll.specs.{Levels.IsPayloadOf, StringRefusal.StringType, declared.header.Header.Header}
 use Rattle.ciborium_value.specs.Sources.{Fault, TakesOnly}
 use Rattle.ciborium.{proofs.Items.TakenOnly.same-end, specs.declared.de.byte_source.ByteSource.ByteSource}
 use Rattle.ciborium.specs.inner.{ByteSources.{HasTaken, IsUnread, end_at}, PassedOver.DeniesPayload}
@@ -35,7 +35,7 @@ module _ {S W X E : Type 0} (remaining : S → Option (List ℕ)) (old new : Byt
   payload-denied-then h (Err x) denied = λ y p r m e u pay split there fits. denied y p r m e (none y u) pay split there
       (subst (λ k. k ≤ e + m) (sym (same-end remaining old new only y u)) fits)
 
-  pub content-denied-then : (kind : StringKind) (len : Option ℕ) (result : Result X E) →
+  pub content-denied-then : (kind : StringType) (len : Option ℕ) (result : Result X E) →
       IfErr result (λ e. DeniesContent (IsUnread remaining new) (end_at remaining new) kind len (fault_of e)) →
       IfErr result (λ e. DeniesContent (IsUnread remaining old) (end_at remaining old) kind len (fault_of e))
   content-denied-then kind len (Ok v) denied = tt

@@ -7,7 +7,7 @@ use Rattle.ciborium_ll.proofs.{Decoders.{unread-left, begun-left, unread-count},
 use Rattle.ciborium_ll.{proofs.Unread.rest-of, specs.{Bytes.{AreBytes, greatest_offset}, Decoded.IsVisited}}
 use Rattle.ciborium_ll.specs.Decoding.{HasBegun, IsAhead, IsAheadBy, ReadsNothing, Pulls, PullsTo, Takes}
 use Rattle.ciborium_ll.specs.{Decoding.{TakesBeforeAny, with_left, left_of}, ReaderSteps.IsHeadTaken}
-use Rattle.ciborium_ll.specs.{StringRefusal.{StringKind, ContentRefuses, IsAllowed}, Strings.IsStringTaken}
+use Rattle.ciborium_ll.specs.{StringRefusal.{StringType, ContentRefuses, IsAllowed}, Strings.IsStringTaken}
 use Rattle.ciborium_ll.specs.declared.{decoder.Decoder.Decoder, header.Error.{Error as LlError, TheVariants.Io}}
 use Rattle.ciborium_ll.specs.declared.header.{Error.TheVariants.{Syntax, TooLong, Memory}, Header.Header}
 use Rattle.ciborium_value.specs.{Spelling.{Spelling, any, deterministic, IsReadAs}, Tree.Tree, View.tree_of}
@@ -96,12 +96,12 @@ abbrev pub PullsAll : {W E : Type 0} → Decoder (List ℕ) W → Decoder (List 
 PullsAll {W} {E} d e x = (xs : List ℕ) (p : ℕ) → IsAhead Some d xs p → Pulls {E = E} Some e xs p x
 
 -- what the calls that read a string answer
-abbrev pub StringSo : {W E : Type 0} → StringKind → Option ℕ → ℕ → Decoder (List ℕ) W → Decoder (List ℕ) W →
+abbrev pub StringSo : {W E : Type 0} → StringType → Option ℕ → ℕ → Decoder (List ℕ) W → Decoder (List ℕ) W →
     Result Value (Error E) → Type 0
 StringSo {W} {E} kind len at d e x = (xs : List ℕ) (p : ℕ) → IsAt Some d xs p →
     IsStringRead {S = List ℕ} {E = E} kind Some e len at xs p x
 
-string-read : (E : Type 0) {S W : Type 0} (kind : StringKind) (remaining : S → Option (List ℕ)) (d e : Decoder S W)
+string-read : (E : Type 0) {S W : Type 0} (kind : StringType) (remaining : S → Option (List ℕ)) (d e : Decoder S W)
     (len : Option ℕ) (xs : List ℕ) (p : ℕ) (old new : List ℕ) (v : Value) →
     old ≡ [] → tree_of v ≡ string_tree kind new → Takes remaining d e (λ b. (added : List ℕ) × (new ≡ old ++ added) ×
     IsStringTaken {E = E} kind len d.last b d.counter.count (Ok tt) added) →
@@ -121,7 +121,7 @@ string-read E kind remaining d e len xs p old new v none tree (x, taken, count, 
     )
 
 -- a string that was appended to an empty one
-pub string-taken : (E : Type 0) {S W : Type 0} (remaining : S → Option (List ℕ)) (a b : Decoder S W) (kind : StringKind)
+pub string-taken : (E : Type 0) {S W : Type 0} (remaining : S → Option (List ℕ)) (a b : Decoder S W) (kind : StringType)
     (len : Option ℕ) (old new : List ℕ) (v : Value) → old ≡ [] → tree_of v ≡ string_tree kind new →
     Takes remaining a b (λ y. (added : List ℕ) × (new ≡ old ++ added) ×
     IsStringTaken {E = E} kind len a.last y a.counter.count (Ok tt) added) →
@@ -137,7 +137,7 @@ string-taken E remaining a b kind len old new v none tree t = (
 
 -- a string that was refused
 pub string-refused : (E : Type 0) {S W : Type 0} (remaining : S → Option (List ℕ)) (a b : Decoder S W)
-    (kind : StringKind) (len : Option ℕ) (x : LlError E) (A : List ℕ → List ℕ → Type 0) →
+    (kind : StringType) (len : Option ℕ) (x : LlError E) (A : List ℕ → List ℕ → Type 0) →
     Takes remaining a b (λ y. (added : List ℕ) × A added y ×
     IsStringTaken {E = E} kind len a.last y a.counter.count (Err x) added) →
     TakesBeforeAny remaining a b (λ d e. StringSo {E = E} kind len a.last d e (Err (from_ll x)))
@@ -154,7 +154,7 @@ string-refused E remaining a b kind len x A (y, taken, count, h, bytes) = (
 
 -- a string whose payload could not be looked at where it stands
 pub held-refused : (E : Type 0) {S W V : Type 0} (remaining : S → Option (List ℕ)) (a b : Decoder S W)
-    (kind : StringKind) (n : ℕ) (Makes : List ℕ → V → Type 0) (x : LlError E) →
+    (kind : StringType) (n : ℕ) (Makes : List ℕ → V → Type 0) (x : LlError E) →
     Takes remaining a b (λ y. IsVisited n Makes y a.counter.count (Some (Err x))) →
     TakesBeforeAny remaining a b (λ d e. StringSo {E = E} kind (Some n) a.last d e (Err (from_ll x)))
 held-refused E remaining a b kind n Makes x (y, taken, count, h, bytes) =
@@ -168,7 +168,7 @@ held-refused E remaining a b kind n Makes x (y, taken, count, h, bytes) =
     by Memory h = absurd h
 
 -- a text whose payload is none
-pub held-no-text : (E : Type 0) {S W : Type 0} (remaining : S → Option (List ℕ)) (a b : Decoder S W) (kind : StringKind)
+pub held-no-text : (E : Type 0) {S W : Type 0} (remaining : S → Option (List ℕ)) (a b : Decoder S W) (kind : StringType)
     (n : ℕ) → Takes remaining a b (λ y. (length y ≡ n) × (a.counter.count + n ≤ greatest_offset) × ¬ IsAllowed kind y) →
     TakesBeforeAny remaining a b (λ d e. StringSo {E = E} kind (Some n) a.last d e (Err (from_ll (Syntax a.last))))
 held-no-text E remaining a b kind n (y, taken, count, (size, fits, unlike), bytes) =

@@ -4,8 +4,8 @@ use Rattle.std.proofs.Common.{Ok, Err, refl, sym, ap, ◌∙◌, subst, arith, i
 use Rattle.ciborium_ll.specs.{declared.decoder.Decoder.Decoder, declared.header.Header.Header, Bytes.AreBytes}
 use Rattle.ciborium_ll.specs.{Bytes.greatest_offset, Decoding.{IsAhead, IsAheadBy, IsMeasured, ReadsNothing, offset_of}}
 use Rattle.ciborium_ll.specs.{Decoding.left_of, Header.SpellsHeader, Refusal.{Refusal, semantic}}
-use Rattle.ciborium_ll.specs.{Refusal.{recursion_limit_exceeded, HeadRefuses, IsUsable}, StringRefusal.of_bytes}
-use Rattle.ciborium_ll.specs.StringRefusal.{PayloadRefuses}
+use Rattle.ciborium_ll.specs.Refusal.{recursion_limit_exceeded, HeadRefuses, IsUsable}
+use Rattle.ciborium_ll.specs.StringRefusal.{StringType, PayloadRefuses}
 use Rattle.ciborium_ll.proofs.{Decoders.{unread-left, unread-count}, OneHeader.one_header_at_front}
 use Rattle.ciborium_value.specs.{declared.kind.Kind.Kind, declared.tree.Value.Value, Refuses.{HasGoodHead, IsTagAt}}
 use Rattle.ciborium_value.specs.{Refuses.{IsFoldingAt, Refuses}, Spelling.{Spelling, any, deterministic, IsUnwanted}}
@@ -183,7 +183,7 @@ module _ {S W : Type 0} (remaining : S → Option (List ℕ)) (d : Decoder S W) 
           ReadsItem spelling (Some l) (r spelling a) (q spelling a) (trees.bytes y) s
           (q spelling a + length (string spelling a).0 + n)
       payload y s len low split = let w = string-front spelling a in
-          reads-string spelling of_bytes (r spelling a) (q spelling a) n (length (string spelling a).0) (Some l) y s
+          reads-string spelling StringType.Bytes (r spelling a) (q spelling a) n (length (string spelling a).0) (Some l) y s
           ((string spelling a).0, w.spelled, refl, w.split ∙ ap (λ (z : List ℕ). (string spelling a).0 ++ z) split) len
           low good.1 fits
 
@@ -192,7 +192,7 @@ module _ {S W : Type 0} (remaining : S → Option (List ℕ)) (d : Decoder S W) 
       refuses here f same (inl (early, is)) = let w = string-front spelling a in
           subst (Refuses spelling xs p (Some l)) (sym is) (Refuses.folding t (r spelling a) (q spelling a)
           (at spelling a)
-          (folds spelling a) (Refuses.string of_bytes good (
+          (folds spelling a) (Refuses.string StringType.Bytes good (
             n,
             length (string spelling a).0,
             (string spelling a).1,

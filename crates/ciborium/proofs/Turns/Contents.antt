@@ -3,7 +3,7 @@ use Rattle.std.proofs.Common.{◌≡◌, ℕ, ◌+◌, ◌≤◌, ◌⊎◌, Lis
 use Rattle.std.proofs.Common.{◌∙◌, subst, arith, length-append, append_assoc, inl, inr}
 use Rattle.ciborium_ll.specs.{declared.decoder.Decoder.Decoder, declared.header.Header.Header, Bytes.greatest_offset}
 use Rattle.ciborium_ll.specs.{Decoding.left_of, Head.{open_byte, break_byte}, Header.{SpellsHeader, IsCounted}}
-use Rattle.ciborium_ll.specs.{Refusal.Refusal, StringRefusal.{StringKind, of_bytes, of_text, string_major}}
+use Rattle.ciborium_ll.specs.{Refusal.Refusal, StringRefusal.{StringType, string_major}}
 use Rattle.ciborium_ll.specs.{StringRefusal.{ContentRefuses, PayloadRefuses, ChunksRefuse}, Strings.IsStringTaken}
 use Rattle.ciborium_value.specs.{declared.tree.Value.Value, Refuses.{HasGoodHead, Refuses}, Spelling.Spelling}
 use Rattle.ciborium_value.specs.{View.tree_of, inner.ReadItems.{ReadsItem, string_tree}}
@@ -15,24 +15,24 @@ use Rattle.ciborium.proofs.{Turns.Heads.good-head, Turns.Pulled.refused-map}
 use Rattle.ciborium_ll.specs.declared.header.Header.TheVariants as header
 
 -- the head of a string of this length
-abbrev pub header_of : StringKind → Option ℕ → Header
-header_of of_bytes len = header.Bytes len
-header_of of_text len = header.Text len
+abbrev pub header_of : StringType → Option ℕ → Header
+header_of StringType.Bytes len = header.Bytes len
+header_of StringType.Text len = header.Text len
 
-counted : (kind : StringKind) (len : Option ℕ) (b : List ℕ) → SpellsHeader b (header_of kind len) →
+counted : (kind : StringType) (len : Option ℕ) (b : List ℕ) → SpellsHeader b (header_of kind len) →
     IsCounted b (string_major kind) len
-counted of_bytes len b s = s
-counted of_text len b s = s
+counted StringType.Bytes len b s = s
+counted StringType.Text len b s = s
 
-no-break-kind : (kind : StringKind) (len : Option ℕ) → IsNoBreak (header_of kind len)
-no-break-kind of_bytes len = tt
-no-break-kind of_text len = tt
+no-break-kind : (kind : StringType) (len : Option ℕ) → IsNoBreak (header_of kind len)
+no-break-kind StringType.Bytes len = tt
+no-break-kind StringType.Text len = tt
 
-of-kind : (kind : StringKind) → (string_major kind ≡ 2) ⊎ (string_major kind ≡ 3)
-of-kind of_bytes = inl refl
-of-kind of_text = inr refl
+of-kind : (kind : StringType) → (string_major kind ≡ 2) ⊎ (string_major kind ≡ 3)
+of-kind StringType.Bytes = inl refl
+of-kind StringType.Text = inr refl
 
-module _ (spelling : Spelling) (kind : StringKind) (l : ℕ) (xs : List ℕ) (p : ℕ) (b r : List ℕ)
+module _ (spelling : Spelling) (kind : StringType) (l : ℕ) (xs : List ℕ) (p : ℕ) (b r : List ℕ)
     (good : HasGoodHead spelling xs p) where
   string-reads : (E : Type 0) (len : Option ℕ) (at : ℕ) (bs added zs : List ℕ) → Front xs p (header_of kind len) b r →
       IsStringTaken {E = E} kind len at bs (p + length b) (Ok tt) added → r ≡ bs ++ zs →
@@ -78,7 +78,7 @@ module _ (spelling : Spelling) (kind : StringKind) (l : ℕ) (xs : List ℕ) (p 
         subst (λ k. ChunksRefuse kind r (p + k) e) (ap length is) refuses,
       )
 
-module _ {S W : Type 0} (kind : StringKind) (remaining : S → Option (List ℕ)) (d e : Decoder S W) (l : ℕ) (xs : List ℕ)
+module _ {S W : Type 0} (kind : StringType) (remaining : S → Option (List ℕ)) (d e : Decoder S W) (l : ℕ) (xs : List ℕ)
     (p : ℕ) (h : Header) where
   pub got-string : (spelling : Spelling) (E : Type 0) (len : Option ℕ) (v : Value) →
       e.pushed ≡ None → h ≡ header_of kind len → ((ys : List ℕ) (q : ℕ) → IsAt remaining d ys q →

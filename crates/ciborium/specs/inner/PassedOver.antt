@@ -2,7 +2,7 @@
 use Rattle.std.specs.Prelude.{◌≡◌, ℕ, zero, suc, ◌+◌, ◌-◌, ◌≤◌, Bool, true, false, List, [], ◌∷◌, ◌++◌, length, reverse}
 use Rattle.std.specs.Prelude.{Option, Some, None, ◌↔◌}
 use Rattle.ciborium_ll.specs.{Head.break_byte, Header.SpellsHeader, Item.Item, Levels.IsPayloadOf, Spells.AreChunks}
-use Rattle.ciborium_ll.specs.{Spells.Spells, StringRefusal.{IsAllowed, StringKind, of_bytes, of_text, string_major}}
+use Rattle.ciborium_ll.specs.{Spells.Spells, StringRefusal.{StringType, IsAllowed, string_major}}
 use Rattle.ciborium_ll.specs.declared.{header.Header.Header, levels.Level.{Level, TheVariants.{Items, OpenItems}}}
 use Rattle.ciborium_ll.specs.declared.levels.Level.TheVariants.{OpenKeys, OpenValues, ByteChunks, TextChunks}
 use Rattle.ciborium_value.specs.{Meaning.is_bignum_tag, Nesting.{Limit, IsWithin, nesting}, Sources.Fault}
@@ -23,7 +23,7 @@ takes_one (header.Tag t) = true
 takes_one _ = false
 
 -- parts of a string and the break begin b, and z follows them
-abbrev pub ChunksTo : StringKind → List ℕ → List ℕ → Type 0
+abbrev pub ChunksTo : StringType → List ℕ → List ℕ → Type 0
 ChunksTo kind b z = (payloads : List (List ℕ)) × (r : List ℕ) ×
     AreChunks (string_major kind) (IsAllowed kind) r payloads × (b ≡ r ++ (break_byte ∷ z))
 
@@ -43,8 +43,8 @@ module _ (l : Limit) where
   LevelTo n OpenItems b z = (k : ℕ) × ItemsTo n k b (break_byte ∷ z)
   LevelTo n OpenKeys b z = (k : ℕ) × ItemsTo n (k + k) b (break_byte ∷ z)
   LevelTo n OpenValues b z = (k : ℕ) × ItemsTo n (suc (k + k)) b (break_byte ∷ z)
-  LevelTo n ByteChunks b z = ChunksTo of_bytes b z
-  LevelTo n TextChunks b z = ChunksTo of_text b z
+  LevelTo n ByteChunks b z = ChunksTo StringType.Bytes b z
+  LevelTo n TextChunks b z = ChunksTo StringType.Text b z
 
   -- what ends these levels, the innermost first
   abbrev pub LevelsTo : List Level → List ℕ → List ℕ → Type 0

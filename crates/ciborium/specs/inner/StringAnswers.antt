@@ -1,19 +1,19 @@
 -- What reading the payload of a string answers.
 use Rattle.std.specs.Prelude.{◌≡◌, ℕ, ◌+◌, ◌≤◌, List, ◌++◌, length, Option, Result, Ok, Err, Bool, true, false, None}
 use Rattle.std.specs.Prelude.{Some}
-use Rattle.ciborium_ll.specs.{Bytes.greatest_offset, Decoding.left_of, StringRefusal.{StringKind, of_bytes, of_text}}
+use Rattle.ciborium_ll.specs.{Bytes.greatest_offset, Decoding.left_of, StringRefusal.StringType}
 use Rattle.ciborium_ll.specs.{StringRefusal.{ContentRefuses, IsAllowed}, Strings.IsStringTaken}
 use Rattle.ciborium_ll.specs.declared.decoder.Decoder.{Decoder}
 use Rattle.ciborium_value.specs.{View.tree_of, declared.tree.Value.Value, inner.ReadItems.string_tree}
 use Rattle.ciborium.specs.{ValueAnswers.IsRefusedBy, declared.de.{error.Error.Error, held.Copied.Copied}}
 use Rattle.ciborium.specs.{declared.de.held.Copied.TheVariants.{Whole, NoText, NoMemory}, inner.ValuesInBytes.IsAt}
 
-abbrev pub string_kind : Bool → StringKind
-string_kind true = of_text
-string_kind false = of_bytes
+abbrev pub string_kind : Bool → StringType
+string_kind true = StringType.Text
+string_kind false = StringType.Bytes
 
 -- the payload of a string of this length, whose head is at offset at, stands at xs, offset p
-abbrev pub IsStringRead : {S W E : Type 0} → StringKind → (S → Option (List ℕ)) → Decoder S W →
+abbrev pub IsStringRead : {S W E : Type 0} → StringType → (S → Option (List ℕ)) → Decoder S W →
     Option ℕ → ℕ → List ℕ → ℕ → Result Value (Error E) → Type 0
 IsStringRead {S} {E} kind remaining d len at xs p (Ok v) = (b : List ℕ) × (added : List ℕ) ×
     (r : List ℕ) × IsStringTaken {E = E} kind len at b p (Ok tt) added × (tree_of v ≡ string_tree kind added) ×
@@ -22,13 +22,13 @@ IsStringRead kind remaining d len at xs p (Err e) =
     IsRefusedBy (left_of remaining d) e (ContentRefuses kind len at xs p)
 
 -- what is made of a payload where it stands
-abbrev pub IsCopied : StringKind → List ℕ → Copied → Type 0
+abbrev pub IsCopied : StringType → List ℕ → Copied → Type 0
 IsCopied kind b (Whole v) = IsAllowed kind b × (tree_of v ≡ string_tree kind b)
 IsCopied kind b NoText = ¬ IsAllowed kind b
 IsCopied kind b NoMemory = Unit {0}
 
 -- the same of a string of n bytes that is read where it is held: at None nothing is taken
-abbrev pub IsHeldRead : {S W E : Type 0} → StringKind → (S → Option (List ℕ)) → Decoder S W →
+abbrev pub IsHeldRead : {S W E : Type 0} → StringType → (S → Option (List ℕ)) → Decoder S W →
     ℕ → ℕ → List ℕ → ℕ → Result (Option Value) (Error E) → Type 0
 IsHeldRead kind remaining d n at xs p (Ok None) = IsAt remaining d xs p
 IsHeldRead {E} kind remaining d n at xs p (Ok (Some v)) = IsStringRead {E = E} kind remaining d (Some n) at xs p (Ok v)

@@ -2,23 +2,22 @@
 use Rattle.std.specs.Prelude.{◌≡◌, ℕ, ◌+◌, ◌≤◌, ◌*◌, ◌^◌, List, [], ◌∷◌, ◌++◌, length, Option, Some, None}
 use Rattle.std.specs.Prelude.{if◌then◌else◌, nat_lt}
 use Rattle.ciborium_ll.specs.{declared.header.Header.Header, Bytes.AreBytes, Header.SpellsHeader, Item.{Item, bytes}}
-use Rattle.ciborium_ll.specs.{Item.text, Spells.{Spells, AreChunks, joined}, StringRefusal.{StringKind, of_bytes}}
-use Rattle.ciborium_ll.specs.StringRefusal.{of_text}
+use Rattle.ciborium_ll.specs.{Item.text, Spells.{Spells, AreChunks, joined}, StringRefusal.StringType}
 use Rattle.ciborium_value.specs.{Sources.{Fault, IsOutsideFault}, Places.is_open}
 use Rattle.ciborium_ll.specs.declared.header.Header.TheVariants as header
 
 -- the head of a string of this length (None: open)
-abbrev pub head_of : StringKind → Option ℕ → Header
-head_of of_bytes len = header.Bytes len
-head_of of_text len = header.Text len
+abbrev pub head_of : StringType → Option ℕ → Header
+head_of StringType.Bytes len = header.Bytes len
+head_of StringType.Text len = header.Text len
 
 -- the string with this payload
-abbrev pub string_item : StringKind → Option ℕ → List ℕ → Item
-string_item of_bytes len b = bytes (is_open len) b
-string_item of_text len b = text (is_open len) b
+abbrev pub string_item : StringType → Option ℕ → List ℕ → Item
+string_item StringType.Bytes len b = bytes (is_open len) b
+string_item StringType.Text len b = text (is_open len) b
 
 -- c, behind any head of the string, makes the string with this payload
-abbrev pub IsContent : StringKind → Option ℕ → List ℕ → List ℕ → Type 0
+abbrev pub IsContent : StringType → Option ℕ → List ℕ → List ℕ → Type 0
 IsContent kind len c payload = (x : List ℕ) → SpellsHeader x (head_of kind len) →
     Spells (x ++ c) (string_item kind len payload)
 
@@ -38,12 +37,12 @@ module _ (P Q : List ℕ → Type 0) where
   TakesJust b = (y : List ℕ) → P y → (z : List ℕ) × (y ≡ b ++ z) × Q z
 
   -- the payload was taken
-  abbrev pub TakesContent : StringKind → Option ℕ → List ℕ → Type 0
+  abbrev pub TakesContent : StringType → Option ℕ → List ℕ → Type 0
   TakesContent kind len payload = (y : List ℕ) → P y → (c : List ℕ) × (z : List ℕ) ×
       IsContent kind len c payload × (y ≡ c ++ z) × Q z
 
   -- the payload was taken, and its place is this
-  abbrev pub TakesPlace : {X : Type 0} → StringKind → Option ℕ → (List ℕ → X) → X → Type 0
+  abbrev pub TakesPlace : {X : Type 0} → StringType → Option ℕ → (List ℕ → X) → X → Type 0
   TakesPlace kind len place x = (payload : List ℕ) × TakesContent kind len payload × (x ≡ place payload)
 
   -- n bytes were taken, which make the number start this one
@@ -54,7 +53,7 @@ module _ (P Q : List ℕ → Type 0) where
   -- the payload of a byte string was taken, which makes this number
   abbrev pub TakesNumber : Option ℕ → Option ℕ → Type 0
   TakesNumber len v = (y : List ℕ) → P y → (payload : List ℕ) × (c : List ℕ) × (z : List ℕ) ×
-      IsContent of_bytes len c payload × (v ≡ digits_of (Some 0) payload) × AreBytes payload × (y ≡ c ++ z) × Q z
+      IsContent StringType.Bytes len c payload × (v ≡ digits_of (Some 0) payload) × AreBytes payload × (y ≡ c ++ z) × Q z
 
   -- of an open byte string some parts were taken, which make this number
   abbrev pub TakesParts : Option ℕ → Type 0
@@ -63,7 +62,7 @@ module _ (P Q : List ℕ → Type 0) where
 
 -- where a string with this head is spelled, and what is there ends at this offset, it is refused
 -- for what the string does not decide: as too long only where the string ends too far
-abbrev pub DeniesContent : (List ℕ → Type 0) → ℕ → StringKind → Option ℕ → Fault → Type 0
+abbrev pub DeniesContent : (List ℕ → Type 0) → ℕ → StringType → Option ℕ → Fault → Type 0
 DeniesContent P all kind len fault = (y x s z payload : List ℕ) (end : ℕ) → P y → SpellsHeader x (head_of kind len) →
     Spells s (string_item kind len payload) → x ++ y ≡ s ++ z → all ≤ end + length z → IsOutsideFault end fault
 

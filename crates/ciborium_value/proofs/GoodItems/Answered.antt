@@ -9,8 +9,8 @@ use Rattle.ciborium_ll.proofs.{ReadHeads.{Face, faces}, UsableHeads.{EachIsByte,
 use Rattle.ciborium_ll.{proofs.UsableHeads.{stands-length, IsStringMajor}, specs.{Bytes.greatest_offset, Head.IsHead}}
 use Rattle.ciborium_ll.specs.Refusal.{SemanticKind, Refusal, syntax, semantic, recursion_limit_exceeded, Float, Simple}
 use Rattle.ciborium_ll.specs.Refusal.{Break, TooLarge, IsUsable, HasHead, head_refusal, IsAtFront}
-use Rattle.ciborium_ll.specs.{Spells.{IsDefiniteString, AreChunks, joined}, StringRefusal.{StringKind, of_bytes}}
-use Rattle.ciborium_ll.specs.StringRefusal.{of_text, string_major, IsAllowed, PayloadRefuses, StringRefuses}
+use Rattle.ciborium_ll.specs.{Spells.{IsDefiniteString, AreChunks, joined}, StringRefusal.StringType}
+use Rattle.ciborium_ll.specs.StringRefusal.{string_major, IsAllowed, PayloadRefuses, StringRefuses}
 use Rattle.ciborium_ll.specs.StringRefusal.{ChunkRefuses, HasStringHead}
 use Rattle.ciborium_value.proofs.GoodItems.{Accepted.anyway, Bignums.{foldable-is, is-foldable, none-large}}
 use Rattle.ciborium_value.proofs.GoodItems.{Found.{kind_allowed, kind_major}, Introduced.reads-positive}
@@ -45,16 +45,16 @@ rest-bytes b h r e x = bytes_after h r (subst EachIsByte e x)
 
 -- ---- strings
 
-pub kind_ok : (c : StringKind) (t : List ℕ) → EachIsByte t → allowed (string_major c) t ≡ true → IsAllowed c t
-kind_ok of_bytes t bytes h = are_bytes t bytes
-kind_ok of_text t bytes h = IsUtf8-from_is_utf8 t h
+pub kind_ok : (c : StringType) (t : List ℕ) → EachIsByte t → allowed (string_major c) t ≡ true → IsAllowed c t
+kind_ok StringType.Bytes t bytes h = are_bytes t bytes
+kind_ok StringType.Text t bytes h = IsUtf8-from_is_utf8 t h
 
 -- behind the head of a string of n bytes, which has k
-abbrev StringMeets : StringKind → List ℕ → ℕ → ℕ → ℕ → List ℕ → Answer (List ℕ) → Type 0
+abbrev StringMeets : StringType → List ℕ → ℕ → ℕ → ℕ → List ℕ → Answer (List ℕ) → Type 0
 StringMeets c b p n k r (ends y x u) = (r ≡ y ++ x) × (length y ≡ n) × IsAllowed c y × (u ≡ p + k + n)
 StringMeets c b p n k r (refused e) = StringRefuses c b p e
 
-string-meets : (c : StringKind) (b : List ℕ) (p q n k : ℕ) (r : List ℕ) → EachIsByte b →
+string-meets : (c : StringType) (b : List ℕ) (p q n k : ℕ) (r : List ℕ) → EachIsByte b →
     HasHead b (string_major c) n k r → q ≡ p + k → StringMeets c b p n k r (string (string_major c) n r p q)
 string-meets c b p q n k r bytes st e =
     cond_both (ltb (length r) n) _ _ P (λ t. (n, k, r, st, PayloadRefuses.ends_early (ltb-true _ _ t)))
@@ -78,20 +78,20 @@ string-meets c b p q n k r bytes st e =
 
 -- ---- the parts of an open string
 
-abbrev PiecesMeet : StringKind → List ℕ → ℕ → Answer (List ℕ) → Type 0
+abbrev PiecesMeet : StringType → List ℕ → ℕ → Answer (List ℕ) → Type 0
 PiecesMeet c b q (ends y r u) = (s : List ℕ) × (ps : List (List ℕ)) × AreChunks (string_major c) (IsAllowed c) s ps ×
     (y ≡ joined ps) × (b ≡ s ++ (255 ∷ r)) × (u ≡ q + length s + 1) × (u ≤ greatest_offset)
 PiecesMeet c b q (refused e) = (s : List ℕ) × (ps : List (List ℕ)) × (r : List ℕ) × AreChunks (string_major c)
     (IsAllowed c) s ps × (q + length s ≤ greatest_offset) × (b ≡ s ++ r) × ChunkRefuses c r (q + length s) e
 
-string-begins : (c : StringKind) (b : List ℕ) (f : Front) → front b ≡ f →
+string-begins : (c : StringType) (b : List ℕ) (f : Front) → front b ≡ f →
     ((n : ℕ) (r : List ℕ) → f ≡ counted (string_major c) n r → ⊥) → HasStringHead c b → ⊥
 string-begins c b f e h s = h s.0 s.2 (sym e ∙ stands-front b (string_major c) s.0 s.1 s.2 (kind-below c) s.3)
 
 break-begins : (b : List ℕ) (f : Front) → front b ≡ f → ((r : List ℕ) → f ≡ opened 7 r → ⊥) → IsAtFront 255 b → ⊥
 break-begins b f e h s = h s.0 (sym e ∙ ap front s.1 ∙ front_open 7 s.0)
 
-module _ (k : StringKind) where
+module _ (k : StringType) where
   abbrev m : ℕ
   m = string_major k
 
@@ -344,7 +344,7 @@ module _ (spelling : Spelling) where
         subst (λ z. Meets b p l (parts spelling d z (Some w) [] r (p + k) m)) i.1
         (recs b p l [] r (p + k) w m i.0 each few))
 
-    string-item : (kind : StringKind) (n k : ℕ) (r : List ℕ) (a : Answer (List ℕ)) →
+    string-item : (kind : StringType) (n k : ℕ) (r : List ℕ) (a : Answer (List ℕ)) →
         HasHead b (string_major kind) n k r → p + k + n ≤ greatest_offset → StringMeets kind b p n k r a →
         Meets b p l (made (string_tree kind) a)
     string-item kind n k r (refused e) st fits f = Refuses.string kind good f
@@ -353,7 +353,7 @@ module _ (spelling : Spelling) where
         (reads-string spelling kind b p n k l y x (subst (λ c. HasHead b (string_major kind) n k c) split st) size ok
         good.1 fits)
 
-    open-item : (kind : StringKind) (r : List ℕ) (a : Answer (List ℕ)) → b ≡ (string_major kind * 32 + 31) ∷ r →
+    open-item : (kind : StringType) (r : List ℕ) (a : Answer (List ℕ)) → b ≡ (string_major kind * 32 + 31) ∷ r →
         PiecesMeet kind r (p + 1) a → Meets b p l (made (string_tree kind) a)
     open-item kind r (refused e) split f = Refuses.open_string kind good (r, split, f)
     open-item kind r (ends y x u) split (c, ys, chunks, same, at, end, fits) =
@@ -368,11 +368,11 @@ module _ (spelling : Spelling) where
     counted-meets zero n k r lt st fits sf = reads-positive spelling b p n k l r st good.1 fits
     counted-meets (suc zero) n k r lt st fits sf = reads-negative spelling b p n k l r st good.1 fits
     counted-meets (suc (suc zero)) n k r lt st fits sf =
-        string-item of_bytes n k r (string 2 n r p (p + k)) st (sf (inl refl))
-        (string-meets of_bytes b p (p + k) n k r bytes st refl)
+        string-item StringType.Bytes n k r (string 2 n r p (p + k)) st (sf (inl refl))
+        (string-meets StringType.Bytes b p (p + k) n k r bytes st refl)
     counted-meets (suc (suc (suc zero))) n k r lt st fits sf =
-        string-item of_text n k r (string 3 n r p (p + k)) st (sf (inr refl))
-        (string-meets of_text b p (p + k) n k r bytes st refl)
+        string-item StringType.Text n k r (string 3 n r p (p + k)) st (sf (inr refl))
+        (string-meets StringType.Text b p (p + k) n k r bytes st refl)
     counted-meets (suc (suc (suc (suc zero)))) n k r lt st fits sf =
         let lb = stands-length b 4 n k r st in
         container-meets k r (items (Some n)) (BeginsContainer.array n st) fits (rest-bytes b st.0 r st.3 bytes)
@@ -397,11 +397,11 @@ module _ (spelling : Spelling) where
     opened-meets (suc zero) r e lt a0 a1 a6 room = absurd (a1 refl)
     opened-meets (suc (suc zero)) r e lt a0 a1 a6 room =
         let lb : length b ≡ suc (length r) = ap length e in
-        open-item of_bytes r (pieces d 2 r (p + 1)) e (pieces-meet of_bytes d r (p + 1) (omega (arith, room))
+        open-item StringType.Bytes r (pieces d 2 r (p + 1)) e (pieces-meet StringType.Bytes d r (p + 1) (omega (arith, room))
         (rest-bytes b (95 ∷ []) r e bytes) (omega (arith, lb, fuel)))
     opened-meets (suc (suc (suc zero))) r e lt a0 a1 a6 room =
         let lb : length b ≡ suc (length r) = ap length e in
-        open-item of_text r (pieces d 3 r (p + 1)) e (pieces-meet of_text d r (p + 1) (omega (arith, room))
+        open-item StringType.Text r (pieces d 3 r (p + 1)) e (pieces-meet StringType.Text d r (p + 1) (omega (arith, room))
         (rest-bytes b (127 ∷ []) r e bytes) (omega (arith, lb, fuel)))
     opened-meets (suc (suc (suc (suc zero)))) r e lt a0 a1 a6 room =
         let lb : length b ≡ suc (length r) = ap length e in

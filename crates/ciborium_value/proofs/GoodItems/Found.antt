@@ -8,7 +8,7 @@ use Rattle.ciborium_ll.proofs.{ShortestHead.shortest_is_head, UsableHeads.{stand
 use Rattle.ciborium_ll.{proofs.UsableHeads.pass, specs.{Bytes.greatest_offset, Head.{IsHead, IsSimple, shortest_head}}}
 use Rattle.ciborium_ll.specs.{Item.Item, ProperItems.IsArgument, Refusal.{is_reserved, semantic, Break, Simple}}
 use Rattle.ciborium_ll.specs.{Refusal.{TooLarge, IsUsable, HasHead}, Spells.{AreChunks, joined, IsString, Spells}}
-use Rattle.ciborium_ll.specs.StringRefusal.{StringKind, of_bytes, of_text, string_major, IsAllowed}
+use Rattle.ciborium_ll.specs.StringRefusal.{StringType, string_major, IsAllowed}
 use Rattle.ciborium_value.proofs.GoodItems.{Accepted.{anyway, accepted, deterministic_tree}, Bignums.foldable-is}
 use Rattle.ciborium_value.proofs.GoodItems.{Bignums.kept-whole, Faults.{short-fault, fault-simple}}
 use Rattle.ciborium_value.proofs.GoodItems.{Introduced.kind-below, Parts.{within-zero, lower, levels-below, due-first}}
@@ -38,13 +38,13 @@ use Rattle.ciborium_value.specs.lemmas.ItemsOfTrees.{short_string-item_of, tree_
 use Rattle.ciborium_ll.specs.Item as item
 use Rattle.ciborium_value.specs.Tree as trees
 
-pub kind_allowed : (c : StringKind) (t : List ℕ) → IsAllowed c t → allowed (string_major c) t ≡ true
-kind_allowed of_bytes t h = refl
-kind_allowed of_text t h = is_utf8-from_IsUtf8 t h
+pub kind_allowed : (c : StringType) (t : List ℕ) → IsAllowed c t → allowed (string_major c) t ≡ true
+kind_allowed StringType.Bytes t h = refl
+kind_allowed StringType.Text t h = is_utf8-from_IsUtf8 t h
 
-pub kind_major : (c : StringKind) → IsStringMajor (string_major c)
-kind_major of_bytes = inl refl
-kind_major of_text = inr refl
+pub kind_major : (c : StringType) → IsStringMajor (string_major c)
+kind_major StringType.Bytes = inl refl
+kind_major StringType.Text = inr refl
 
 pub simple-front : (s : List ℕ) (n : ℕ) (r : List ℕ) → IsSimple s n → front (s ++ r) ≡ plain n r
 simple-front s n r (inl h) = ap (λ (c : List ℕ). front (c ++ r)) h.1 ∙ front-simple n r h.0
@@ -154,7 +154,7 @@ module _ (spelling : Spelling) where
       (good-head b 1 n (length s) p x (omega arith) st fine (omega (arith, k, room))
       (λ z. absurd (no-string 1 (λ i. omega (arith, i)) (λ i. omega (arith, i)) z))) k
 
-  string-read : (kind : StringKind) (d p q : ℕ) (h y x b : List ℕ) (l : Limit) → IsHead h (string_major kind)
+  string-read : (kind : StringType) (d p q : ℕ) (h y x b : List ℕ) (l : Limit) → IsHead h (string_major kind)
       (length y) → IsAllowed kind y → spelling_fault spelling b ≡ None → b ≡ (h ++ y) ++ x →
       q ≡ p + length (h ++ y) → q ≤ greatest_offset → read spelling (suc d) b p l ≡ ends (string_tree kind y) x q
   string-read kind d p q h y x b l is ok fine e k room =
@@ -170,13 +170,13 @@ module _ (spelling : Spelling) where
       ∙
       ap (ends (string_tree kind y) x) (omega (arith, both, k))
     where
-      chosen : (c : StringKind) (u : ℕ) → counted_item spelling (read spelling d)
+      chosen : (c : StringType) (u : ℕ) → counted_item spelling (read spelling d)
           (λ w. parts spelling d w (Some w) []) (string_major c) (length y) (y ++ x) p u l ≡ made (string_tree c)
           (string (string_major c) (length y) (y ++ x) p u)
-      chosen of_bytes u = refl
-      chosen of_text u = refl
+      chosen StringType.Bytes u = refl
+      chosen StringType.Text u = refl
 
-  open_string-read : (kind : StringKind) (d p q : ℕ) (c : List ℕ) (ys : List (List ℕ)) (x b : List ℕ) (l : Limit) →
+  open_string-read : (kind : StringType) (d p q : ℕ) (c : List ℕ) (ys : List (List ℕ)) (x b : List ℕ) (l : Limit) →
       AreChunks (string_major kind) (IsAllowed kind) c ys → spelling_fault spelling b ≡ None →
       b ≡ (string_major kind * 32 + 31) ∷ ((c ++ (255 ∷ [])) ++ x) → q ≡ p + length c + 2 → q ≤ greatest_offset →
       length b < suc d → read spelling (suc d) b p l ≡ ends (string_tree kind (joined ys)) x q
@@ -196,14 +196,14 @@ module _ (spelling : Spelling) where
       (omega (arith, k)))) ∙
       ap (λ (z : List ℕ). ends (string_tree kind z) x q) (append-nil (joined ys))
     where
-      free : (k : StringKind) → is_reserved (string_major k) 31 ≡ false
-      free of_bytes = refl
-      free of_text = refl
+      free : (k : StringType) → is_reserved (string_major k) 31 ≡ false
+      free StringType.Bytes = refl
+      free StringType.Text = refl
 
-      chosen : (k : StringKind) → opened_item spelling (λ w. parts spelling d w (Some w) []) (pieces d) (string_major k)
+      chosen : (k : StringType) → opened_item spelling (λ w. parts spelling d w (Some w) []) (pieces d) (string_major k)
           (c ++ (255 ∷ x)) p l ≡ made (string_tree k) (pieces d (string_major k) (c ++ (255 ∷ x)) (p + 1))
-      chosen of_bytes = refl
-      chosen of_text = refl
+      chosen StringType.Bytes = refl
+      chosen StringType.Text = refl
 
   simple-read : (d p q n : ℕ) (s x b : List ℕ) (l : Limit) (v : Tree) → IsSimple s n → simple_meaning n ≡ Some v →
       spelling_fault spelling b ≡ None → b ≡ s ++ x → q ≡ p + length s → q ≤ greatest_offset →
@@ -360,7 +360,7 @@ open-usable m g x b p free e room = subst (λ c. IsUsable c p) (sym e) (opened-h
 -- ---- any spelling
 
 module _ (d : ℕ) (rd : ReadsAt any d) (run : RunsAt any d) (x b : List ℕ) (p q : ℕ) (l : Limit) where
-  any-string : (kind : StringKind) (o : Bool) (y s : List ℕ) → IsString o (string_major kind) (IsAllowed kind) s y →
+  any-string : (kind : StringType) (o : Bool) (y s : List ℕ) → IsString o (string_major kind) (IsAllowed kind) s y →
       b ≡ s ++ x → q ≡ p + length s → q ≤ greatest_offset → 2 * length b < suc d →
       read any (suc d) b p l ≡ ends (string_tree kind y) x q
   any-string kind false y s (h, is, ok, e) f k room fuel =
@@ -480,9 +480,9 @@ module _ (d : ℕ) (rd : ReadsAt any d) (run : RunsAt any d) (x b : List ℕ) (p
   any-item (item.negative n) v s h means nests f k room fuel = let same : trees.integer (negsuc n) ≡ v = cc in
       negative-read any d p q n s x b l h refl f k room ∙ ap (λ w. ends w x q) same
   any-item (item.bytes o y) v s h means nests f k room fuel = let same : trees.bytes y ≡ v = cc in
-      any-string of_bytes o y s h f k room fuel ∙ ap (λ w. ends w x q) same
+      any-string StringType.Bytes o y s h f k room fuel ∙ ap (λ w. ends w x q) same
   any-item (item.text o y) v s h means nests f k room fuel = let same : trees.text y ≡ v = cc in
-      any-string of_text o y s h f k room fuel ∙ ap (λ w. ends w x q) same
+      any-string StringType.Text o y s h f k room fuel ∙ ap (λ w. ends w x q) same
   any-item (item.array o is) v s h means nests f k room fuel = by (items_meaning is) refl means
     where
       by : (m : Option Trees) → items_meaning is ≡ m → option_map trees.array m ≡ Some v →
@@ -567,7 +567,7 @@ module _ (order : KeyOrder) (d : ℕ) (rd : ReadsAt (deterministic order) d) (ru
       map-some None us e = absurd cc
       map-some (Some ws) us e = cc
 
-  det-string : (kind : StringKind) (y : List ℕ) → IsAllowed kind y → length y ≤ greatest_offset →
+  det-string : (kind : StringType) (y : List ℕ) → IsAllowed kind y → length y ≤ greatest_offset →
       b ≡ (shortest_head (string_major kind) (length y) ++ y) ++ x →
       q ≡ p + length (shortest_head (string_major kind) (length y) ++ y) → q ≤ greatest_offset →
       read det (suc d) b p l ≡ ends (string_tree kind y) x q
@@ -650,8 +650,8 @@ module _ (order : KeyOrder) (d : ℕ) (rd : ReadsAt (deterministic order) d) (ru
   det-tree (trees.integer (negsuc n)) c nests f k room fuel =
       negative-read det d p q n (shortest_head 1 n) x b l (shortest_is_head 1 n c.proper)
       (short 1 n x (omega arith) c.proper f).1 f k room
-  det-tree (trees.bytes y) c nests f k room fuel = det-string of_bytes y c.proper.0 c.proper.1 f k room
-  det-tree (trees.text y) c nests f k room fuel = det-string of_text y c.proper.0 c.proper.1.1 f k room
+  det-tree (trees.bytes y) c nests f k room fuel = det-string StringType.Bytes y c.proper.0 c.proper.1 f k room
+  det-tree (trees.text y) c nests f k room fuel = det-string StringType.Text y c.proper.0 c.proper.1.1 f k room
   det-tree (trees.boolean false) c nests f k room fuel = det-simple 20 (trees.boolean false) (omega arith) refl f k room
   det-tree (trees.boolean true) c nests f k room fuel = det-simple 21 (trees.boolean true) (omega arith) refl f k room
   det-tree trees.null c nests f k room fuel = det-simple 22 trees.null (omega arith) refl f k room

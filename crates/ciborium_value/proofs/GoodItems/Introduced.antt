@@ -4,7 +4,7 @@ use Rattle.std.proofs.Common.{◌++◌, length, Option, Some, None, option_map, 
 use Rattle.std.proofs.Common.{arith, inl, inr, length-append, append_assoc, eqb-true}
 use Rattle.ciborium_ll.specs.{Bytes.{AreBytes, greatest_offset}, Head.{IsHead, IsSimple, shortest_head, open_byte}}
 use Rattle.ciborium_ll.specs.{Head.break_byte, Item.Item, Refusal.{NotShortest, HasHead, Open}, Spells.AreChunks}
-use Rattle.ciborium_ll.specs.{Spells.{joined, Spells}, StringRefusal.{StringKind, of_bytes, of_text, string_major}}
+use Rattle.ciborium_ll.specs.{Spells.{joined, Spells}, StringRefusal.{StringType, string_major}}
 use Rattle.ciborium_ll.specs.StringRefusal.{IsAllowed}
 use Rattle.ciborium_value.proofs.GoodItems.{Bignums.whole-kept, Faults.{fault-short, fault-open, fault-undefined}}
 use Rattle.ciborium_value.proofs.GoodItems.Parts.{within-zero, raise, due-more, counted-items, open-pairs}
@@ -45,11 +45,11 @@ so-negative : (spelling : Spelling) (h : List ℕ) (n : ℕ) → IsShortIn spell
 so-negative any h n short = tt
 so-negative (deterministic order) h n short = (short, tt)
 
-so-string : (spelling : Spelling) (kind : StringKind) (h y : List ℕ) →
+so-string : (spelling : Spelling) (kind : StringType) (h y : List ℕ) →
     IsShortIn spelling h (string_major kind) (length y) → IsSpelledSo spelling (h ++ y) (string_tree kind y)
 so-string any kind h y short = tt
-so-string (deterministic order) of_bytes h y short = (ap (λ (c : List ℕ). c ++ y) short, tt)
-so-string (deterministic order) of_text h y short = (ap (λ (c : List ℕ). c ++ y) short, tt)
+so-string (deterministic order) StringType.Bytes h y short = (ap (λ (c : List ℕ). c ++ y) short, tt)
+so-string (deterministic order) StringType.Text h y short = (ap (λ (c : List ℕ). c ++ y) short, tt)
 
 -- no spelling but any accepts what is unfinished
 so-open : (spelling : Spelling) (b : List ℕ) (m : ℕ) (r s : List ℕ) (v : Tree) → 2 ≤ m → m ≤ 5 →
@@ -124,12 +124,12 @@ reads-negative spelling b p n k l r (h, is, len, split) none fits =
       at = omega (arith, len);
     }
 
-pub kind-below : (kind : StringKind) → string_major kind < 7
-kind-below of_bytes = omega arith
-kind-below of_text = omega arith
+pub kind-below : (kind : StringType) → string_major kind < 7
+kind-below StringType.Bytes = omega arith
+kind-below StringType.Text = omega arith
 
 -- a definite string
-pub reads-string : (spelling : Spelling) (kind : StringKind) (b : List ℕ) (p n k : ℕ) (l : Limit) (y r : List ℕ) →
+pub reads-string : (spelling : Spelling) (kind : StringType) (b : List ℕ) (p n k : ℕ) (l : Limit) (y r : List ℕ) →
     HasHead b (string_major kind) n k (y ++ r) → length y ≡ n → IsAllowed kind y → spelling_fault spelling b ≡ None →
     p + k + n ≤ greatest_offset → ReadsItem spelling l b p (string_tree kind y) r (p + k + n)
 reads-string spelling kind b p n k l y r (h, is, len, split) size ok none fits = record {
@@ -146,9 +146,9 @@ reads-string spelling kind b p n k l y r (h, is, len, split) size ok none fits =
     room : p + length (h ++ y) ≤ greatest_offset
     room = omega (arith, both, len, size, fits)
 
-    by : (c : StringKind) → IsHead h (string_major c) n → IsAllowed c y → IsSpelledSo spelling (h ++ y)
+    by : (c : StringType) → IsHead h (string_major c) n → IsAllowed c y → IsSpelledSo spelling (h ++ y)
         (string_tree c y) → IsReadAs spelling (h ++ y) p l (string_tree c y)
-    by of_bytes is ok so = (
+    by StringType.Bytes is ok so = (
       item.bytes false y,
       (h, subst (IsHead h 2) (sym size) is, ok, refl),
       refl,
@@ -156,7 +156,7 @@ reads-string spelling kind b p n k l y r (h, is, len, split) size ok none fits =
       room,
       so,
     )
-    by of_text is ok so = (
+    by StringType.Text is ok so = (
       item.text false y,
       (h, subst (IsHead h 3) (sym size) is, ok, refl),
       refl,
@@ -166,7 +166,7 @@ reads-string spelling kind b p n k l y r (h, is, len, split) size ok none fits =
     )
 
 -- an open one
-pub reads-open_string : (spelling : Spelling) (kind : StringKind) (b : List ℕ) (p : ℕ) (l : Limit) (c : List ℕ)
+pub reads-open_string : (spelling : Spelling) (kind : StringType) (b : List ℕ) (p : ℕ) (l : Limit) (c : List ℕ)
     (ys : List (List ℕ)) (r : List ℕ) → b ≡ open_byte (string_major kind) ∷ (c ++ (break_byte ∷ r)) →
     AreChunks (string_major kind) (IsAllowed kind) c ys → spelling_fault spelling b ≡ None →
     p + length c + 2 ≤ greatest_offset → ReadsItem spelling l b p (string_tree kind (joined ys)) r (p + length c + 2)
@@ -180,10 +180,10 @@ reads-open_string spelling kind b p l c ys r split chunks none fits = record {
     len : length (c ++ (break_byte ∷ [])) ≡ length c + 1
     len = length-append c (break_byte ∷ [])
 
-    by : (k : StringKind) → AreChunks (string_major k) (IsAllowed k) c ys →
+    by : (k : StringType) → AreChunks (string_major k) (IsAllowed k) c ys →
         b ≡ open_byte (string_major k) ∷ (c ++ (break_byte ∷ r)) →
         IsReadAs spelling (open_byte (string_major k) ∷ (c ++ (break_byte ∷ []))) p l (string_tree k (joined ys))
-    by of_bytes h e = (
+    by StringType.Bytes h e = (
       item.bytes true (joined ys),
       (ys, c, h, refl, refl),
       refl,
@@ -191,7 +191,7 @@ reads-open_string spelling kind b p l c ys r split chunks none fits = record {
       omega (arith, len, fits),
       so-open spelling b 2 (c ++ (break_byte ∷ r)) _ _ (omega arith) (omega arith) e none,
     )
-    by of_text h e = (
+    by StringType.Text h e = (
       item.text true (joined ys),
       (ys, c, h, refl, refl),
       refl,

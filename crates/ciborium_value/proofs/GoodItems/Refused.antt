@@ -8,7 +8,7 @@ use Rattle.ciborium_ll.proofs.{ReadHeads.{Face, faces}, UsableHeads.{EachIsByte,
 use Rattle.ciborium_ll.{proofs.UsableHeads.{stands-length, pass}, specs.Bytes.{AreBytes, greatest_offset}}
 use Rattle.ciborium_ll.specs.{Head.IsSimple, Refusal.{SemanticKind, Refusal, syntax, semantic, Float, Simple, Break}}
 use Rattle.ciborium_ll.specs.Refusal.{TooLarge, NotFolded, recursion_limit_exceeded, IsUsable, HeadRefuses, HasHead}
-use Rattle.ciborium_ll.specs.{Refusal.IsAtFront, StringRefusal.{StringKind, of_bytes, of_text, string_major, IsAllowed}}
+use Rattle.ciborium_ll.specs.{Refusal.IsAtFront, StringRefusal.{StringType, string_major, IsAllowed}}
 use Rattle.ciborium_ll.specs.StringRefusal.{PayloadRefuses, StringRefuses, ChunkRefuses, OpenStringRefuses}
 use Rattle.ciborium_ll.specs.StringRefusal.{HasStringHead}
 use Rattle.ciborium_value.proofs.GoodItems.{Answered.{kind_ok, rest-bytes}, Bignums.{foldable-small, foldable-is}}
@@ -35,7 +35,7 @@ front_bytes (x ∷ s) r h = (h.0, front_bytes s r h.1)
 
 -- ---- strings
 
-payload-refused : (c : StringKind) {n p : ℕ} {r : List ℕ} {e : Refusal} → PayloadRefuses c n p r e → EachIsByte r →
+payload-refused : (c : StringType) {n p : ℕ} {r : List ℕ} {e : Refusal} → PayloadRefuses c n p r e → EachIsByte r →
     (u : ℕ) → string (string_major c) n r p u ≡ refused e
 payload-refused c {n} {r = r} (PayloadRefuses.ends_early h) bytes u = cond-true _ _ _ (lt-ltb (length r) n h)
 payload-refused c {n} {p} (PayloadRefuses.not_allowed y r l h) bytes u =
@@ -45,7 +45,7 @@ payload-refused c {n} {p} (PayloadRefuses.not_allowed y r l h) bytes u =
     ap (allowed (string_major c)) (take-append_seam y r) ∙
     not_so _ (λ t. h (kind_ok c y (front_bytes y r bytes) t)))
 
-other-refused : (c : StringKind) (b : List ℕ) (q : ℕ) (more : List ℕ → ℕ → Answer (List ℕ)) → (HasStringHead c b → ⊥) →
+other-refused : (c : StringType) (b : List ℕ) (q : ℕ) (more : List ℕ → ℕ → Answer (List ℕ)) → (HasStringHead c b → ⊥) →
     (IsAtFront 255 b → ⊥) → (f : Front) → Face b q f → piece more (string_major c) b q f ≡ refused (syntax q)
 other-refused c b q more x y nothing f = absurd f
 other-refused c b q more x y (counted k n r) f = pass _ _ _
@@ -54,7 +54,7 @@ other-refused c b q more x y (opened k r) f = pass _ _ _
     (not_so _ (λ t. y (r, f.0 ∙ ap (λ j. (j * 32 + 31) ∷ r) (eqb-true k 7 t))))
 other-refused c b q more x y u f = refl
 
-part-refused : (k : StringKind) (c : ℕ) → 0 < c → {b : List ℕ} {q : ℕ} {e : Refusal} → ChunkRefuses k b q e →
+part-refused : (k : StringType) (c : ℕ) → 0 < c → {b : List ℕ} {q : ℕ} {e : Refusal} → ChunkRefuses k b q e →
     EachIsByte b → pieces c (string_major k) b q ≡ refused e
 part-refused k zero pos f bytes = let never : ⊥ = omega (arith, pos) in absurd never
 part-refused k (suc c) pos {b} {q} {e} (ChunkRefuses.no_head h) bytes = checked-some b q _ e h
@@ -100,18 +100,18 @@ due-open (values n) b p h = refl
 
 module _ (spelling : Spelling) where
   -- a head refuses by itself
-  string-refused : (d p : ℕ) (b : List ℕ) (l : Limit) (kind : StringKind) (e : Refusal) → HasGoodHead spelling b p →
+  string-refused : (d p : ℕ) (b : List ℕ) (l : Limit) (kind : StringType) (e : Refusal) → HasGoodHead spelling b p →
       StringRefuses kind b p e → EachIsByte b → read spelling (suc d) b p l ≡ refused e
   string-refused d p b l kind e h (n, k, r, st, f) bytes =
       read-counted spelling d p (p + k) b l (string_major kind) n k r (kind-below kind) st h refl ∙ chosen kind ∙
       ap (made (λ z. string_tree kind z)) (payload-refused kind f (rest-bytes b st.0 r st.3 bytes) (p + k))
     where
-      chosen : (c : StringKind) → counted_item spelling (read spelling d) (λ w. parts spelling d w (Some w) [])
+      chosen : (c : StringType) → counted_item spelling (read spelling d) (λ w. parts spelling d w (Some w) [])
           (string_major c) n r p (p + k) l ≡ made (string_tree c) (string (string_major c) n r p (p + k))
-      chosen of_bytes = refl
-      chosen of_text = refl
+      chosen StringType.Bytes = refl
+      chosen StringType.Text = refl
 
-  open-refused : (k : StringKind) (d p : ℕ) (b : List ℕ) (l : Limit) (e : Refusal) → HasGoodHead spelling b p →
+  open-refused : (k : StringType) (d p : ℕ) (b : List ℕ) (l : Limit) (e : Refusal) → HasGoodHead spelling b p →
       OpenStringRefuses k b p e → EachIsByte b → 2 * length b < suc d → read spelling (suc d) b p l ≡ refused e
   open-refused k d p b l e h (q, at, (good, payloads, r, parts_of, room, split, f)) bytes fuel =
       let m : ℕ = string_major k in
@@ -124,10 +124,10 @@ module _ (spelling : Spelling) where
       (p + 1) (p + 1 + length good) (refused e) parts_of refl refl room (omega (arith, lb, fuel))
       (λ c lc. part-refused k c (omega (arith, lc)) f (bytes_after ((m * 32 + 31) ∷ good) r br)))
     where
-      chosen : (c : StringKind) → opened_item spelling (λ w. parts spelling d w (Some w) []) (pieces d)
+      chosen : (c : StringType) → opened_item spelling (λ w. parts spelling d w (Some w) []) (pieces d)
           (string_major c) (good ++ r) p l ≡ made (string_tree c) (pieces d (string_major c) (good ++ r) (p + 1))
-      chosen of_bytes = refl
-      chosen of_text = refl
+      chosen StringType.Bytes = refl
+      chosen StringType.Text = refl
 
   float-refused : (d p x : ℕ) (b : List ℕ) (l : Limit) → IsUsable (x ∷ b) p → 249 ≤ x → x ≤ 251 →
       read spelling (suc d) (x ∷ b) p l ≡ refused (semantic p Float)

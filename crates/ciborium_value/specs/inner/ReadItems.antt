@@ -1,6 +1,6 @@
 -- What is read at the front of bytes, and the end of a container.
 use Rattle.std.specs.Prelude.{◌≡◌, ℕ, ◌+◌, ◌≤◌, List, [], ◌∷◌, ◌++◌, length, Some, None}
-use Rattle.ciborium_ll.specs.{Bytes.greatest_offset, Head.break_byte, StringRefusal.{StringKind, of_bytes, of_text}}
+use Rattle.ciborium_ll.specs.{Bytes.greatest_offset, Head.break_byte, StringRefusal.StringType}
 use Rattle.ciborium_value.specs.{Nesting.Limit, Refuses.{Due, items, keys, values}, Spelling.{Spelling, IsReadAs}}
 use Rattle.ciborium_value.specs.{Tree.{Tree, TreePairs}, View.trees_from}
 use Rattle.ciborium_value.specs.Tree as trees
@@ -15,9 +15,9 @@ pub record ReadsItem (spelling : Spelling) (l : Limit) (b : List ℕ) (p : ℕ) 
   pub at : q ≡ p + length taken
 
 -- the tree of a string of a kind
-abbrev pub string_tree : StringKind → List ℕ → Tree
-string_tree of_bytes payload = trees.bytes payload
-string_tree of_text payload = trees.text payload
+abbrev pub string_tree : StringType → List ℕ → Tree
+string_tree StringType.Bytes payload = trees.bytes payload
+string_tree StringType.Text payload = trees.text payload
 
 -- nothing is due before b, offset p, but the break of an open container; r follows it at offset q
 abbrev pub IsComplete : Due → List ℕ → ℕ → List ℕ → ℕ → Type 0

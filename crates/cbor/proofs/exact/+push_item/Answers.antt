@@ -1,6 +1,6 @@
 use Rattle.std.proofs.Common.{◌≡◌, ◌+◌, ◌*◌, ◌++◌, ◌∙◌, List, ℕ, ap, arith, codes, decimal, false, length, true, refl}
 use Rattle.std.proofs.{Common.{subst, ◌-◌, ◌∷◌, suc}, lemmas.Result.on_ok_weaker}
-use Rattle.ciborium_ll.specs.{ItemHeads.unfinished_in, Levels.incomplete, StringRefusal.{of_bytes, of_text}}
+use Rattle.ciborium_ll.specs.{ItemHeads.unfinished_in, Levels.incomplete, StringRefusal.StringType}
 use Rattle.ciborium_ll.specs.declared.levels.Level.TheVariants.{Items}
 use Rattle.cbor.specs.Exact.{AreExactly, AreOpenParts, IsBegun, IsExactly, mark, open_level, spaced}
 use Rattle.cbor.proofs.{DumpedHeads.less-unread, ExactLevels.{head-begun, no-break, part-due, parts-break, parts-due}}
@@ -27,25 +27,25 @@ push_item-returns-in_ok-push_negative-in-Negative-clause-shown t c =
 pub push_item-returns-in_ok-push_string-in-Bytes-Some-clause-shown :
     goal.push_item-returns-in_ok-push_string-in-Bytes-Some-clause-shown
 push_item-returns-in_ok-push_string-in-Bytes-Some-clause-shown t c =
-    as-string of_bytes c.args.head.now c.args.heads.now _ _ c.requires.read c.in_ok-push_string-in-Bytes-Some.ensures
+    as-string StringType.Bytes c.args.head.now c.args.heads.now _ _ c.requires.read c.in_ok-push_string-in-Bytes-Some.ensures
 
 pub push_item-returns-in_ok-push_string-in-Text-Some-clause-shown :
     goal.push_item-returns-in_ok-push_string-in-Text-Some-clause-shown
 push_item-returns-in_ok-push_string-in-Text-Some-clause-shown t c =
-    as-string of_text c.args.head.now c.args.heads.now _ _ c.requires.read c.in_ok-push_string-in-Text-Some.ensures
+    as-string StringType.Text c.args.head.now c.args.heads.now _ _ c.requires.read c.in_ok-push_string-in-Text-Some.ensures
 
 pub push_item-returns-in_ok-push_chunks-in-Bytes-None-clause-shown :
     goal.push_item-returns-in_ok-push_chunks-in-Bytes-None-clause-shown
 push_item-returns-in_ok-push_chunks-in-Bytes-None-clause-shown t c =
     let is = c.in-Bytes-None.is ∙ ap header.Bytes (rw c.in-Bytes-None.is at c.in-Bytes-None.field-0-is) in
-    as-open-string of_bytes c.args.head.now c.args.heads.now c.push_chunks.new.heads _ _
+    as-open-string StringType.Bytes c.args.head.now c.args.heads.now c.push_chunks.new.heads _ _
     (rw is at c.requires.payload) (rw is at c.requires.spelled) c.in_ok-push_chunks-in-Bytes-None.ensures.shown
 
 pub push_item-returns-in_ok-push_chunks-in-Text-None-clause-shown :
     goal.push_item-returns-in_ok-push_chunks-in-Text-None-clause-shown
 push_item-returns-in_ok-push_chunks-in-Text-None-clause-shown t c =
     let is = c.in-Text-None.is ∙ ap header.Text (rw c.in-Text-None.is at c.in-Text-None.field-0-is) in
-    as-open-string of_text c.args.head.now c.args.heads.now c.push_chunks-in-Text-None.new.heads _ _
+    as-open-string StringType.Text c.args.head.now c.args.heads.now c.push_chunks-in-Text-None.new.heads _ _
     (rw is at c.requires.payload) (rw is at c.requires.spelled) c.in_ok-push_chunks-in-Text-None.ensures.shown
 
 pub push_item-returns-in_ok-extend_from_slice-in-Array-Some-clause-shown :

@@ -1,14 +1,14 @@
 use Rattle.std.proofs.Common.{◌≡◌, ◌+◌, ◌∷◌, ◌≤◌, List, length}
 use Rattle.ciborium_ll.specs.{ItemHeads.{unfinished_in, unread}, declared.levels.Level.Level}
-use Rattle.cbor.{proofs.ExactNotation.AreChunksBegun, specs.Exact.{chunk_level, kind_of}}
+use Rattle.cbor.{proofs.ExactNotation.AreChunksBegun, specs.Exact.chunk_level}
 use Rattle.cbor.proofs.exact.push_chunks.Given as goal
 
 -- the parts so far were shown, each of a byte at least, and the string is unfinished
 abbrev pub invariant-chunks : goal.invariant-chunks
 invariant-chunks l =
-    AreChunksBegun (kind_of l.is_text) l.place l.initial.heads l.heads l.initial.text.items l.text.items ×
-    ((around : List Level) → unfinished_in l.initial.heads ≡ chunk_level l.is_text ∷ around →
-    unfinished_in l.heads ≡ chunk_level l.is_text ∷ around) ×
+    AreChunksBegun l.string l.place l.initial.heads l.heads l.initial.text.items l.text.items ×
+    ((around : List Level) → unfinished_in l.initial.heads ≡ chunk_level l.string ∷ around →
+    unfinished_in l.heads ≡ chunk_level l.string ∷ around) ×
     (l.place + length (unread l.heads) ≤ length (unread l.initial.heads))
 
 abbrev pub decreases-chunks : goal.decreases-chunks

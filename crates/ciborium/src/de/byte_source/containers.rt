@@ -3,7 +3,7 @@
 ghost use Rattle.std.specs.Prelude.{◌≡◌, ◌≢◌, ◌+◌, ◌-◌, ◌≤◌, IfErr, IfOk};
 ghost use Rattle.std.specs.Prelude.{None, OnErr, OnOk, Some};
 ghost use Rattle.ciborium_ll.specs.Decoding.{HasSameReader};
-ghost use Rattle.ciborium_ll.specs.StringRefusal.{of_bytes};
+ghost use Rattle.ciborium_ll.specs.StringRefusal.{StringType};
 ghost use Rattle.ciborium_value.specs.Sources.{TakesOnly};
 ghost use Rattle.ciborium.specs.inner.ByteSources.{HasBytes};
 ghost use Rattle.ciborium.specs.inner.ByteSources.{HasTaken, IsUnread};
@@ -74,10 +74,10 @@ impl<'a, R, A: Access<R>> ByteSource<'a, R, A> {
         ensures fewer { IfOk result
             (λ q. bytes_weight self.new + seq_left q ≤ bytes_weight self.old) }
         ensures ok { IfOk result (λ q. HasBytes q.left (TakesContent (IsUnread A.remaining self.old)
-            (IsUnread A.remaining self.new) of_bytes len)) }
+            (IsUnread A.remaining self.new) StringType.Bytes len)) }
         ensures denied { IfErr result
             (λ e. DeniesContent (IsUnread A.remaining self.old) (end_at A.remaining self.old)
-            of_bytes len (fault_at A.can_fail A.remaining self.new e)) }
+            StringType.Bytes len (fault_at A.can_fail A.remaining self.new e)) }
     {
         let levels = self.levels;
         let bytes = self.bytes_content(alloc, len)?;

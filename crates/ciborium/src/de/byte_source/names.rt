@@ -3,7 +3,7 @@
 ghost use Rattle.std.specs.Prelude.{◌≡◌, ◌≤◌, IfErr, IfOk, IfSome, None, OnErr, OnOk, Some};
 ghost use Rattle.std.specs.Prelude.{IsUtf8, MatchOption, string_bytes};
 ghost use Rattle.ciborium_ll.specs.Decoding.{HasSameReader};
-ghost use Rattle.ciborium_ll.specs.StringRefusal.{of_text};
+ghost use Rattle.ciborium_ll.specs.StringRefusal.{StringType};
 ghost use Rattle.ciborium_value.specs.Sources.{TakesOnly};
 ghost use Rattle.ciborium_value.specs.Labels.{name_place, placed};
 ghost use Rattle.ciborium_value.specs.Given.{given_name};
@@ -123,11 +123,11 @@ impl<'a, R, A: Access<R>> ByteSource<'a, R, A> {
         ensures pending { self.new.pending ≡ None }
         ensures fewer { OnOk result (bytes_weight self.new ≤ bytes_weight self.old) }
         ensures ok { IfOk result (λ place. TakesPlace (IsUnread A.remaining self.old)
-            (IsUnread A.remaining self.new) of_text (Some n) (name_place (N.place_of names.now))
+            (IsUnread A.remaining self.new) StringType.Text (Some n) (name_place (N.place_of names.now))
             place) }
         ensures denied { IfErr result
             (λ e. DeniesContent (IsUnread A.remaining self.old) (end_at A.remaining self.old)
-            of_text (Some n) (fault_at A.can_fail A.remaining self.new e)) }
+            StringType.Text (Some n) (fault_at A.can_fail A.remaining self.new e)) }
     {
         let mut buffer = [0u8; BUFFER_SIZE];
         let payload = &mut buffer[..n];
@@ -155,11 +155,11 @@ impl<'a, R, A: Access<R>> ByteSource<'a, R, A> {
         ensures pending { self.new.pending ≡ None }
         ensures fewer { OnOk result (bytes_weight self.new ≤ bytes_weight self.old) }
         ensures ok { IfOk result (λ place. TakesPlace (IsUnread A.remaining self.old)
-            (IsUnread A.remaining self.new) of_text (Some n) (name_place (N.place_of names.now))
+            (IsUnread A.remaining self.new) StringType.Text (Some n) (name_place (N.place_of names.now))
             place) }
         ensures denied { IfErr result
             (λ e. DeniesContent (IsUnread A.remaining self.old) (end_at A.remaining self.old)
-            of_text (Some n) (fault_at A.can_fail A.remaining self.new e)) }
+            StringType.Text (Some n) (fault_at A.can_fail A.remaining self.new e)) }
     {
         match self.visit(n, &NameFinder { names })? {
             Some(Some(place)) => Ok(place),
@@ -186,10 +186,10 @@ impl<'a, R, A: Access<R>> ByteSource<'a, R, A> {
         ensures pending { self.new.pending ≡ None }
         ensures fewer { OnOk result (bytes_weight self.new ≤ bytes_weight self.old) }
         ensures ok { IfOk result (λ place. TakesPlace (IsUnread A.remaining self.old)
-            (IsUnread A.remaining self.new) of_text len (name_place (N.place_of names.now)) place) }
+            (IsUnread A.remaining self.new) StringType.Text len (name_place (N.place_of names.now)) place) }
         ensures denied { IfErr result
             (λ e. DeniesContent (IsUnread A.remaining self.old) (end_at A.remaining self.old)
-            of_text len (fault_at A.can_fail A.remaining self.new e)) }
+            StringType.Text len (fault_at A.can_fail A.remaining self.new e)) }
     {
         if let Some(n) = short_len(len) {
             let place = self.short_place(n, offset, names)?;

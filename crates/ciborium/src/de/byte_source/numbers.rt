@@ -3,7 +3,7 @@
 ghost use Rattle.std.specs.Prelude.{◌≡◌, ◌==◌, ◌∷◌, ◌<◌, ◌≤◌, IfErr, IfOk, None, OnErr, OnOk, Some};
 ghost use Rattle.std.specs.Prelude.{[], false, true, ℕ};
 ghost use Rattle.ciborium_ll.specs.Decoding.{HasSameReader};
-ghost use Rattle.ciborium_ll.specs.StringRefusal.{of_bytes};
+ghost use Rattle.ciborium_ll.specs.StringRefusal.{StringType};
 ghost use Rattle.ciborium_ll.specs.declared.header.Header.TheVariants as heads;
 ghost use Rattle.ciborium_value.specs.Sources.{IsGrantedFault, TakesOnly};
 ghost use Rattle.ciborium_value.specs.Given.{given_bignum, given_integer};
@@ -105,7 +105,7 @@ impl<'a, R, A: Access<R>> ByteSource<'a, R, A> {
             (IsUnread A.remaining self.new) len number) }
         ensures denied { IfErr result
             (λ e. DeniesContent (IsUnread A.remaining self.old) (end_at A.remaining self.old)
-            of_bytes len (fault_at A.can_fail A.remaining self.new e)) }
+            StringType.Bytes len (fault_at A.can_fail A.remaining self.new e)) }
         ensures memory { IfErr result
             (λ e. IsGrantedFault (fault_at A.can_fail A.remaining self.new e) false) }
     {

@@ -3,7 +3,7 @@
 ghost use Rattle.std.specs.Prelude.{◌≡◌, ◌+◌, ◌≤◌, IfErr, IfNone, IfOk, IfSome, List, None};
 ghost use Rattle.std.specs.Prelude.{OnErr, OnOk, Some, false, length, string_bytes, ℕ};
 ghost use Rattle.ciborium_ll.specs.Decoding.{HasSameReader};
-ghost use Rattle.ciborium_ll.specs.StringRefusal.{of_bytes, of_text};
+ghost use Rattle.ciborium_ll.specs.StringRefusal.{StringType};
 ghost use Rattle.ciborium_value.specs.Sources.{IsGrantedFault, TakesOnly};
 ghost use Rattle.ciborium.specs.inner.ByteSources.{HasTaken, IsUnread, bytes_weight, end_at};
 ghost use Rattle.ciborium.specs.inner.ByteSources.{weight_left};
@@ -89,10 +89,10 @@ impl<'a, R, A: Access<R>> ByteSource<'a, R, A> {
         ensures fewer { IfOk result
             (λ v. bytes_weight self.new + length v.items ≤ bytes_weight self.old) }
         ensures ok { IfOk result (λ v. TakesContent (IsUnread A.remaining self.old)
-            (IsUnread A.remaining self.new) of_bytes len v.items) }
+            (IsUnread A.remaining self.new) StringType.Bytes len v.items) }
         ensures denied { IfErr result
             (λ e. DeniesContent (IsUnread A.remaining self.old) (end_at A.remaining self.old)
-            of_bytes len (fault_at A.can_fail A.remaining self.new e)) }
+            StringType.Bytes len (fault_at A.can_fail A.remaining self.new e)) }
     {
         let mut out = Vec::new(alloc);
         self.decoder
@@ -115,10 +115,10 @@ impl<'a, R, A: Access<R>> ByteSource<'a, R, A> {
         ensures pending { self.new.pending ≡ None }
         ensures fewer { OnOk result (bytes_weight self.new ≤ bytes_weight self.old) }
         ensures ok { IfOk result (λ v. TakesContent (IsUnread A.remaining self.old)
-            (IsUnread A.remaining self.new) of_text len (string_bytes v)) }
+            (IsUnread A.remaining self.new) StringType.Text len (string_bytes v)) }
         ensures denied { IfErr result
             (λ e. DeniesContent (IsUnread A.remaining self.old) (end_at A.remaining self.old)
-            of_text len (fault_at A.can_fail A.remaining self.new e)) }
+            StringType.Text len (fault_at A.can_fail A.remaining self.new e)) }
     {
         let mut out = String::new(alloc);
         self.decoder

@@ -1,5 +1,5 @@
 use Rattle.std.proofs.{Common.{rules, ◌≡◌, ◌++◌, string_bytes}, lemmas.Result.err_from_is_err_and}
-use Rattle.ciborium_ll.specs.StringRefusal.{of_bytes, of_text}
+use Rattle.ciborium_ll.specs.StringRefusal.{StringType}
 use Rattle.ciborium_value.proofs.Trees.Views.{tree_of-Bytes, tree_of-Text}
 use Rattle.ciborium.proofs.Readers.WhateverFollows.{string-refused, string-taken}
 use Rattle.ciborium_value.specs.declared.tree.Value as value
@@ -9,14 +9,14 @@ pub returns-then-is_text-clause-content : goal.returns-then-is_text-clause-conte
 returns-then-is_text-clause-content g c =
     let out = c.text_into_keeping.new.out in
     rw c.if-is_text.true (string-taken (Unit {0}) g.A.Access.remaining c.args.decoder.now c.text_into_keeping.new.self
-    of_text c.args.len (string_bytes c.new-text.result) (string_bytes out) (value.Text out) c.new-text.ensures.bytes
+    StringType.Text c.args.len (string_bytes c.new-text.result) (string_bytes out) (value.Text out) c.new-text.ensures.bytes
     (tree_of-Text out) c.in_ok-text_into_keeping.ensures.taken)
 
 pub returns-in_err-text_into_keeping-clause-content : goal.returns-in_err-text_into_keeping-clause-content
 returns-in_err-text_into_keeping-clause-content g c =
     let exit = err_from_is_err_and c.from_residual.result c.from_residual.ensures.1 in
     rw (exit.1, exit.2) (rw c.if-is_text.true (string-refused (Unit {0}) g.A.Access.remaining c.args.decoder.now
-    c.text_into_keeping.new.self of_text c.args.len c.in_err-text_into_keeping.field-0.0
+    c.text_into_keeping.new.self StringType.Text c.args.len c.in_err-text_into_keeping.field-0.0
     (λ added y. string_bytes c.text_into_keeping.new.out ≡ string_bytes c.new-text.result ++ added)
     c.in_err-text_into_keeping.ensures.taken))
 
@@ -25,7 +25,7 @@ returns-in_err-bytes_into_keeping-clause-content g c =
     let exit = err_from_is_err_and c.from_residual-in_err-bytes_into_keeping.result
     c.from_residual-in_err-bytes_into_keeping.ensures.1 in
     rw (exit.1, exit.2) (rw c.if-is_text.false (string-refused (Unit {0}) g.A.Access.remaining c.args.decoder.now
-    c.bytes_into_keeping.new.self of_bytes c.args.len c.in_err-bytes_into_keeping.field-0.0
+    c.bytes_into_keeping.new.self StringType.Bytes c.args.len c.in_err-bytes_into_keeping.field-0.0
     (λ added y. c.bytes_into_keeping.new.out.items ≡ c.new-bytes.result.items ++ added)
     c.in_err-bytes_into_keeping.ensures.taken))
 
@@ -33,5 +33,5 @@ pub returns-clause-content : goal.returns-clause-content
 returns-clause-content g c =
     let out = c.bytes_into_keeping.new.out in
     rw c.if-is_text.false (string-taken (Unit {0}) g.A.Access.remaining c.args.decoder.now c.bytes_into_keeping.new.self
-    of_bytes c.args.len c.new-bytes.result.items out.items (value.Bytes out) (search rules) (tree_of-Bytes out)
+    StringType.Bytes c.args.len c.new-bytes.result.items out.items (value.Bytes out) (search rules) (tree_of-Bytes out)
     c.in_ok-bytes_into_keeping.ensures.taken)

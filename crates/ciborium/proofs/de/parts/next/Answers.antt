@@ -1,6 +1,6 @@
 use Rattle.std.proofs.Common.{◌≡◌, ℕ, List, ◌++◌, ap, sym, ◌∙◌, Some, Ok, Err, subst, false, true}
 use Rattle.std.proofs.lemmas.Result.{err_from_is_err_and}
-use Rattle.ciborium_ll.specs.{Decoding.with_left, Refusal.semantic, StringRefusal.{of_bytes, of_text}}
+use Rattle.ciborium_ll.specs.{Decoding.with_left, Refusal.semantic, StringRefusal.StringType}
 use Rattle.ciborium_value.{proofs.Trees.Views.tree_of-Integer, specs.View.tree_of}
 use Rattle.ciborium.proofs.{Readers.WhateverFollows.StringSo, Turns.Contents.{got-string, string-fault}}
 use Rattle.ciborium.proofs.Turns.Heads.{ahead-of, faulty-head, head-refused, part-behind-head, part-of-head}
@@ -66,8 +66,8 @@ returns-in_ok-value-in-Bytes-clause-part g c =
     c.in_ok-header.ensures.measured
     (sym (c.find_head_fault.ensures ∙ ap (head_fault g.S.Rules.spelling c.in_ok-header.header) c.head_len.ensures) ∙
     c.in_default.is) c.in_ok-header.ensures.head c.read_string.new.decoder _
-    (λ d e. StringSo {E = Unit} of_bytes c.in-Bytes.len c.pull.new.decoder.last d e (Ok c.in_ok-value-in-Bytes.value))
-    c.in_ok-value-in-Bytes.ensures.content (λ m z xs p a read. got-string of_bytes Some (with_left c.pull.new.decoder m)
+    (λ d e. StringSo {E = Unit} StringType.Bytes c.in-Bytes.len c.pull.new.decoder.last d e (Ok c.in_ok-value-in-Bytes.value))
+    c.in_ok-value-in-Bytes.ensures.content (λ m z xs p a read. got-string StringType.Bytes Some (with_left c.pull.new.decoder m)
     (with_left c.read_string.new.decoder z) c.args.levels xs p c.in_ok-header.header g.S.Rules.spelling Unit
     c.in-Bytes.len c.in_ok-value-in-Bytes.value c.read_string.ensures.pushed c.in-Bytes.is read a)
 
@@ -79,9 +79,9 @@ returns-in_err-value-in-Bytes-clause-part g c =
     c.in_ok-header.header c.in_ok-header.ensures.measured
     (sym (c.find_head_fault.ensures ∙ ap (head_fault g.S.Rules.spelling c.in_ok-header.header) c.head_len.ensures) ∙
     c.in_default.is) c.in_ok-header.ensures.head c.read_string.new.decoder _
-    (λ d e. StringSo {E = Unit} of_bytes c.in-Bytes.len c.pull.new.decoder.last d e
+    (λ d e. StringSo {E = Unit} StringType.Bytes c.in-Bytes.len c.pull.new.decoder.last d e
     (Err c.in_err-value-in-Bytes.field-0.0)) c.in_err-value-in-Bytes.ensures.content
-    (λ m z xs p a read. string-fault of_bytes Some (with_left c.pull.new.decoder m)
+    (λ m z xs p a read. string-fault StringType.Bytes Some (with_left c.pull.new.decoder m)
     (with_left c.read_string.new.decoder z) c.args.levels xs p c.in_ok-header.header g.S.Rules.spelling Unit
     c.in-Bytes.len c.in_err-value-in-Bytes.field-0.0 c.in-Bytes.is read a))
 
@@ -91,8 +91,8 @@ returns-in_ok-value-in-Text-clause-part g c =
     c.in_ok-header.ensures.measured
     (sym (c.find_head_fault.ensures ∙ ap (head_fault g.S.Rules.spelling c.in_ok-header.header) c.head_len.ensures) ∙
     c.in_default.is) c.in_ok-header.ensures.head c.read_string-in-Text.new.decoder _
-    (λ d e. StringSo {E = Unit} of_text c.in-Text.len c.pull.new.decoder.last d e (Ok c.in_ok-value-in-Text.value))
-    c.in_ok-value-in-Text.ensures.content (λ m z xs p a read. got-string of_text Some (with_left c.pull.new.decoder m)
+    (λ d e. StringSo {E = Unit} StringType.Text c.in-Text.len c.pull.new.decoder.last d e (Ok c.in_ok-value-in-Text.value))
+    c.in_ok-value-in-Text.ensures.content (λ m z xs p a read. got-string StringType.Text Some (with_left c.pull.new.decoder m)
     (with_left c.read_string-in-Text.new.decoder z) c.args.levels xs p c.in_ok-header.header g.S.Rules.spelling Unit
     c.in-Text.len c.in_ok-value-in-Text.value c.read_string-in-Text.ensures.pushed c.in-Text.is read a)
 
@@ -104,9 +104,9 @@ returns-in_err-value-in-Text-clause-part g c =
     c.in_ok-header.header c.in_ok-header.ensures.measured
     (sym (c.find_head_fault.ensures ∙ ap (head_fault g.S.Rules.spelling c.in_ok-header.header) c.head_len.ensures) ∙
     c.in_default.is) c.in_ok-header.ensures.head c.read_string-in-Text.new.decoder _
-    (λ d e. StringSo {E = Unit} of_text c.in-Text.len c.pull.new.decoder.last d e
+    (λ d e. StringSo {E = Unit} StringType.Text c.in-Text.len c.pull.new.decoder.last d e
     (Err c.in_err-value-in-Text.field-0.0)) c.in_err-value-in-Text.ensures.content
-    (λ m z xs p a read. string-fault of_text Some (with_left c.pull.new.decoder m)
+    (λ m z xs p a read. string-fault StringType.Text Some (with_left c.pull.new.decoder m)
     (with_left c.read_string-in-Text.new.decoder z) c.args.levels xs p c.in_ok-header.header g.S.Rules.spelling Unit
     c.in-Text.len c.in_err-value-in-Text.field-0.0 c.in-Text.is read a))
 

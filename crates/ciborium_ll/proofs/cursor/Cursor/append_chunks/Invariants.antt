@@ -1,5 +1,5 @@
 use Rattle.std.proofs.Common.{◌≡◌, ◌-◌}
-use Rattle.ciborium_ll.{proofs.OpenStrings.GoodParts, specs.{Bytes.greatest_offset, Strings.string_kind_of}}
+use Rattle.ciborium_ll.{proofs.OpenStrings.GoodParts, specs.Bytes.greatest_offset}
 use Rattle.ciborium_ll.specs.inner.Cursors.{IsSameCursor, count_at, left_at}
 use Rattle.ciborium_ll.proofs.cursor.Cursor.append_chunks.Given as goal
 
@@ -8,7 +8,7 @@ abbrev pub invariant-chunks : goal.invariant-chunks
 invariant-chunks g l = record {
   same : IsSameCursor l.fn.self l.self;
   head : l.head ≡ count_at l.self;
-  good : GoodParts (string_kind_of l.kind) (left_at g.A.Access.remaining l.fn.self)
+  good : GoodParts l.kind (left_at g.A.Access.remaining l.fn.self)
       (left_at g.A.Access.remaining l.self)
       (count_at l.fn.self) (count_at l.self) l.fn.out.items l.out.items;
 }

@@ -1,5 +1,5 @@
 use Rattle.std.proofs.Common.{rules}
-use Rattle.ciborium_ll.{proofs.Unread.refused-string, specs.StringRefusal.of_bytes}
+use Rattle.ciborium_ll.{proofs.Unread.refused-string, specs.StringRefusal.StringType}
 use Rattle.ciborium_ll.proofs.decoder.Decoder.bytes_into_keeping.Goals as goal
 
 pub returns : goal.returns
@@ -9,7 +9,7 @@ returns g c = record {
   last = search rules;
   head_len = search rules;
   taken = search rules;
-  refused = λ b known. refused-string of_bytes c.args.len c.args.self.now.last _ _ _ _ _ b _
+  refused = λ b known. refused-string StringType.Bytes c.args.len c.args.self.now.last _ _ _ _ _ b _
       c.append_string.ensures.bytes known;
   ended = search rules;
 }

@@ -1,5 +1,5 @@
 use Rattle.std.{proofs.{Common.{rules, sym, subst}, lemmas.Str.IsUtf8-string_bytes}, specs.Prelude.IsUtf8}
-use Rattle.ciborium_ll.{proofs.Unread.{refused-string, grown-utf8}, specs.StringRefusal.of_text}
+use Rattle.ciborium_ll.{proofs.Unread.{refused-string, grown-utf8}, specs.StringRefusal.StringType}
 use Rattle.ciborium_ll.proofs.decoder.Decoder.text_into_keeping.Goals as goal
 
 pub from_utf8_unchecked-requires : goal.from_utf8_unchecked-requires
@@ -14,7 +14,7 @@ returns g c = record {
   last = search rules;
   head_len = search rules;
   taken = search rules;
-  refused = λ b known. refused-string of_text c.args.len c.args.self.now.last _ _ _ _ _ b _
+  refused = λ b known. refused-string StringType.Text c.args.len c.args.self.now.last _ _ _ _ _ b _
       c.append_string-result.ensures.bytes known;
   ended = search rules;
 }

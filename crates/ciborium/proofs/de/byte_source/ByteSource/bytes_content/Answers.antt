@@ -1,5 +1,5 @@
 use Rattle.std.proofs.lemmas.Result.{err_from_is_err_and}
-use Rattle.ciborium_ll.specs.StringRefusal.{of_bytes}
+use Rattle.ciborium_ll.specs.StringRefusal.{StringType}
 use Rattle.ciborium.proofs.{Payloads.SpelledStrings.content-denied, Payloads.StringPayloads.content-taken}
 use Rattle.ciborium.proofs.{Payloads.StringPayloads.content-fewer, Items.TakenOnly.takes-only}
 use Rattle.ciborium.proofs.de.byte_source.ByteSource.bytes_content.Goals as goal
@@ -9,18 +9,18 @@ returns-in_err-bytes_into_keeping-clause-denied g c =
     let exit = err_from_is_err_and c.from_residual.result c.from_residual.ensures.1 in
     rw (exit.1, exit.2) (content-denied g.A.Access.can_fail g.A.Access.remaining c.args.self.now.decoder
     c.bytes_into_keeping.new.self
-    c.args.self.now.pending c.in_err-bytes_into_keeping.field-0.0 of_bytes c.args.len c.requires
+    c.args.self.now.pending c.in_err-bytes_into_keeping.field-0.0 StringType.Bytes c.args.len c.requires
     c.in_err-bytes_into_keeping.ensures.refused c.in_err-bytes_into_keeping.ensures.ended)
 
 pub returns-clause-ok : goal.returns-clause-ok
 returns-clause-ok g c = content-taken Unit g.A.Access.remaining c.args.self.now.decoder c.bytes_into_keeping.new.self
     c.args.self.now.pending
-    of_bytes c.args.len c.new-out.result.items c.bytes_into_keeping.new.out.items c.requires c.new-out.ensures.items
+    StringType.Bytes c.args.len c.new-out.result.items c.bytes_into_keeping.new.out.items c.requires c.new-out.ensures.items
     c.in_ok-bytes_into_keeping.ensures.taken
 
 pub returns-clause-fewer : goal.returns-clause-fewer
 returns-clause-fewer g c =
-    content-fewer Unit g.A.Access.remaining c.args.self.now.decoder c.bytes_into_keeping.new.self of_bytes c.args.len
+    content-fewer Unit g.A.Access.remaining c.args.self.now.decoder c.bytes_into_keeping.new.self StringType.Bytes c.args.len
     c.new-out.result.items c.bytes_into_keeping.new.out.items c.new-out.ensures.items
     c.in_ok-bytes_into_keeping.ensures.taken
 

@@ -1,6 +1,6 @@
 use Rattle.std.proofs.{Common.{◌∙◌, subst, length-take-le}, lemmas.Result.err_from_is_err_and}
 use Rattle.ciborium.specs.{inner.ByteSources.{IsUnread, end_at, fault_at}, inner.StringContents.DeniesJust}
-use Rattle.ciborium_ll.specs.StringRefusal.{of_text}
+use Rattle.ciborium_ll.specs.StringRefusal.{StringType}
 use Rattle.ciborium_value.specs.Sources.{of_syntax}
 use Rattle.ciborium.proofs.Payloads.ShortNames.{just-denied, no-text-denied}
 use Rattle.ciborium.proofs.de.byte_source.ByteSource.copied_place.Goals as goal
@@ -11,7 +11,7 @@ returns-in_err-fill-clause-denied g c =
     let P = IsUnread g.A.Access.remaining c.args.self.now in
     let end = end_at g.A.Access.remaining c.args.self.now in
     let fault = fault_at g.A.Access.can_fail g.A.Access.remaining c.fill.new.self c.in_err-fill.field-0.0 in
-    rw (exit.1, exit.2) (just-denied P end c.args.n fault of_text (subst (λ k. DeniesJust P end k fault)
+    rw (exit.1, exit.2) (just-denied P end c.args.n fault StringType.Text (subst (λ k. DeniesJust P end k fault)
     (length-take-le c.args.n _ c.requires.short) c.in_err-fill.ensures.outside))
 
 pub returns-in-Err-clause-denied : goal.returns-in-Err-clause-denied

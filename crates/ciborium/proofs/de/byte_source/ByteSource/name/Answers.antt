@@ -1,6 +1,6 @@
 use Rattle.std.proofs.{Common.{◌≡◌, ap, sym, Some, false, subst, string_bytes}, lemmas.Result.err_from_is_err_and}
 use Rattle.std.{proofs.lemmas.Str.IsUtf8-string_bytes, specs.Str.IsUtf8}
-use Rattle.ciborium_ll.specs.StringRefusal.{of_bytes, of_text}
+use Rattle.ciborium_ll.specs.StringRefusal.{StringType}
 use Rattle.ciborium_value.specs.{Given.{bare_name, given_name, outcome, settled}, Places.is_open}
 use Rattle.ciborium.proofs.Containers.NamedVariants.{bytes-name, bytes-no-name, name-other}
 use Rattle.ciborium.proofs.Items.BareHeads.{head-denied, other-denied, string-denied, string-read}
@@ -21,7 +21,7 @@ returns-in_err-name-in-Text-clause-answer g c =
     let exit = err_from_is_err_and c.from_residual-in_err-name-in-Text.result
     c.from_residual-in_err-name-in-Text.ensures.1 in
     rw (exit.1, exit.2) (string-denied g.A.Access.remaining c.args.self.now given_name c.bare_head.new.self
-    c.in_ok-header.header c.in_ok-header.ensures.head of_text c.in-Text.len c.in-Text.is
+    c.in_ok-header.header c.in_ok-header.ensures.head StringType.Text c.in-Text.len c.in-Text.is
     c.in_ok-header.ensures.reads.only (fault_at g.A.Access.can_fail g.A.Access.remaining c.text_content.new.self
     c.in_err-name-in-Text.field-0.0) c.in_err-name-in-Text.ensures.denied)
 
@@ -29,16 +29,16 @@ pub returns-in-Text-clause-answer : goal.returns-in-Text-clause-answer
 returns-in-Text-clause-answer g c =
     let payload = string_bytes c.in_ok-name-in-Text.name in
     string-read g.A.Access.remaining c.args.self.now given_name c.bare_head.new.self c.in_ok-header.header
-    c.in_ok-header.ensures.head of_text c.in-Text.len c.in-Text.is c.text_content.new.self payload payload
+    c.in_ok-header.ensures.head StringType.Text c.in-Text.len c.in-Text.is c.text_content.new.self payload payload
     c.in_ok-name-in-Text.ensures.ok (λ ts all. ap (λ j. settled (bare_name j))
-    (untagged-under ts (string_item of_text c.in-Text.len payload)))
+    (untagged-under ts (string_item StringType.Text c.in-Text.len payload)))
 
 pub returns-in_err-bytes-in-Bytes-clause-answer : goal.returns-in_err-bytes-in-Bytes-clause-answer
 returns-in_err-bytes-in-Bytes-clause-answer g c =
     let exit = err_from_is_err_and c.from_residual-in_err-bytes-in-Bytes.result
     c.from_residual-in_err-bytes-in-Bytes.ensures.1 in
     rw (exit.1, exit.2) (string-denied g.A.Access.remaining c.args.self.now given_name c.bare_head.new.self
-    c.in_ok-header.header c.in_ok-header.ensures.head of_bytes c.in-Bytes.len c.in-Bytes.is
+    c.in_ok-header.header c.in_ok-header.ensures.head StringType.Bytes c.in-Bytes.len c.in-Bytes.is
     c.in_ok-header.ensures.reads.only (fault_at g.A.Access.can_fail g.A.Access.remaining c.bytes_content.new.self
     c.in_err-bytes-in-Bytes.field-0.0)
     c.in_err-bytes-in-Bytes.ensures.denied)
@@ -50,9 +50,9 @@ returns-in-Ok-clause-answer g c =
     let same : string_bytes c.in-Ok.name ≡ payload = ap (λ v. v.items) c.in-Ok.ensures.ok in
     let utf8 : IsUtf8 payload = subst IsUtf8 same (IsUtf8-string_bytes c.in-Ok.name) in
     string-read g.A.Access.remaining c.args.self.now given_name c.bare_head.new.self c.in_ok-header.header
-    c.in_ok-header.ensures.head of_bytes c.in-Bytes.len c.in-Bytes.is c.bytes_content.new.self payload (string_bytes
+    c.in_ok-header.ensures.head StringType.Bytes c.in-Bytes.len c.in-Bytes.is c.bytes_content.new.self payload (string_bytes
     c.in-Ok.name) c.in_ok-bytes-in-Bytes.ensures.ok (λ ts all. subst (λ b. outcome l
-    (given_name (Rattle.ciborium.specs.inner.Skips.under ts (string_item of_bytes c.in-Bytes.len payload))) ≡
+    (given_name (Rattle.ciborium.specs.inner.Skips.under ts (string_item StringType.Bytes c.in-Bytes.len payload))) ≡
     Rattle.ciborium_value.specs.Given.gives b) (sym same) (bytes-name ts l (is_open c.in-Bytes.len) payload utf8))
 
 pub returns-in-Bytes-clause-answer : goal.returns-in-Bytes-clause-answer

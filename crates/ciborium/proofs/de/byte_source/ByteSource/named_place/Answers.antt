@@ -1,6 +1,6 @@
 use Rattle.std.proofs.{Common.{◌≡◌, ◌∙◌, ap, sym, Some, false, subst}, lemmas.Result.err_from_is_err_and}
 use Rattle.std.specs.Str.{IsUtf8}
-use Rattle.ciborium_ll.specs.StringRefusal.{of_bytes, of_text}
+use Rattle.ciborium_ll.specs.StringRefusal.{StringType}
 use Rattle.ciborium_value.{proofs.Sources.Sequences.fault_map, specs.Given.{bare_name, gives, outcome_map, given_name}}
 use Rattle.ciborium_value.specs.{Given.{outcome, settled}, Labels.{name_place, placed}, Places.is_open, Sources.of_kind}
 use Rattle.ciborium_value.specs.declared.labels.LabelKind.TheVariants.{Name}
@@ -25,7 +25,7 @@ returns-in_err-place-in-Text-clause-answer g c =
     c.from_residual-in_err-place-in-Text.ensures.1 in
     rw (exit.1, exit.2) (string-denied g.A.Access.remaining c.args.self.now
     (placed (g.N.Labels.place_of c.args.labels.now) Name) c.bare_head.new.self
-    c.in_ok-header.header c.in_ok-header.ensures.head of_text c.in-Text.len c.in-Text.is
+    c.in_ok-header.header c.in_ok-header.ensures.head StringType.Text c.in-Text.len c.in-Text.is
     c.in_ok-header.ensures.reads.only (fault_at g.A.Access.can_fail g.A.Access.remaining c.text_place.new.self
     c.in_err-place-in-Text.field-0.0) c.in_err-place-in-Text.ensures.denied)
 
@@ -34,10 +34,10 @@ returns-in-Text-clause-answer g c =
     let place = name_place (g.N.Labels.place_of c.args.labels.now) in
     let (payload, content, is) = c.in_ok-place-in-Text.ensures.ok in
     string-read g.A.Access.remaining c.args.self.now (placed (g.N.Labels.place_of c.args.labels.now) Name)
-    c.bare_head.new.self c.in_ok-header.header c.in_ok-header.ensures.head of_text c.in-Text.len c.in-Text.is
+    c.bare_head.new.self c.in_ok-header.header c.in_ok-header.ensures.head StringType.Text c.in-Text.len c.in-Text.is
     c.text_place.new.self payload c.in_ok-place-in-Text.place content
     (λ ts all. ap (λ x. outcome_map place (settled (bare_name x)))
-    (untagged-under ts (string_item of_text c.in-Text.len payload)) ∙ ap gives (sym is))
+    (untagged-under ts (string_item StringType.Text c.in-Text.len payload)) ∙ ap gives (sym is))
 
 pub returns-in_err-bytes-in-Bytes-clause-answer : goal.returns-in_err-bytes-in-Bytes-clause-answer
 returns-in_err-bytes-in-Bytes-clause-answer g c =
@@ -45,7 +45,7 @@ returns-in_err-bytes-in-Bytes-clause-answer g c =
     c.from_residual-in_err-bytes-in-Bytes.ensures.1 in
     rw (exit.1, exit.2) (string-denied g.A.Access.remaining c.args.self.now
     (placed (g.N.Labels.place_of c.args.labels.now) Name) c.bare_head.new.self
-    c.in_ok-header.header c.in_ok-header.ensures.head of_bytes c.in-Bytes.len c.in-Bytes.is
+    c.in_ok-header.header c.in_ok-header.ensures.head StringType.Bytes c.in-Bytes.len c.in-Bytes.is
     c.in_ok-header.ensures.reads.only (fault_at g.A.Access.can_fail g.A.Access.remaining c.bytes_content.new.self
     c.in_err-bytes-in-Bytes.field-0.0) c.in_err-bytes-in-Bytes.ensures.denied)
 
@@ -59,7 +59,7 @@ returns-in-Ok-clause-answer g c =
     let found : c.find_name.result ≡ place payload =
     subst (λ b. c.find_name.result ≡ place b) same c.find_name.ensures in
     string-read g.A.Access.remaining c.args.self.now (placed (g.N.Labels.place_of c.args.labels.now) Name)
-    c.bare_head.new.self c.in_ok-header.header c.in_ok-header.ensures.head of_bytes c.in-Bytes.len c.in-Bytes.is
+    c.bare_head.new.self c.in_ok-header.header c.in_ok-header.ensures.head StringType.Bytes c.in-Bytes.len c.in-Bytes.is
     c.bytes_content.new.self payload c.find_name.result
     c.in_ok-bytes-in-Bytes.ensures.ok (λ ts all.
     ap (outcome_map place) (bytes-name ts l (is_open c.in-Bytes.len) payload utf8) ∙ ap gives (sym found))

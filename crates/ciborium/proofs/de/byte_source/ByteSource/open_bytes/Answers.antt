@@ -1,11 +1,11 @@
 use Rattle.std.proofs.Common.{length, ap, arith, subst, sym}
-use Rattle.ciborium_ll.specs.StringRefusal.{of_bytes}
+use Rattle.ciborium_ll.specs.StringRefusal.{StringType}
 use Rattle.ciborium.specs.{inner.ByteSources.IsUnread, inner.StringContents.TakesContent}
 use Rattle.ciborium.proofs.de.byte_source.ByteSource.open_bytes.Goals as goal
 
 pub returns-clause-ok : goal.returns-clause-ok
 returns-clause-ok g c = subst (TakesContent (IsUnread g.A.Access.remaining c.args.self.now)
-    (IsUnread g.A.Access.remaining c.bytes_content.new.self) of_bytes c.args.len) (sym c.into_iter.ensures.rest)
+    (IsUnread g.A.Access.remaining c.bytes_content.new.self) StringType.Bytes c.args.len) (sym c.into_iter.ensures.rest)
     c.in_ok-bytes.ensures.ok
 
 pub returns-clause-fewer : goal.returns-clause-fewer

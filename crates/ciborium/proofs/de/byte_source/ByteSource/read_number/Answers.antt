@@ -1,5 +1,5 @@
 use Rattle.std.proofs.{Common.{Some, sym, ap, ◌∙◌, subst, arith}, lemmas.Result.err_from_is_err_and}
-use Rattle.ciborium_ll.specs.StringRefusal.{of_bytes}
+use Rattle.ciborium_ll.specs.StringRefusal.{StringType}
 use Rattle.ciborium_value.specs.Sources.{of_syntax}
 use Rattle.ciborium.specs.{inner.ByteSources.{IsUnread, end_at, fault_at}, inner.FrontItems.TakesHead}
 use Rattle.ciborium.specs.inner.StringContents.{DeniesContent, TakesNumber}
@@ -16,8 +16,8 @@ returns-in_err-number-in-Some-clause-denied g c =
     let end = end_at g.A.Access.remaining c.args.self.now in
     let at = fault_at g.A.Access.can_fail g.A.Access.remaining c.read_digits.new.self in
     let fault = at c.in_err-number-in-Some.field-0.0 in
-    rw (exit.1, exit.2) (subst (λ l. DeniesContent P end of_bytes l fault) (sym c.in-Some.is)
-    (just-denied P end c.in-Some.n fault of_bytes c.in_err-number-in-Some.ensures.outside))
+    rw (exit.1, exit.2) (subst (λ l. DeniesContent P end StringType.Bytes l fault) (sym c.in-Some.is)
+    (just-denied P end c.in-Some.n fault StringType.Bytes c.in_err-number-in-Some.ensures.outside))
 
 pub returns-in_err-header-in-None-clause-denied : goal.returns-in_err-header-in-None-clause-denied
 returns-in_err-header-in-None-clause-denied g c =
@@ -26,7 +26,7 @@ returns-in_err-header-in-None-clause-denied g c =
     let P = IsUnread g.A.Access.remaining c.args.self.now in
     let fault = fault_at g.A.Access.can_fail g.A.Access.remaining c.next_head.new.self c.in_err-header-in-None.field-0.0
     in
-    rw (exit.1, exit.2) (subst (λ l. DeniesContent P (end_at g.A.Access.remaining c.args.self.now) of_bytes l fault)
+    rw (exit.1, exit.2) (subst (λ l. DeniesContent P (end_at g.A.Access.remaining c.args.self.now) StringType.Bytes l fault)
     (sym c.in-None.is) (parts-no-head P (IsUnread g.A.Access.remaining c.parts.self) c.parts.number
     c.parts.invariant.took (end_at g.A.Access.remaining c.parts.self) (end_at g.A.Access.remaining c.args.self.now)
     fault (same-end g.A.Access.remaining c.args.self.now c.parts.self c.parts.invariant.only)
@@ -70,7 +70,7 @@ pub returns-in-None-part-clause-denied : goal.returns-in-None-part-clause-denied
 returns-in-None-part-clause-denied g c =
     let P = IsUnread g.A.Access.remaining c.args.self.now in
     let h = c.in_ok-header-in-None.header in
-    subst (λ l. DeniesContent P (end_at g.A.Access.remaining c.args.self.now) of_bytes l of_syntax) (sym c.in-None.is)
+    subst (λ l. DeniesContent P (end_at g.A.Access.remaining c.args.self.now) StringType.Bytes l of_syntax) (sym c.in-None.is)
     (parts-other P (IsUnread g.A.Access.remaining c.parts.self) c.parts.number c.parts.invariant.took
     (end_at g.A.Access.remaining c.args.self.now) of_syntax h
     (λ y u. let (x, r, hd, e, un) = c.in_ok-header-in-None.ensures.head y u in (x, r, hd, e))
@@ -81,7 +81,7 @@ pub returns-in_default-clause-denied : goal.returns-in_default-clause-denied
 returns-in_default-clause-denied g c =
     let P = IsUnread g.A.Access.remaining c.args.self.now in
     let h = c.in_ok-header-in-None.header in
-    subst (λ l. DeniesContent P (end_at g.A.Access.remaining c.args.self.now) of_bytes l of_syntax) (sym c.in-None.is)
+    subst (λ l. DeniesContent P (end_at g.A.Access.remaining c.args.self.now) StringType.Bytes l of_syntax) (sym c.in-None.is)
     (parts-other P (IsUnread g.A.Access.remaining c.parts.self) c.parts.number c.parts.invariant.took
     (end_at g.A.Access.remaining c.args.self.now) of_syntax h
     (λ y u. let (x, r, hd, e, un) = c.in_ok-header-in-None.ensures.head y u in (x, r, hd, e)) c.in_default.not-Break
@@ -97,7 +97,7 @@ returns-in_err-number-in-Some-part-clause-denied g c =
     c.in_err-number-in-Some-part.field-0.0 in
     let mid = c.next_head.new.self in
     rw (exit.1, exit.2) (subst (λ l. DeniesContent (U c.args.self.now) (end_at g.A.Access.remaining c.args.self.now)
-    of_bytes l fault) (sym c.in-None.is)
+    StringType.Bytes l fault) (sym c.in-None.is)
     (parts-cut (U c.args.self.now) (U c.parts.self) c.parts.number c.parts.invariant.took (U mid)
     (end_at g.A.Access.remaining mid) (end_at g.A.Access.remaining c.args.self.now) c.in-Some-part.n fault
     (same-end g.A.Access.remaining c.args.self.now mid (λ first h. c.in_ok-header-in-None.ensures.only first

@@ -1,5 +1,5 @@
 use Rattle.std.proofs.{Common.{◌≡◌, None, Some, ap, ◌∙◌}, lemmas.Result.err_from_is_err_and}
-use Rattle.ciborium_ll.specs.StringRefusal.{of_text}
+use Rattle.ciborium_ll.specs.StringRefusal.{StringType}
 use Rattle.ciborium_value.specs.Sources.{of_syntax}
 use Rattle.ciborium.proofs.Payloads.{ShortNames.{just-denied, no-text-denied}, VisitedPayloads.content-denied-then}
 use Rattle.ciborium.specs.inner.ByteSources.{IsUnread, end_at, fault_at}
@@ -10,7 +10,7 @@ returns-in_err-place-clause-denied g c =
     let exit = err_from_is_err_and c.from_residual.result c.from_residual.ensures.1 in
     let fault = fault_at g.A.Access.can_fail g.A.Access.remaining c.visit.new.self c.in_err-place.field-0.0 in
     rw (exit.1, exit.2) (just-denied (IsUnread g.A.Access.remaining c.args.self.now)
-    (end_at g.A.Access.remaining c.args.self.now) c.args.n fault of_text c.in_err-place.ensures.outside)
+    (end_at g.A.Access.remaining c.args.self.now) c.args.n fault StringType.Text c.in_err-place.ensures.outside)
 
 pub returns-in-Some-None-clause-denied : goal.returns-in-Some-None-clause-denied
 returns-in-Some-None-clause-denied g c =
@@ -24,4 +24,4 @@ returns-in-None-clause-denied g c =
     let kept = rw c.in-None.is at c.in_ok-place.ensures.none in
     content-denied-then g.A.Access.remaining c.args.self.now c.visit.new.self
     (fault_at g.A.Access.can_fail g.A.Access.remaining c.copied_place.new.self) c.in_ok-place.ensures.only kept
-    of_text (Some c.args.n) c.copied_place.result c.copied_place.ensures.denied
+    StringType.Text (Some c.args.n) c.copied_place.result c.copied_place.ensures.denied

@@ -1,5 +1,5 @@
 use Rattle.std.proofs.{Common.string_bytes, lemmas.Result.err_from_is_err_and}
-use Rattle.ciborium_ll.specs.StringRefusal.{of_text}
+use Rattle.ciborium_ll.specs.StringRefusal.{StringType}
 use Rattle.ciborium.proofs.{Payloads.SpelledStrings.content-denied, Payloads.StringPayloads.content-taken}
 use Rattle.ciborium.proofs.Items.TakenOnly.{takes-only}
 use Rattle.ciborium.proofs.de.byte_source.ByteSource.text_content.Goals as goal
@@ -9,13 +9,13 @@ returns-in_err-text_into_keeping-clause-denied g c =
     let exit = err_from_is_err_and c.from_residual.result c.from_residual.ensures.1 in
     rw (exit.1, exit.2) (content-denied g.A.Access.can_fail g.A.Access.remaining c.args.self.now.decoder
     c.text_into_keeping.new.self
-    c.args.self.now.pending c.in_err-text_into_keeping.field-0.0 of_text c.args.len c.requires
+    c.args.self.now.pending c.in_err-text_into_keeping.field-0.0 StringType.Text c.args.len c.requires
     c.in_err-text_into_keeping.ensures.refused c.in_err-text_into_keeping.ensures.ended)
 
 pub returns-clause-ok : goal.returns-clause-ok
 returns-clause-ok g c =
     content-taken Unit g.A.Access.remaining c.args.self.now.decoder c.text_into_keeping.new.self c.args.self.now.pending
-    of_text c.args.len (string_bytes c.new-out.result) (string_bytes c.text_into_keeping.new.out) c.requires
+    StringType.Text c.args.len (string_bytes c.new-out.result) (string_bytes c.text_into_keeping.new.out) c.requires
     c.new-out.ensures.bytes c.in_ok-text_into_keeping.ensures.taken
 
 pub returns-in_err-text_into_keeping-clause-only : goal.returns-in_err-text_into_keeping-clause-only

@@ -1,6 +1,6 @@
 use Rattle.std.proofs.Common.{rules, arith, ◌+◌, ◌<◌, refl, Some, false, sym, subst, ◌∙◌}
 use Rattle.std.{proofs.lemmas.Result.err_from_is_err_and, specs.Vec.Iter.into_iter_items}
-use Rattle.ciborium_ll.specs.StringRefusal.{of_bytes}
+use Rattle.ciborium_ll.specs.StringRefusal.{StringType}
 use Rattle.ciborium_value.specs.{Ahead.takes_level, Given.{bare_seq, given_seq, give}}
 use Rattle.ciborium.proofs.Containers.ByteItems.{head-refuses, nested-refuses, other-refuses, string-refuses}
 use Rattle.ciborium.proofs.Containers.EnteredContainers.{IsEntered, entered-kept, items-stand, array-entered}
@@ -79,7 +79,7 @@ pub returns-in_err-seq-in-Bytes-clause-refused : goal.returns-in_err-seq-in-Byte
 returns-in_err-seq-in-Bytes-clause-refused g c =
     let exit = err_from_is_err_and c.from_residual-in_err-seq-in-Bytes.result
     c.from_residual-in_err-seq-in-Bytes.ensures.1 in
-    rw (exit.1, exit.2) (string-refuses given_seq c.in_ok-header.ensures.reads c.in_ok-header.ensures.head _ of_bytes
+    rw (exit.1, exit.2) (string-refuses given_seq c.in_ok-header.ensures.reads c.in_ok-header.ensures.head _ StringType.Bytes
     c.in-Bytes.len c.in-Bytes.is c.in_err-seq-in-Bytes.ensures.denied)
 
 pub returns-in_default-clause-refused : goal.returns-in_default-clause-refused

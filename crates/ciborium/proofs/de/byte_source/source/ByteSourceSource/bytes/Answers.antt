@@ -1,5 +1,5 @@
 use Rattle.std.proofs.{Common.{Some, ap, arith, refl, rules, sym, ◌∙◌}, lemmas.Result.err_from_is_err_and}
-use Rattle.ciborium_ll.specs.StringRefusal.{of_bytes}
+use Rattle.ciborium_ll.specs.StringRefusal.{StringType}
 use Rattle.ciborium_value.specs.Given.{bare_bytes, given_bytes, outcome}
 use Rattle.ciborium.specs.{inner.ByteSources.fault_at, inner.StringContents.string_item}
 use Rattle.ciborium.proofs.Containers.ByteItems.{array-begun, array-refuses, array-takes, array-took, bytes-other}
@@ -21,10 +21,10 @@ returns-in_ok-bytes-in-Bytes g c =
     let payload = c.in_ok-bytes-in-Bytes.bytes.items in
     let content = c.in_ok-bytes-in-Bytes.ensures in
     let fewer = content.fewer in record {
-      takes = string-given c.in_ok-header.ensures.reads c.in_ok-header.ensures.head of_bytes c.in-Bytes.len
+      takes = string-given c.in_ok-header.ensures.reads c.in_ok-header.ensures.head StringType.Bytes c.in-Bytes.len
           c.in-Bytes.is (content.same_reader, content.only) content.levels content.pending (omega (arith, fewer))
           payload content.ok (λ ts all. ap (λ j. outcome (Some c.args.self.now.levels) (bare_bytes j))
-          (untagged-under ts (string_item of_bytes c.in-Bytes.len payload)));
+          (untagged-under ts (string_item StringType.Bytes c.in-Bytes.len payload)));
     }
 
 pub returns-in_err-bytes-in-Bytes : goal.returns-in_err-bytes-in-Bytes
@@ -34,7 +34,7 @@ returns-in_err-bytes-in-Bytes g c =
     let refusal = c.in_err-bytes-in-Bytes.ensures in
     rw (exit.1, exit.2) (record {
       takes = behind-refused c.in_ok-header.ensures.reads refusal.only refusal.no_more
-          (string-refuses given_bytes c.in_ok-header.ensures.reads c.in_ok-header.ensures.head _ of_bytes c.in-Bytes.len
+          (string-refuses given_bytes c.in_ok-header.ensures.reads c.in_ok-header.ensures.head _ StringType.Bytes c.in-Bytes.len
           c.in-Bytes.is refusal.denied);
     })
 

@@ -1,6 +1,6 @@
 use Rattle.std.proofs.Common.{rules, ◌≡◌, ◌≤◌, ℕ, [], ◌∷◌, ap, ◌∙◌, Some, false, subst, arith, length, take}
 use Rattle.std.proofs.{Common.{length-append, chars, ◌+◌}, lemmas.Grind.common_steps, lemmas.Result.err_from_is_err_and}
-use Rattle.ciborium_ll.specs.{Accesses.left_at_failure, StringRefusal.of_text}
+use Rattle.ciborium_ll.specs.{Accesses.left_at_failure, StringRefusal.StringType}
 use Rattle.ciborium_value.specs.{Sources.of_kind, Given.{given_character, lone_character, settled}}
 use Rattle.ciborium_value.proofs.Sources.Sequences.{fault_outside}
 use Rattle.ciborium.specs.{inner.ByteSources.{IsUnread, end_at, fault_at}, inner.Skips.TakesBare}
@@ -47,7 +47,7 @@ returns-in_ok-character-in-Some-clause-takes g c =
     content.fewer (reads-bare (IsUnread g.A.Access.remaining) false (header.Text (Some n)) l given_character old mid new
     found (subst (TakesBare (IsUnread g.A.Access.remaining) old mid false) (c.in-Text.is ∙ ap header.Text c.in-Some.is)
     c.in_ok-header.ensures.head)
-    (string-behind (IsUnread g.A.Access.remaining) mid new of_text (Some n) l given_character payload found
+    (string-behind (IsUnread g.A.Access.remaining) mid new StringType.Text (Some n) l given_character payload found
     (payload-taken (IsUnread g.A.Access.remaining mid) (IsUnread g.A.Access.remaining new) n payload size
     c.in_ok-character-in-Some.ensures.utf8 content.ok)
     (character-given l payload found c.in_ok-character-in-Some.ensures.ok)))
