@@ -4,7 +4,7 @@ use Rattle.std.proofs.Common.{Result, Ok, Err, OnOk, inl, if◌then◌else◌, i
 use Rattle.std.proofs.Common.{append-nil, append_assoc, length-append, take-append-drop, add-one}
 use Rattle.std.{proofs.lemmas.List.{flat_map_more, length-drop}, specs.List.{flat_map, repeat}}
 use Rattle.hex.specs.Hex.{encode_lower, encode_with}
-use Rattle.ciborium_ll.specs.{Header.{IsCounted, SpellsHeader}, ItemHeads.{HasRead, IsHeadRead, unfinished_in, unread}}
+use Rattle.ciborium_ll.specs.{Header.{IsCounted, SpellsHeader}, ItemHeads.{HasRead, IsHeadRead, levels_of, unread}}
 use Rattle.ciborium_ll.specs.{ItemHeads.was_read, ItemLengths.IsNoItem, Levels.AreItem, declared.header.Header.Header}
 use Rattle.ciborium_ll.specs.declared.item_heads.{ItemHead.ItemHead, ItemHeads.ItemHeads, NoItem.NoItem}
 use Rattle.ciborium_ll.specs.declared.item_heads.NoItem.TheVariants.{Incomplete, Malformed, TooDeep}
@@ -70,13 +70,13 @@ pub record IsDumpedSoFar (b : List ℕ) (heads : ItemHeads) (text : List ℕ) : 
   pub entries : List Entry
   pub same : heads.bytes.now ≡ b
   pub read : HasRead heads
-  pub before : AreHeads b entries (unfinished_in heads) (unread heads)
+  pub before : AreHeads b entries (levels_of heads) (unread heads)
   pub offset : heads.offset ≡ length (flat_map entry_bytes entries)
   pub lines : text ≡ flat_map line_of entries
 
 -- none was read
 pub none-dumped : (b : List ℕ) (heads : ItemHeads) (text : List ℕ) → heads.bytes.now ≡ b → HasRead heads →
-    heads.offset ≡ 0 → unfinished_in heads ≡ Items 1 ∷ [] → text ≡ [] → IsDumpedSoFar b heads text
+    heads.offset ≡ 0 → levels_of heads ≡ Items 1 ∷ [] → text ≡ [] → IsDumpedSoFar b heads text
 none-dumped b heads text same read at levels none = record {
   entries = [];
   same = same;
@@ -122,8 +122,8 @@ one-more-dumped b old new head text longer so (read, is) e =
       entries = so.entries ++ (entry_of head ∷ []);
       same = is.same ∙ so.same;
       read = read;
-      before = one-more-at so.entries (Items 1 ∷ []) 0 b (unfinished_in old) (unread old) old.offset (entry_of head)
-          (unfinished_in new) (unread new) so.before (omega (arith, so.offset))
+      before = one-more-at so.entries (Items 1 ∷ []) 0 b (levels_of old) (unread old) old.offset (entry_of head)
+          (levels_of new) (unread new) so.before (omega (arith, so.offset))
           (record {
             offset = is.offset;
             depth = is.depth;
@@ -148,7 +148,7 @@ less-unread old new head is =
 
 -- the item has no more heads
 pub all-dumped : (b : List ℕ) (heads : ItemHeads) (text : List ℕ) (n : ℕ) → IsDumpedSoFar b heads text →
-    AreItem (was_read heads) → unfinished_in heads ≡ [] → n ≡ length (unread heads) → AreLinesOf b (Ok n) text
+    AreItem (was_read heads) → levels_of heads ≡ [] → n ≡ length (unread heads) → AreLinesOf b (Ok n) text
 all-dumped b heads text n so item none count = (
   so.entries,
   was_read heads,
@@ -171,7 +171,7 @@ pub none-at-front : (b : List ℕ) (heads : ItemHeads) (text : List ℕ) (e : No
     IsNoItem heads.bytes.now e × found.ShowsAt heads e → AreLinesOf b (Err e) text
 none-at-front b heads text e so (is, here) = (
   so.entries,
-  unfinished_in heads,
+  levels_of heads,
   unread heads,
   so.before,
   subst (λ (c : List ℕ). IsNoItem c e) so.same is,

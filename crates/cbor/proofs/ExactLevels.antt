@@ -2,7 +2,7 @@
 use Rattle.std.proofs.Common.{◌≡◌, ◌≢◌, ℕ, suc, ◌+◌, ◌-◌, ◌/◌, ◌%◌, ◌<◌, ◌==◌, Bool, true, false, List, [], ◌∷◌, Option}
 use Rattle.std.proofs.Common.{Some, None, option_map, if◌then◌else◌, refl, sym, ap, ◌∙◌, subst, arith, inl, inr}
 use Rattle.std.proofs.lemmas.Bool.Decides.{eqb_tells}
-use Rattle.ciborium_ll.specs.{ItemHeads.{HasRead, IsHeadRead, unfinished_in}, Levels.{behind_break, behind_bytes}}
+use Rattle.ciborium_ll.specs.{ItemHeads.{HasRead, IsHeadRead, levels_of}, Levels.{behind_break, behind_bytes}}
 use Rattle.ciborium_ll.specs.{Levels.{behind_head, behind_item, behind_text, incomplete}, declared.header.Header.Header}
 use Rattle.ciborium_ll.specs.declared.{item_heads.{ItemHead.ItemHead, ItemHeads.ItemHeads}, levels.Level.Level}
 use Rattle.ciborium_ll.specs.{StringRefusal.StringType, Strings.string_header}
@@ -45,16 +45,16 @@ begun (header.Float size) levels around more other e f = some-is _ around more e
 begun header.Break levels around more other e f = absurd (other refl)
 
 -- a head that is no break was read where an item is due
-pub head-begun : (old new : ItemHeads) (head : ItemHead) (levels around : List Level) → unfinished_in old ≡ levels →
+pub head-begun : (old new : ItemHeads) (head : ItemHead) (levels around : List Level) → levels_of old ≡ levels →
     behind_item levels ≡ Some around → head.header ≢ header.Break → HasRead new × IsHeadRead old new head →
     IsBegun head.header new around
 head-begun old new head levels around e due other (read, is) =
     let (more, f, g) = is.levels in
-    g ∙ ap incomplete (begun head.header (unfinished_in old) around more other (ap behind_item e ∙ due) f)
+    g ∙ ap incomplete (begun head.header (levels_of old) around more other (ap behind_item e ∙ due) f)
 
 -- no break was read in a level of so many items
 pub no-break : (old new : ItemHeads) (head : ItemHead) (n : ℕ) (around : List Level) →
-    unfinished_in old ≡ level.Items n ∷ around → HasRead new × IsHeadRead old new head → head.header ≢ header.Break
+    levels_of old ≡ level.Items n ∷ around → HasRead new × IsHeadRead old new head → head.header ≢ header.Break
 no-break old new head n around e (read, is) f =
     let (more, g, h) = is.levels in let never : behind_head header.Break (level.Items n ∷ around) ≡ Some more =
     subst (λ x. behind_head x (level.Items n ∷ around) ≡ Some more) f
@@ -103,8 +103,8 @@ chunk-head string (header.Float size) around more other e = absurd (cc (e, no-it
 chunk-head string header.Break around more other e = absurd (other refl)
 
 pub chunk-read : (string : StringType) (old new : ItemHeads) (head : ItemHead) (around : List Level) →
-    unfinished_in old ≡ chunk_level string ∷ around → head.header ≢ header.Break → HasRead new × IsHeadRead old new head →
-    ((n : ℕ) × (head.header ≡ string_header string n)) × (unfinished_in new ≡ chunk_level string ∷ around)
+    levels_of old ≡ chunk_level string ∷ around → head.header ≢ header.Break → HasRead new × IsHeadRead old new head →
+    ((n : ℕ) × (head.header ≡ string_header string n)) × (levels_of new ≡ chunk_level string ∷ around)
 chunk-read string old new head around e other (read, is) =
     let (more, f, g) = is.levels in
     let (kind, same) = chunk-head string head.header around more other
@@ -149,8 +149,8 @@ parts-end true n around more e = elim (eqb_tells (n % 2) 1) [
 ]
 
 pub parts-break : (is_map : Bool) (n : ℕ) (old new : ItemHeads) (head : ItemHead) (around : List Level) →
-    unfinished_in old ≡ open_level is_map n ∷ around → head.header ≡ header.Break → HasRead new × IsHeadRead old new head →
-    (unfinished_in new ≡ incomplete around) × (k : ℕ) × (n ≡ (if is_map then k + k else k))
+    levels_of old ≡ open_level is_map n ∷ around → head.header ≡ header.Break → HasRead new × IsHeadRead old new head →
+    (levels_of new ≡ incomplete around) × (k : ℕ) × (n ≡ (if is_map then k + k else k))
 parts-break is_map n old new head around e f (read, is) =
     let (more, g, h) = is.levels in
     let (same, k, count) = parts-end is_map n around more
@@ -161,8 +161,8 @@ parts-break is_map n old new head around e f (read, is) =
 -- ---- items that are counted
 
 pub parts-due : (heads : ItemHeads) (count place : ℕ) (around : List Level) → place < count →
-    unfinished_in heads ≡ incomplete (level.Items (count - place) ∷ around) →
-    unfinished_in heads ≡ level.Items (suc (count - (place + 1))) ∷ around
+    levels_of heads ≡ incomplete (level.Items (count - place) ∷ around) →
+    levels_of heads ≡ level.Items (suc (count - (place + 1))) ∷ around
 parts-due heads count place around less e =
     let one : count - place ≡ suc (count - (place + 1)) = omega (arith, less) in
-    subst (λ n. unfinished_in heads ≡ incomplete (level.Items n ∷ around)) one e
+    subst (λ n. levels_of heads ≡ incomplete (level.Items n ∷ around)) one e

@@ -5,7 +5,7 @@ use Rattle.std.proofs.Common.{decimal, OnOk, Result, Ok, Err, is_ok, ◌<◌, �
 use Rattle.std.proofs.lemmas.{Bool.{eqb-true, Decides.eqb_tells}, List.append_cancel_right}
 use Rattle.hex.specs.Hex.{encode_lower}
 use Rattle.ciborium_ll.specs.{Head.{IsFloat, IsHead, break_byte, open_byte}, Header.{IsFloatOf, SpellsHeader}}
-use Rattle.ciborium_ll.specs.{ItemHeads.{HasRead, IsHeadRead, unfinished_in, unread, was_read}, Levels.{AreItem, EndAll}}
+use Rattle.ciborium_ll.specs.{ItemHeads.{HasRead, IsHeadRead, levels_of, unread, was_read}, Levels.{AreItem, EndAll}}
 use Rattle.ciborium_ll.specs.{Levels.IsPayloadOf, StringRefusal.{StringType, IsAllowed}}
 use Rattle.ciborium_ll.specs.{StringRefusal.string_major, Strings.string_header}
 use Rattle.ciborium_ll.specs.declared.item_heads.{ItemHead.{ItemHead}, ItemHeads.{ItemHeads}}
@@ -219,7 +219,7 @@ less-left a b c r head before is =
 
 -- where no level is unfinished, what was read is one item
 pub front-pushed : (old new : ItemHeads) (b text longer : List ℕ) (n : ℕ) → old.bytes.now ≡ b → old.offset ≡ 0 →
-    unfinished_in new ≡ [] → n ≡ length (unread new) → IsPushed IsExactly old new text longer → IsFrontPushed b n text longer
+    levels_of new ≡ [] → n ≡ length (unread new) → IsPushed IsExactly old new text longer → IsFrontPushed b n text longer
 front-pushed old new b text longer n whole at none count (s, t, passed, shows, e) =
     (s, unread new, t, item, front, count, shows, e)
   where

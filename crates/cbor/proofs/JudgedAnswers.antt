@@ -4,7 +4,7 @@ use Rattle.std.{proofs.Common.{refl, sym, ap, ◌∙◌, subst}, specs.Bool.Matc
 use Rattle.hex.specs.{Hex.decode_of, declared.error.FromHexError.FromHexError}
 use Rattle.ciborium_ll.specs.Refusal.{io, syntax, too_long, semantic, recursion_limit_exceeded}
 use Rattle.ciborium_value.specs.Tree.{Tree}
-use Rattle.cbor.{proofs.JudgedLines.{item-answer, refusal_is_answered}, specs.Answer.{IsFrontRefused, kind_of_reason}}
+use Rattle.cbor.{proofs.JudgedLines.{item-answer, refusal_is_answered}, specs.Answer.IsFrontRefused}
 use Rattle.cbor.specs.{Answer.{refused_text, wants_memory}, Line.{IsLineAnswer, hex_text, refusal_text}}
 use Rattle.cbor.specs.{Lines.AnswersLine, Sequence.{AreItemsBefore, AreNoSequence, AreSequence, HasSequenceAnswer}}
 use Rattle.cbor.specs.{Sequence.{IsSequenceAnswer, refused_item_text}, Spellings.RefusesItem}
@@ -36,7 +36,7 @@ front-refusal spelling rest limit Hex m h = absurd h
 front-refusal spelling rest limit (Trailing k) m h = absurd h
 front-refusal spelling rest limit Io m h = (io, h, refl)
 front-refusal spelling rest limit (Syntax p) m h = (syntax p, h, refl)
-front-refusal spelling rest limit (Semantic p reason) m h = (semantic p (kind_of_reason reason), h, refl)
+front-refusal spelling rest limit (Semantic p kind) m h = (semantic p kind, h, refl)
 front-refusal spelling rest limit Nesting m h = (recursion_limit_exceeded, h, refl)
 front-refusal spelling rest limit TooLong m h = (too_long, h, refl)
 front-refusal spelling rest limit Memory m h = absurd cc

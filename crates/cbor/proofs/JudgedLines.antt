@@ -4,7 +4,7 @@ use Rattle.std.proofs.Common.{arith}
 use Rattle.hex.specs.{Hex.decode_of, declared.error.FromHexError.FromHexError}
 use Rattle.ciborium_ll.specs.Refusal.{io, syntax, too_long, semantic, recursion_limit_exceeded}
 use Rattle.ciborium_value.specs.Tree.{Tree}
-use Rattle.cbor.{proofs.OneLineAnswer.one_answer, specs.Answer.{AreRefused, IsFrontRefused, IsRefused, kind_of_reason}}
+use Rattle.cbor.{proofs.OneLineAnswer.one_answer, specs.Answer.{AreRefused, IsFrontRefused, IsRefused}}
 use Rattle.cbor.specs.{Answer.refused_text, Laws.{ItemIsAnswered, RefusalIsAnswered, RefusedMeansNothing}}
 use Rattle.cbor.specs.Line.{HasAnswer, IsLineAnswer, good, hex_text, refused, trailing, trailing_text, tree_text}
 use Rattle.cbor.specs.{Spellings.IsItem, declared.answer.LineRefusal.{LineRefusal, TheVariants.{Hex, Trailing, Io}}}
@@ -40,7 +40,7 @@ bytes-answer spelling b limit (Trailing n) m (v, left, before, more, same) =
     trailing v left before more (ap trailing_text same)
 bytes-answer spelling b limit Io m h = refused io h refl
 bytes-answer spelling b limit (Syntax p) m h = refused (syntax p) h refl
-bytes-answer spelling b limit (Semantic p reason) m h = refused (semantic p (kind_of_reason reason)) h refl
+bytes-answer spelling b limit (Semantic p kind) m h = refused (semantic p kind) h refl
 bytes-answer spelling b limit Nesting m h = refused recursion_limit_exceeded h refl
 bytes-answer spelling b limit TooLong m h = refused too_long h refl
 bytes-answer spelling b limit Memory m h = absurd (m refl)
@@ -64,9 +64,9 @@ refusal_is_answered spelling line limit Io m (b, d, h) =
     of-bytes spelling line b limit (refused_text Io) d (bytes-answer spelling b limit Io m h)
 refusal_is_answered spelling line limit (Syntax p) m (b, d, h) =
     of-bytes spelling line b limit (refused_text (Syntax p)) d (bytes-answer spelling b limit (Syntax p) m h)
-refusal_is_answered spelling line limit (Semantic p reason) m (b, d, h) =
-    of-bytes spelling line b limit (refused_text (Semantic p reason)) d
-    (bytes-answer spelling b limit (Semantic p reason) m h)
+refusal_is_answered spelling line limit (Semantic p kind) m (b, d, h) =
+    of-bytes spelling line b limit (refused_text (Semantic p kind)) d
+    (bytes-answer spelling b limit (Semantic p kind) m h)
 refusal_is_answered spelling line limit Nesting m (b, d, h) =
     of-bytes spelling line b limit (refused_text Nesting) d (bytes-answer spelling b limit Nesting m h)
 refusal_is_answered spelling line limit TooLong m (b, d, h) =
@@ -83,7 +83,7 @@ other-text v Hex same = let f : 111 ≡ 104 = ap first same in omega (arith, f)
 other-text v (Trailing n) same = let f : 111 ≡ 116 = ap first same in omega (arith, f)
 other-text v Io same = let f : 111 ≡ 105 = ap first same in omega (arith, f)
 other-text v (Syntax p) same = let f : 111 ≡ 115 = ap first same in omega (arith, f)
-other-text v (Semantic p reason) same = let f : 111 ≡ 115 = ap first same in omega (arith, f)
+other-text v (Semantic p kind) same = let f : 111 ≡ 115 = ap first same in omega (arith, f)
 other-text v Nesting same = let f : 111 ≡ 110 = ap first same in omega (arith, f)
 other-text v TooLong same = let f : 111 ≡ 116 = ap first same in omega (arith, f)
 other-text v Memory same = let f : 111 ≡ 109 = ap first same in omega (arith, f)

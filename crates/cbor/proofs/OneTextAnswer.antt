@@ -5,17 +5,16 @@ use Rattle.hex.specs.{Hex.decode_of, declared.error.FromHexError.FromHexError}
 use Rattle.ciborium_value.specs.{DeterministicForms.deterministic_form, Given.{Outcome, gives, refuses, nests}}
 use Rattle.ciborium_value.specs.{Tree.Tree, declared.key_order.KeyOrder.KeyOrder}
 use Rattle.ciborium_value.proofs.Forms.RefusedForms.{form_or_refused}
-use Rattle.cbor.specs.{declared.answer.Reason.Reason, declared.answer.LineRefusal.LineRefusal}
+use Rattle.cbor.specs.declared.answer.LineRefusal.{LineRefusal}
 use Rattle.cbor.specs.declared.answer.LineRefusal.TheVariants.{Hex, Trailing, Io, Syntax, Semantic, Nesting, TooLong}
 use Rattle.cbor.specs.{declared.reading.Spelling.TheVariants.Any, Answer.{AreRefused, IsMeant, IsRefused, TellsRefusal}}
-use Rattle.cbor.specs.{Answer.{kind_of_reason, refused_text, wants_memory}, Forms.{IsFormAnswer, formless_text}}
+use Rattle.cbor.specs.{Answer.{refused_text, wants_memory}, Forms.{IsFormAnswer, formless_text}}
 use Rattle.cbor.specs.{Laws.{IsFormAnswered, IsNotationAnswered, OneFormAnswer, OneNotationAnswer}, Line.tree_text}
 use Rattle.cbor.specs.{Shown.notation_text, Spellings.{IsItem, RefusesItem}}
 use Rattle.cbor.proofs.{JudgedAnswers.not-memory, JudgedLines.{refusal_is_answered, refused-by, refused_means_nothing}}
 use Rattle.cbor.proofs.{OneLineAnswer.{decoded-bytes, one_answer}, SpelledItems.{HasItem, item-or-refused, one-tree}}
 use Rattle.ciborium_ll.specs.Refusal as refusal
-use Rattle.ciborium_value.specs.declared.kind.Kind.TheVariants as kinds
-use Rattle.cbor.specs.declared.answer.Reason.TheVariants as reasons
+use Rattle.ciborium_ll.specs.declared.kind.Kind.TheVariants as kinds
 
 -- the text of what a form is, or why there is none; nesting is no answer
 abbrev form_text : Outcome Tree → List ℕ
@@ -70,28 +69,13 @@ one_notation_answer layout line limit a b p q = one-of (notation_text layout) li
 
 -- ---- each line means a tree or is refused
 
-reason-of : (k : refusal.SemanticKind) → (reason : Reason) × (kind_of_reason reason ≡ k)
-reason-of refusal.Float = (reasons.Float, refl)
-reason-of refusal.Simple = (reasons.Simple, refl)
-reason-of refusal.Break = (reasons.Break, refl)
-reason-of refusal.TooLarge = (reasons.TooLarge, refl)
-reason-of refusal.NotShortest = (reasons.NotShortest, refl)
-reason-of refusal.Open = (reasons.Open, refl)
-reason-of refusal.NotFolded = (reasons.NotFolded, refl)
-reason-of refusal.KeyOrder = (reasons.KeyOrder, refl)
-
 -- what refuses some bytes, as the program names it
 named : (b : List ℕ) (limit : ℕ) (e : refusal.Refusal) → RefusesItem Any b limit e → (r : LineRefusal) ×
     (wants_memory r ≡ false) × AreRefused Any b limit r
 named b limit refusal.io h = (Io, refl, h)
 named b limit (refusal.syntax p) h = (Syntax p, refl, h)
 named b limit refusal.too_long h = (TooLong, refl, h)
-named b limit (refusal.semantic p k) h =
-    let (reason, same) = reason-of k in (
-      Semantic p reason,
-      refl,
-      subst (λ (j : refusal.SemanticKind). RefusesItem Any b limit (refusal.semantic p j)) (sym same) h,
-    )
+named b limit (refusal.semantic p k) h = (Semantic p k, refl, h)
 named b limit refusal.recursion_limit_exceeded h = (Nesting, refl, h)
 
 -- a line means a tree, or is refused

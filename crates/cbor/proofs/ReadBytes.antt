@@ -1,12 +1,12 @@
 -- From what reading a value answers to what holds of the bytes.
 use Rattle.std.proofs.Common.{◌≡◌, ℕ, List, [], length, ◌==◌, Bool, true, IsTrue, Option, Some, None, IfSome, Err}
 use Rattle.std.proofs.lemmas.Bool.Decides.{nat_tests}
-use Rattle.ciborium_value.specs.declared.kind.Kind.TheVariants.{TrailingData}
-use Rattle.ciborium_ll.specs.Refusal.{Refusal, SemanticKind}
+use Rattle.ciborium_ll.specs.declared.kind.Kind.TheVariants.{TrailingData}
+use Rattle.ciborium_ll.specs.Refusal.{Refusal}
 use Rattle.ciborium.specs.SliceAnswers.{AreAllRead}
-use Rattle.cbor.specs.{declared.answer.LineRefusal.LineRefusal as Reason, Spellings.RefusesItem}
+use Rattle.cbor.specs.{declared.answer.LineRefusal.LineRefusal, Spellings.RefusesItem}
 use Rattle.std.proofs.{Common.{unwrap_or, inl, inr, refl, ◌≢◌, sym, subst, arith}, lemmas.List.nil_from_length}
-use Rattle.ciborium.specs.{declared.de.error.Error.Error, ValueAnswers.{IsNamed, IsRefusedBy, refusal_kind_of}}
+use Rattle.ciborium.specs.{declared.de.error.Error.Error, ValueAnswers.IsRefusedBy}
 use Rattle.cbor.specs.{declared.answer.LineRefusal.TheVariants.Memory, declared.reading.Spelling.Spelling}
 use Rattle.cbor.specs.{declared.reading.Spelling.TheVariants.Any, Answer.{AreRefused, IsFrontRefused, StandsFor}}
 use Rattle.ciborium.specs.declared.de.error.Error.TheVariants as errors
@@ -21,29 +21,24 @@ pub named-anyway : {E : Type 0} (left : Option (List ℕ)) (e : Error E) (P : Re
     IsRefusedBy None e (λ _. Unit {0})
 named-anyway left (errors.Io x) P h = λ _. tt
 named-anyway left (errors.Syntax p) P h = tt
-named-anyway left (errors.Semantic p k) P h = some-name p (refusal_kind_of k) P h
-  where
-    some-name : (p : Option ℕ) (k : Option SemanticKind) (P : Refusal → Type 0) → IsNamed p k P →
-        IsNamed p k (λ _. Unit {0})
-    some-name (Some p) (Some k) P h = tt
-    some-name (Some p) None P h = h
-    some-name None k P h = h
+named-anyway left (errors.Semantic (Some p) k) P h = tt
+named-anyway left (errors.Semantic None k) P h = h
 named-anyway left errors.RecursionLimitExceeded P h = tt
 named-anyway left errors.Memory P h = tt
 named-anyway left errors.TooLong P h = tt
 
 -- what an error stands for refuses the front, and where it stands for nothing `Memory` is said in its place
-pub front-refused : {E : Type 0} (named : Option Reason) (answer : Reason) (e : Error E) (is_end : Bool)
+pub front-refused : {E : Type 0} (named : Option LineRefusal) (answer : LineRefusal) (e : Error E) (is_end : Bool)
     (spelling : Spelling) (b : List ℕ) (limit : ℕ) (left : Option (List ℕ)) → answer ≡ unwrap_or named Memory →
     IfSome named (λ r. StandsFor e is_end r) → (IsTrue is_end → left ≡ Some []) →
     IsRefusedBy left e (RefusesItem spelling b limit) → IsFrontRefused spelling b limit answer
 front-refused (Some r) answer e is_end spelling b limit left same h ends refuses =
-    subst (λ (a : Reason). IsFrontRefused spelling b limit a) (sym same) (h spelling b limit left ends refuses)
+    subst (λ (a : LineRefusal). IsFrontRefused spelling b limit a) (sym same) (h spelling b limit left ends refuses)
 front-refused None answer e is_end spelling b limit left same h ends refuses =
-    subst (λ (a : Reason). IsFrontRefused spelling b limit a) (sym same) tt
+    subst (λ (a : LineRefusal). IsFrontRefused spelling b limit a) (sym same) tt
 
 -- what refuses the front refuses the bytes
-front-refuses-all : (spelling : Spelling) (b : List ℕ) (limit : ℕ) (answer : Reason) →
+front-refuses-all : (spelling : Spelling) (b : List ℕ) (limit : ℕ) (answer : LineRefusal) →
     IsFrontRefused spelling b limit answer → AreRefused spelling b limit answer
 front-refuses-all spelling b limit reasons.Hex h = h
 front-refuses-all spelling b limit (reasons.Trailing n) h = absurd {A = _} h
@@ -62,7 +57,7 @@ front-of-all e b limit other (inl refuses) = refuses
 front-of-all e b limit other (inr trailing) = absurd {A = _} (other _ trailing.6)
 
 -- what such an error stands for refuses them
-pub slice-refused : {E : Type 0} (named : Option Reason) (answer : Reason) (e : Error E) (b : List ℕ) (limit : ℕ) →
+pub slice-refused : {E : Type 0} (named : Option LineRefusal) (answer : LineRefusal) (e : Error E) (b : List ℕ) (limit : ℕ) →
     answer ≡ unwrap_or named Memory → IfSome named (λ r. StandsFor e true r) →
     IsRefusedBy (Some []) e (RefusesItem Any b limit) → AreRefused Any b limit answer
 slice-refused named answer e b limit same h refuses = front-refuses-all Any b limit answer

@@ -4,27 +4,15 @@ use Rattle.std.specs.Prelude.{MatchResult, codes}
 use Rattle.hex.specs.Hex.{decode_of}
 use Rattle.ciborium_value.specs.Tree.{Tree}
 use Rattle.ciborium.specs.{declared.de.error.Error.Error, ValueAnswers.IsRefusedBy}
-use Rattle.cbor.specs.{declared.answer.Reason.Reason, declared.answer.LineRefusal.LineRefusal}
+use Rattle.cbor.specs.declared.answer.LineRefusal.{LineRefusal}
 use Rattle.cbor.specs.declared.answer.LineRefusal.TheVariants.{Hex, Trailing, Io, Syntax, Semantic, Nesting, TooLong}
 use Rattle.cbor.specs.{declared.answer.LineRefusal.TheVariants.Memory, declared.reading.Spelling.Spelling}
 use Rattle.cbor.specs.{Spellings.{HasItemBefore, IsItem, RefusesItem}, Line.{hex_text, refusal_text, trailing_text}}
 use Rattle.ciborium_ll.specs.Refusal as refusal
-use Rattle.cbor.specs.declared.answer.Reason.TheVariants as reasons
 
 -- a line is the hex of bytes that are one item, spelled so and within so many levels, and mean v
 abbrev pub IsMeant : Spelling → List ℕ → ℕ → Tree → Type 0
 IsMeant spelling line limit v = MatchResult (decode_of line) (λ b. IsItem spelling b limit v) (λ _. ⊥)
-
--- the kind that a reason is
-abbrev pub kind_of_reason : Reason → refusal.SemanticKind
-kind_of_reason reasons.Float = refusal.Float
-kind_of_reason reasons.Simple = refusal.Simple
-kind_of_reason reasons.Break = refusal.Break
-kind_of_reason reasons.TooLarge = refusal.TooLarge
-kind_of_reason reasons.NotShortest = refusal.NotShortest
-kind_of_reason reasons.Open = refusal.Open
-kind_of_reason reasons.NotFolded = refusal.NotFolded
-kind_of_reason reasons.KeyOrder = refusal.KeyOrder
 
 -- an item is at the front of b, and n more bytes follow it
 abbrev pub HasTrailing : Spelling → List ℕ → ℕ → ℕ → Type 0
@@ -37,8 +25,7 @@ IsFrontRefused spelling b limit Hex = ⊥
 IsFrontRefused spelling b limit (Trailing n) = ⊥
 IsFrontRefused spelling b limit Io = RefusesItem spelling b limit refusal.io
 IsFrontRefused spelling b limit (Syntax p) = RefusesItem spelling b limit (refusal.syntax p)
-IsFrontRefused spelling b limit (Semantic p reason) =
-    RefusesItem spelling b limit (refusal.semantic p (kind_of_reason reason))
+IsFrontRefused spelling b limit (Semantic p kind) = RefusesItem spelling b limit (refusal.semantic p kind)
 IsFrontRefused spelling b limit Nesting = RefusesItem spelling b limit refusal.recursion_limit_exceeded
 IsFrontRefused spelling b limit TooLong = RefusesItem spelling b limit refusal.too_long
 IsFrontRefused spelling b limit Memory = Unit {0}
@@ -67,7 +54,7 @@ refusal_word Hex = hex_text
 refusal_word (Trailing n) = codes "trailing"
 refusal_word Io = codes "io"
 refusal_word (Syntax p) = codes "syntax"
-refusal_word (Semantic p reason) = codes "semantic"
+refusal_word (Semantic p kind) = codes "semantic"
 refusal_word Nesting = codes "nesting"
 refusal_word TooLong = codes "toolong"
 refusal_word Memory = codes "memory"
@@ -78,7 +65,7 @@ refused_text Hex = hex_text
 refused_text (Trailing n) = trailing_text n
 refused_text Io = refusal_text refusal.io
 refused_text (Syntax p) = refusal_text (refusal.syntax p)
-refused_text (Semantic p reason) = refusal_text (refusal.semantic p (kind_of_reason reason))
+refused_text (Semantic p kind) = refusal_text (refusal.semantic p kind)
 refused_text Nesting = refusal_text refusal.recursion_limit_exceeded
 refused_text TooLong = refusal_text refusal.too_long
 refused_text Memory = codes "memory"
@@ -86,13 +73,13 @@ refused_text Memory = codes "memory"
 -- the offset of a refusal, or 0 where it has none
 abbrev pub refusal_offset : LineRefusal → ℕ
 refusal_offset (Syntax p) = p
-refusal_offset (Semantic p reason) = p
+refusal_offset (Semantic p kind) = p
 refusal_offset other = 0
 
 -- a refusal of bytes behind so many others, with its offset counted from the first of those
 abbrev pub refusal_behind : ℕ → LineRefusal → LineRefusal
 refusal_behind skipped (Syntax p) = Syntax (skipped + p)
-refusal_behind skipped (Semantic p reason) = Semantic (skipped + p) reason
+refusal_behind skipped (Semantic p kind) = Semantic (skipped + p) kind
 refusal_behind skipped other = other
 
 -- whether memory was refused

@@ -4,7 +4,7 @@
 use Rattle.std.specs.Prelude.{◌≡◌, ℕ, suc, ◌+◌, ◌^◌, ◌%◌, ◌<◌, ◌==◌, ◌&&◌, Bool, true, false, List, [], ◌∷◌, ◌++◌}
 use Rattle.std.specs.{Prelude.{length, if◌then◌else◌, nat_lt, MatchResult, codes, decimal, None, Some}, Bool.MatchBool}
 use Rattle.hex.specs.Hex.{decode_of, encode_lower}
-use Rattle.ciborium_ll.specs.{Head.{IsFloat, IsHead, IsSimple, break_byte, open_byte}, ItemHeads.{HasRead, unfinished_in}}
+use Rattle.ciborium_ll.specs.{Head.{IsFloat, IsHead, IsSimple, break_byte, open_byte}, ItemHeads.{HasRead, levels_of}}
 use Rattle.ciborium_ll.specs.{ItemHeads.unread, ItemLengths.IsNoItem, Levels.{AreItem, incomplete}}
 use Rattle.ciborium_ll.specs.StringRefusal.{StringType, IsAllowed, string_major}
 use Rattle.ciborium_ll.specs.{declared.header.Header.Header, declared.levels.Level.Level}
@@ -182,7 +182,7 @@ behind_begun _ around = around
 
 -- the head of an item was read, and behind the item these levels are left
 abbrev pub IsBegun : Header → ItemHeads → List Level → Type 0
-IsBegun header heads around = unfinished_in heads ≡ incomplete (behind_begun header around)
+IsBegun header heads around = levels_of heads ≡ incomplete (behind_begun header around)
 
 -- an item was shown, and so many bytes follow it
 abbrev pub IsFrontPushed : List ℕ → ℕ → List ℕ → List ℕ → Type 0

@@ -2,9 +2,10 @@
 -- section 4.2). Texts are lists of bytes.
 use Rattle.std.specs.Prelude.{◌≡◌, ◌⊎◌, ℕ, List, codes}
 use Rattle.ciborium_value.specs.{DeterministicForms.deterministic_form, Given.{gives, refuses}, Tree.Tree}
-use Rattle.ciborium_value.specs.{declared.key_order.KeyOrder.KeyOrder, declared.kind.Kind.Kind}
+use Rattle.ciborium_value.specs.declared.key_order.KeyOrder.{KeyOrder}
+use Rattle.ciborium_ll.specs.declared.kind.Kind.{Kind}
 use Rattle.cbor.specs.{declared.reading.Spelling.TheVariants.Any, Answer.{IsMeant, TellsRefusal}, Line.tree_text}
-use Rattle.ciborium_value.specs.declared.kind.Kind.TheVariants as kinds
+use Rattle.ciborium_ll.specs.declared.kind.Kind.TheVariants as kinds
 
 -- why a tree has no form, in a word
 abbrev pub formless_text : Kind → List ℕ

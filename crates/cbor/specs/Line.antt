@@ -1,21 +1,23 @@
 -- What the program answers to a line of hex. Texts are lists of bytes.
 use Rattle.std.specs.Prelude.{◌≡◌, ℕ, ◌<◌, List, ◌++◌, length, MatchResult, codes, decimal}
 use Rattle.hex.specs.Hex.{decode_of, encode_lower}
-use Rattle.ciborium_ll.specs.Refusal.{SemanticKind, Float, Simple, Break, TooLarge, NotShortest, NotFolded, KeyOrder}
-use Rattle.ciborium_ll.specs.Refusal.{Refusal, io, syntax, too_long, semantic, Open, recursion_limit_exceeded}
+use Rattle.ciborium_ll.specs.Refusal.{Refusal, io, syntax, too_long, semantic, recursion_limit_exceeded}
+use Rattle.ciborium_ll.specs.declared.kind.Kind.{Kind}
+use Rattle.ciborium_ll.specs.declared.kind.Kind.TheVariants as kinds
 use Rattle.ciborium_value.specs.{Encoding.encoding, Tree.Tree}
 use Rattle.cbor.specs.{declared.reading.Spelling.Spelling, Spellings.{HasItemBefore, IsItem, RefusesItem}}
 
--- why an item has no meaning, in a word
-abbrev pub kind_text : SemanticKind → List ℕ
-kind_text Float = codes "float"
-kind_text Simple = codes "simple"
-kind_text Break = codes "break"
-kind_text TooLarge = codes "toolarge"
-kind_text NotShortest = codes "notshortest"
-kind_text Open = codes "open"
-kind_text NotFolded = codes "notfolded"
-kind_text KeyOrder = codes "keyorder"
+-- why an item has no meaning, in a word; no other kind comes of reading a value
+abbrev pub kind_text : Kind → List ℕ
+kind_text kinds.Float = codes "float"
+kind_text kinds.Simple = codes "simple"
+kind_text kinds.Break = codes "break"
+kind_text kinds.TooLarge = codes "toolarge"
+kind_text kinds.NotShortest = codes "notshortest"
+kind_text kinds.Open = codes "open"
+kind_text kinds.NotFolded = codes "notfolded"
+kind_text kinds.KeyOrder = codes "keyorder"
+kind_text _ = codes "other"
 
 -- a refusal, with its offset in decimal where it has one
 abbrev pub refusal_text : Refusal → List ℕ

@@ -3,9 +3,10 @@
 use Rattle.std.specs.Prelude.{◌≡◌, ◌⊎◌, ℕ, ◌+◌, ◌<◌, ◌≤◌, Bool, true, false, List, [], ◌++◌, length, take, drop, Option}
 use Rattle.std.specs.Prelude.{Some, Result, MatchResult}
 use Rattle.ciborium_ll.specs.{ItemLengths.IsNoItem, Levels.AreItem, declared.item_heads.NoItem.NoItem}
-use Rattle.ciborium_value.specs.{Given.{gives, refuses}, Tree.Tree, View.tree_of, declared.kind.Kind.Kind}
+use Rattle.ciborium_value.specs.{Given.{gives, refuses}, Tree.Tree, View.tree_of}
+use Rattle.ciborium_ll.specs.declared.kind.Kind.{Kind}
 use Rattle.ciborium_value.specs.declared.tree.Value.{Value}
-use Rattle.cbor.specs.{declared.answer.LineRefusal.LineRefusal as Reason, declared.reading.Showing.Showing}
+use Rattle.cbor.specs.{declared.answer.LineRefusal.LineRefusal, declared.reading.Showing.Showing}
 use Rattle.cbor.specs.{declared.reading.Spelling.Spelling, declared.streams.Next.Next, Answer.IsFrontRefused}
 use Rattle.cbor.specs.{Answer.{refusal_behind, refused_text, wants_memory}, Dumped.IsDumpOf, Forms.formless_text}
 use Rattle.cbor.specs.{Lines.text_line, Sequence.refused_item_text, Shown.{shown_spelling, shown_text, shown_tree}}
@@ -23,7 +24,7 @@ refused_line place number reason = place ++ text_line (refused_item_text number 
 -- behind so many other bytes, b begins with no item within so many levels, and this is the reason,
 -- with an offset that is counted from the first of those; or with one that has no form
 abbrev pub TellsNoItem : Showing → ℕ → List ℕ → ℕ → List ℕ → Type 0
-TellsNoItem showing skipped b limit reason = ((e : Reason) × IsFrontRefused (shown_spelling showing) b limit e ×
+TellsNoItem showing skipped b limit reason = ((e : LineRefusal) × IsFrontRefused (shown_spelling showing) b limit e ×
     (wants_memory e ≡ false) × (reason ≡ refused_text (refusal_behind skipped e))) ⊎
     ((v : Tree) × (left : List ℕ) × (k : Kind) ×
     HasItemBefore (shown_spelling showing) b limit v left × (shown_tree showing v ≡ refuses k) ×
@@ -56,12 +57,12 @@ IsStreamShown place showing b limit w all after = (lines : List ℕ) ×
     AreItemsShown place showing limit 1 0 b all lines × (after ≡ Some (w ++ lines))
 
 -- the item s is judged so: it is a value, spelled so and within so many levels, or is refused
-abbrev pub IsJudged : Spelling → List ℕ → ℕ → Result Value Reason → Type 0
+abbrev pub IsJudged : Spelling → List ℕ → ℕ → Result Value LineRefusal → Type 0
 IsJudged spelling s limit judged = MatchResult judged
     (λ value. IsItem spelling s limit (tree_of value)) (λ e. IsFrontRefused spelling s limit e)
 
 -- an item of so many bytes begins b, and is judged so
-abbrev pub IsFront : Spelling → List ℕ → ℕ → Result Value Reason → ℕ → Type 0
+abbrev pub IsFront : Spelling → List ℕ → ℕ → Result Value LineRefusal → ℕ → Type 0
 IsFront spelling b limit judged size = (size ≤ length b) × AreItem (take size b) ×
     IsJudged spelling (take size b) limit judged
 
@@ -80,7 +81,7 @@ IsItemLine place showing limit number offset s false line = (reason : List ℕ) 
 
 -- of the bytes b the item at the front was read, spelled so and within so many levels, and is the
 -- value, of so many bytes, or is refused for this reason
-abbrev pub IsReadNext : Spelling → List ℕ → ℕ → Option (List ℕ) → Result (Value × ℕ) Reason → Type 0
+abbrev pub IsReadNext : Spelling → List ℕ → ℕ → Option (List ℕ) → Result (Value × ℕ) LineRefusal → Type 0
 IsReadNext spelling b limit after next = MatchResult next
     (λ item. (left : List ℕ) × HasItemBefore spelling b limit (tree_of item.0) left ×
     (after ≡ Some left) × (item.1 + length left ≡ length b)) (λ reason. IsFrontRefused spelling b limit reason)

@@ -1,10 +1,10 @@
 //! Why a line is no item, and its text.
 
 ghost use Rattle.std.specs.Prelude.{◌≡◌, ◌⊎◌, ◌+◌, ◌<◌, IfNone, IfSome, Some};
-ghost use Rattle.ciborium_value.specs.declared.kind.Kind.TheVariants.{DuplicateKey, TooLarge};
+ghost use Rattle.ciborium_ll.specs.declared.kind.Kind.TheVariants.{DuplicateKey, TooLarge};
 ghost use Rattle.ciborium_ll.specs.Bytes.{greatest_offset};
-ghost use Rattle.cbor.specs.Answer.{kind_of_reason, refusal_behind, refusal_offset, refusal_word};
-ghost use Rattle.cbor.specs.Answer.{refused_text, wants_memory};
+ghost use Rattle.cbor.specs.Answer.{refusal_behind, refusal_offset, refusal_word, refused_text};
+ghost use Rattle.cbor.specs.Answer.{wants_memory};
 ghost use Rattle.cbor.specs.Forms.{formless_text};
 ghost use Rattle.cbor.specs.Line.{kind_text};
 ghost use Rattle.cbor.specs.declared.answer.LineRefusal.TheVariants.{Memory};
@@ -25,34 +25,13 @@ pub enum LineRefusal {
     /// What stands at this offset is not well-formed.
     Syntax(usize),
     /// The item at this offset has no meaning, for this reason.
-    Semantic(usize, Reason),
+    Semantic(usize, Kind),
     /// An array, a map or a tag nests deeper than the limit.
     Nesting,
     /// The item would pass the greatest offset.
     TooLong,
     /// An allocation failed, and the line may be an item.
     Memory,
-}
-
-/// Why an item has no meaning.
-#[derive(Clone, Copy)]
-pub enum Reason {
-    /// It is a float.
-    Float,
-    /// It is a simple value that is not assigned.
-    Simple,
-    /// It is a break out of place.
-    Break,
-    /// It is a bignum out of range.
-    TooLarge,
-    /// Its head is not the shortest, or it is undefined, where its encoding is to be deterministic.
-    NotShortest,
-    /// It is of indefinite length, where its encoding is to be deterministic.
-    Open,
-    /// It is a bignum that has to be a shorter one, or a plain number.
-    NotFolded,
-    /// It is a key that does not follow the key before it in the wanted order.
-    KeyOrder,
 }
 
 impl LineRefusal {
@@ -71,8 +50,8 @@ impl LineRefusal {
     {
         match self {
             LineRefusal::Syntax(at) => Some(LineRefusal::Syntax(skipped.checked_add(at)?)),
-            LineRefusal::Semantic(at, reason) => {
-                Some(LineRefusal::Semantic(skipped.checked_add(at)?, reason))
+            LineRefusal::Semantic(at, kind) => {
+                Some(LineRefusal::Semantic(skipped.checked_add(at)?, kind))
             }
             other => Some(other),
         }
@@ -95,21 +74,20 @@ impl LineRefusal {
     }
 }
 
-impl Reason {
-    // What it prints.
-    fn word(self) -> &'static str
-        ensures { result.now ≡ kind_text (kind_of_reason self) }
-    {
-        match self {
-            Reason::Float => "float",
-            Reason::Simple => "simple",
-            Reason::Break => "break",
-            Reason::TooLarge => "toolarge",
-            Reason::NotShortest => "notshortest",
-            Reason::Open => "open",
-            Reason::NotFolded => "notfolded",
-            Reason::KeyOrder => "keyorder",
-        }
+// Why an item has no meaning, in a word.
+fn kind_word(kind: Kind) -> &'static str
+    ensures { result.now ≡ kind_text kind }
+{
+    match kind {
+        Kind::Float => "float",
+        Kind::Simple => "simple",
+        Kind::Break => "break",
+        Kind::TooLarge => "toolarge",
+        Kind::NotShortest => "notshortest",
+        Kind::Open => "open",
+        Kind::NotFolded => "notfolded",
+        Kind::KeyOrder => "keyorder",
+        _ => "other",
     }
 }
 
@@ -128,17 +106,11 @@ impl fmt::Display for LineRefusal {
         match self {
             LineRefusal::Trailing(count) => write!(f, "trailing {count}"),
             LineRefusal::Syntax(offset) => write!(f, "syntax {offset}"),
-            LineRefusal::Semantic(offset, reason) => write!(f, "semantic {offset} {reason}"),
+            LineRefusal::Semantic(offset, kind) => {
+                write!(f, "semantic {offset} {}", kind_word(*kind))
+            }
             _ => f.write_str(self.word()),
         }
-    }
-}
-
-impl fmt::Display for Reason {
-    ghost output = { λ reason. Some (kind_text (kind_of_reason reason)) };
-
-    fn fmt<W: fmt::Write>(&self, f: &mut fmt::Formatter<W>) -> fmt::Result {
-        f.write_str(self.word())
     }
 }
 

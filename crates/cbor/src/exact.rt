@@ -4,7 +4,7 @@ ghost use Rattle.std.specs.Prelude.{◌≡◌, ◌≤◌, ◌+◌, ◌==◌, ◌
 ghost use Rattle.std.specs.Prelude.{codes, decimal, drop, if◌then◌else◌, length, suc};
 ghost use Rattle.hex.specs.Hex.{encode_lower};
 ghost use Rattle.ciborium_ll.specs.Header.{SpellsHeader};
-ghost use Rattle.ciborium_ll.specs.ItemHeads.{HasRead, IsHeadRead, unfinished_in};
+ghost use Rattle.ciborium_ll.specs.ItemHeads.{HasRead, IsHeadRead, levels_of};
 ghost use Rattle.ciborium_ll.specs.Levels.{IsPayloadOf, incomplete};
 ghost use Rattle.ciborium_ll.specs.Strings.{string_header};
 ghost use Rattle.ciborium_ll.specs.declared.header.Header.TheVariants.{Break};
@@ -94,7 +94,7 @@ pub fn push_exact(alloc: Global, bytes: &[u8], text: &mut Vec<u8>) -> Result<usi
 // The next head, inside an item.
 fn next_head<'b>(heads: &mut ItemHeads<'b>) -> Result<ItemHead<'b>, Unshown>
     requires read { HasRead heads.old }
-    requires inside { ¬ (unfinished_in heads.old ≡ []) }
+    requires inside { ¬ (levels_of heads.old ≡ []) }
     ensures read { IfOk result (λ head.
         HasRead heads.new × IsHeadRead heads.old heads.new head) }
     ensures unshown { IfErr result (λ unshown. Explains heads.old.bytes.now unshown) }
@@ -110,12 +110,12 @@ fn next_head<'b>(heads: &mut ItemHeads<'b>) -> Result<ItemHead<'b>, Unshown>
 #[cycle(push_item)]
 fn push_next(alloc: Global, heads: &mut ItemHeads, text: &mut Vec<u8>) -> Result<(), Unshown>
     requires read { HasRead heads.old }
-    requires due { (n : ℕ) × (around : List Level) × (unfinished_in heads.old ≡ Items (suc n) ∷ around) }
+    requires due { (n : ℕ) × (around : List Level) × (levels_of heads.old ≡ Items (suc n) ∷ around) }
     ensures shown { OnOk result
         (IsPushed IsExactly heads.old heads.new text.old.items text.new.items) }
     ensures left { OnOk result ((n : ℕ) (around : List Level) →
-        unfinished_in heads.old ≡ Items (suc n) ∷ around →
-        unfinished_in heads.new ≡ incomplete (Items n ∷ around)) }
+        levels_of heads.old ≡ Items (suc n) ∷ around →
+        levels_of heads.new ≡ incomplete (Items n ∷ around)) }
     ensures unshown { IfErr result (λ unshown. Explains heads.old.bytes.now unshown) }
 {
     let head = next_head(heads)?;
@@ -138,7 +138,7 @@ fn push_item(
     ensures shown { OnOk result
         (IsItemPushed head.now heads.old heads.new text.old.items text.new.items) }
     ensures left { OnOk result ((around : List Level) →
-        IsBegun head.now.header heads.old around → unfinished_in heads.new ≡ incomplete around) }
+        IsBegun head.now.header heads.old around → levels_of heads.new ≡ incomplete around) }
     ensures unshown { IfErr result (λ unshown. Explains heads.old.bytes.now unshown) }
 {
     match head.header {
@@ -191,12 +191,12 @@ fn push_parts(
     text: &mut Vec<u8>,
 ) -> Result<(), Unshown>
     requires read { HasRead heads.old }
-    requires due { (around : List Level) × (unfinished_in heads.old ≡ incomplete (Items count ∷ around)) }
+    requires due { (around : List Level) × (levels_of heads.old ≡ incomplete (Items count ∷ around)) }
     ensures shown { OnOk result
         (IsPushed (AreExactly is_map count) heads.old heads.new text.old.items text.new.items) }
     ensures left { OnOk result ((around : List Level) →
-        unfinished_in heads.old ≡ incomplete (Items count ∷ around) →
-        unfinished_in heads.new ≡ incomplete around) }
+        levels_of heads.old ≡ incomplete (Items count ∷ around) →
+        levels_of heads.new ≡ incomplete around) }
     ensures unshown { IfErr result (λ unshown. Explains heads.old.bytes.now unshown) }
 {
     'parts: for place in 0..count {
@@ -215,11 +215,11 @@ fn push_open_parts(
     text: &mut Vec<u8>,
 ) -> Result<(), Unshown>
     requires read { HasRead heads.old }
-    requires due { (around : List Level) × (unfinished_in heads.old ≡ open_level is_map 0 ∷ around) }
+    requires due { (around : List Level) × (levels_of heads.old ≡ open_level is_map 0 ∷ around) }
     ensures shown { OnOk result
         (IsPushed (AreOpenParts is_map) heads.old heads.new text.old.items text.new.items) }
     ensures left { OnOk result ((around : List Level) →
-        unfinished_in heads.old ≡ open_level is_map 0 ∷ around → unfinished_in heads.new ≡ incomplete around) }
+        levels_of heads.old ≡ open_level is_map 0 ∷ around → levels_of heads.new ≡ incomplete around) }
     ensures unshown { IfErr result (λ unshown. Explains heads.old.bytes.now unshown) }
 {
     'parts: for place in 0..u128::MAX {
@@ -241,12 +241,12 @@ fn push_chunks(
     text: &mut Vec<u8>,
 ) -> Result<(), Unshown>
     requires read { HasRead heads.old }
-    requires due { (around : List Level) × (unfinished_in heads.old ≡ chunk_level string ∷ around) }
+    requires due { (around : List Level) × (levels_of heads.old ≡ chunk_level string ∷ around) }
     ensures shown { OnOk result
         (IsPushed (AreOpenChunks string) heads.old heads.new text.old.items
         text.new.items) }
     ensures left { OnOk result ((around : List Level) →
-        unfinished_in heads.old ≡ chunk_level string ∷ around → unfinished_in heads.new ≡ incomplete around) }
+        levels_of heads.old ≡ chunk_level string ∷ around → levels_of heads.new ≡ incomplete around) }
     ensures unshown { IfErr result (λ unshown. Explains heads.old.bytes.now unshown) }
 {
     'chunks: for place in 0..u128::MAX {

@@ -1,22 +1,21 @@
 //! From a line of hex to the value of its item, and from a value to the hex of its encoding.
 
-ghost use Rattle.std.specs.Prelude.{◌≡◌, ◌≢◌, ◌++◌, ℕ, IfErr, IfNone, IfOk, IfSome, IsSome, None};
+ghost use Rattle.std.specs.Prelude.{◌≡◌, ◌≢◌, ◌++◌, ℕ, IfErr, IfNone, IfOk, IfSome, None};
 ghost use Rattle.std.specs.Prelude.{OnOk, Some, false};
 ghost use Rattle.hex.specs.Hex.{encode_lower};
 ghost use Rattle.ciborium_value.specs.Encoding.{encoding};
 ghost use Rattle.ciborium_value.specs.View.{tree_of};
-ghost use Rattle.ciborium_value.specs.declared.kind.Kind.TheVariants.{TrailingData};
+ghost use Rattle.ciborium_ll.specs.declared.kind.Kind.TheVariants.{TrailingData};
 ghost use Rattle.ciborium.specs.declared.de.error.Error.TheVariants.{Semantic};
-ghost use Rattle.ciborium.specs.ValueAnswers.{IsRefusedBy, refusal_kind_of};
+ghost use Rattle.ciborium.specs.ValueAnswers.{IsRefusedBy};
 ghost use Rattle.ciborium.specs.NextItems.{IsReadIo};
 ghost use Rattle.ciborium.specs.ValueClauses.{ReadsWhole};
 ghost use Rattle.ciborium.specs.View.{read_as};
 ghost use Rattle.cbor.specs.Answer.{AreRefused, IsFrontRefused, IsMeant, IsRefused, StandsFor};
-ghost use Rattle.cbor.specs.Answer.{kind_of_reason};
 ghost use Rattle.cbor.specs.Spellings.{HasItemBefore, IsItem, spelling_of};
 ghost use Rattle.cbor.specs.declared.reading.Spelling.TheVariants.{Any};
 
-use crate::answer::{LineRefusal, Reason};
+use crate::answer::LineRefusal;
 use crate::digits::{decode_line, push_digits};
 use crate::reading::Spelling;
 use ciborium::de::{
@@ -133,9 +132,7 @@ pub fn name_refusal(error: Error<io::Error>, is_at_end: bool) -> Option<LineRefu
         Error::Io(_) => None,
         Error::Memory => Some(LineRefusal::Memory),
         Error::Syntax(offset) => Some(LineRefusal::Syntax(offset)),
-        Error::Semantic(Some(offset), kind) => {
-            Some(LineRefusal::Semantic(offset, classify_kind(kind)))
-        }
+        Error::Semantic(Some(offset), kind) => Some(LineRefusal::Semantic(offset, kind)),
         Error::Semantic(None, _) => unreachable!(),
         Error::RecursionLimitExceeded => Some(LineRefusal::Nesting),
         Error::TooLong => Some(LineRefusal::TooLong),
@@ -162,24 +159,6 @@ fn read_spelled<R: BufRead>(
         Spelling::Deterministic(order) => {
             from_buf_reader_deterministic_with_order(alloc, reader, limit, order)
         }
-    }
-}
-
-// The reason for a kind that reading a value names.
-fn classify_kind(kind: Kind) -> Reason
-    requires { IsSome (refusal_kind_of kind) }
-    ensures { refusal_kind_of kind ≡ Some (kind_of_reason result) }
-{
-    match kind {
-        Kind::Float => Reason::Float,
-        Kind::Simple => Reason::Simple,
-        Kind::Break => Reason::Break,
-        Kind::TooLarge => Reason::TooLarge,
-        Kind::NotShortest => Reason::NotShortest,
-        Kind::Open => Reason::Open,
-        Kind::NotFolded => Reason::NotFolded,
-        Kind::KeyOrder => Reason::KeyOrder,
-        _ => unreachable!(),
     }
 }
 

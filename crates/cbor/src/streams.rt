@@ -9,7 +9,7 @@ ghost use Rattle.ciborium_ll.specs.ItemLengths.{IsNoItem};
 ghost use Rattle.ciborium_ll.specs.Levels.{AreItem};
 ghost use Rattle.ciborium_ll.specs.declared.item_heads.NoItem.{NoItem};
 ghost use Rattle.ciborium_value.specs.View.{tree_of};
-ghost use Rattle.ciborium_value.specs.declared.kind.Kind.TheVariants.{DuplicateKey, TooLarge};
+ghost use Rattle.ciborium_ll.specs.declared.kind.Kind.TheVariants.{DuplicateKey, TooLarge};
 ghost use Rattle.ciborium.specs.ValueAnswers.{IsRefusedBy};
 ghost use Rattle.cbor.specs.Answer.{IsFrontRefused, refusal_behind, refused_text, wants_memory};
 ghost use Rattle.cbor.specs.Forms.{formless_text};

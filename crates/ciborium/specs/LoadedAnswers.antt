@@ -3,9 +3,9 @@
 use Rattle.std.specs.Prelude.{◌≡◌, ◌≢◌, ℕ, suc, ◌⊎◌, List, take, Some, None, Result, Ok, Err, IfErr, IfOk}
 use Rattle.ciborium_value.specs.{Encoding.encoding, Given.{gives, refuses}, Readings.Reading, Refuses.Refuses}
 use Rattle.ciborium_value.specs.{Sinks.Named, Spelling.deterministic, Tree.Tree, declared.key_order.KeyOrder.KeyOrder}
-use Rattle.ciborium_value.specs.declared.kind.Kind.{Kind, TheVariants.NotDeterministic}
+use Rattle.ciborium_ll.specs.declared.kind.Kind.{Kind, TheVariants.NotDeterministic}
 use Rattle.ciborium.specs.{DeterministicWrites.{HasForm, named_form}, SliceAnswers.ReadsAll}
-use Rattle.ciborium.specs.{ValueAnswers.refusal_kind_of, declared.de.error.Error.{Error, TheVariants.Memory}}
+use Rattle.ciborium.specs.declared.de.error.Error.{Error, TheVariants.Memory}
 use Rattle.ciborium.specs.declared.de.error.Error.TheVariants.{Semantic}
 use Rattle.ciborium_ll.specs.Refusal as refusal
 
@@ -22,8 +22,7 @@ DifferAt b c k = (take k b ≡ take k c) × (take (suc k) b ≢ take (suc k) c)
 pub data RefusesSpelling {E : Type 0} (o : KeyOrder) (l : ℕ) (b : List ℕ) (k : ℕ) :
     Error E → Type 0 where
   differs : RefusesSpelling o l b k (Semantic (Some k) NotDeterministic)
-  spelled : (p : ℕ) (kind : Kind) (name : refusal.SemanticKind) → refusal_kind_of kind ≡ Some name →
-      Refuses (deterministic o) b 0 (Some l) (refusal.semantic p name) →
+  spelled : (p : ℕ) (kind : Kind) → Refuses (deterministic o) b 0 (Some l) (refusal.semantic p kind) →
       RefusesSpelling o l b k (Semantic (Some p) kind)
 
 -- bytes that give a value which names this are refused: it has no form; they are not the encoding

@@ -3,7 +3,7 @@
 use Rattle.std.specs.Prelude.{ℕ, List, Option, Result, Ok, Err, IsErr}
 use Rattle.ciborium_ll.specs.{Item.Item, Writing.Writes}
 use Rattle.ciborium_value.specs.{Encoding.items_bytes, Places.items_from, WrittenItems.AreWritten}
-use Rattle.ciborium_value.specs.declared.kind.Kind.{Kind}
+use Rattle.ciborium_ll.specs.declared.kind.Kind.{Kind}
 
 -- what the values of a list name: the items that they write, or the kind of the first that has none
 abbrev pub AllNamed : Type 0

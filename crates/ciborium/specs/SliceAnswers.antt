@@ -2,7 +2,8 @@
 use Rattle.std.specs.Prelude.{◌≡◌, ◌≢◌, ℕ, ◌⊎◌, List, [], ◌++◌, length, Some, Result, Ok, Err, IfErr, IfOk, IfSome}
 use Rattle.ciborium_ll.specs.{Item.Item, Spells.Spells}
 use Rattle.ciborium_value.specs.{Readings.Reading, Sources.{IsFaultOf, IsGrantedFault}, View.read_as, Given.Given}
-use Rattle.ciborium_value.specs.{Given.{gives, outcome}, Tree.Tree, declared.kind.Kind.TheVariants.TrailingData}
+use Rattle.ciborium_value.specs.{Given.{gives, outcome}, Tree.Tree}
+use Rattle.ciborium_ll.specs.declared.kind.Kind.TheVariants.{TrailingData}
 use Rattle.ciborium_value.specs.{Spelling.{any, IsReadAs}, Refuses.Refuses}
 use Rattle.ciborium.specs.{Errors.fault_of, ValueAnswers.IsRefusedBy, declared.de.error.Error.Error}
 use Rattle.ciborium.specs.declared.de.error.Error.TheVariants.{Memory, Semantic}

@@ -3,30 +3,17 @@
 use Rattle.std.specs.Prelude.{◌≡◌, ℕ, ◌+◌, ◌≤◌, List, [], ◌++◌, length, Option, Some, None, Result, Ok, Err}
 use Rattle.std.specs.Io.KnownBytes.{Consumes}
 use Rattle.ciborium_ll.specs.{Bytes.{AreBytes, greatest_offset}, Refusal.Refusal}
-use Rattle.ciborium_value.specs.{Refuses.Refuses, Spelling.{Spelling, IsReadAs}, Tree.Tree, declared.kind.Kind.Kind}
+use Rattle.ciborium_value.specs.{Refuses.Refuses, Spelling.{Spelling, IsReadAs}, Tree.Tree}
+use Rattle.ciborium_ll.specs.declared.kind.Kind.{Kind}
 use Rattle.ciborium.specs.{declared.de.error.Error.Error, declared.de.error.Error.TheVariants.{Io, Syntax, Semantic}}
 use Rattle.ciborium.specs.declared.de.error.Error.TheVariants.{Memory, RecursionLimitExceeded, TooLong}
 use Rattle.ciborium_ll.specs.Refusal as refusal
-use Rattle.ciborium_value.specs.declared.kind.Kind.TheVariants as kinds
 
 -- ---- refusals
 
--- the kinds that reading a value names
-abbrev pub refusal_kind_of : Kind → Option refusal.SemanticKind
-refusal_kind_of kinds.Float = Some refusal.Float
-refusal_kind_of kinds.Simple = Some refusal.Simple
-refusal_kind_of kinds.Break = Some refusal.Break
-refusal_kind_of kinds.TooLarge = Some refusal.TooLarge
-refusal_kind_of kinds.NotShortest = Some refusal.NotShortest
-refusal_kind_of kinds.Open = Some refusal.Open
-refusal_kind_of kinds.NotFolded = Some refusal.NotFolded
-refusal_kind_of kinds.KeyOrder = Some refusal.KeyOrder
-refusal_kind_of _ = None
-
--- P holds of a refusal of a kind at an offset, and both are named
-abbrev pub IsNamed : Option ℕ → Option refusal.SemanticKind → (Refusal → Type 0) → Type 0
-IsNamed (Some p) (Some k) P = P (refusal.semantic p k)
-IsNamed (Some p) None P = ⊥
+-- P holds of a refusal of a kind at an offset, which is named
+abbrev pub IsNamed : Option ℕ → Kind → (Refusal → Type 0) → Type 0
+IsNamed (Some p) k P = P (refusal.semantic p k)
 IsNamed None k P = ⊥
 
 -- an error other than `Memory`, of a call that leaves this of the reader, is a refusal of which P
@@ -34,7 +21,7 @@ IsNamed None k P = ⊥
 abbrev pub IsRefusedBy : {E : Type 0} → Option (List ℕ) → Error E → (Refusal → Type 0) → Type 0
 IsRefusedBy left (Io e) P = left ≡ Some [] → P refusal.io
 IsRefusedBy left (Syntax p) P = P (refusal.syntax p)
-IsRefusedBy left (Semantic p k) P = IsNamed p (refusal_kind_of k) P
+IsRefusedBy left (Semantic p k) P = IsNamed p k P
 IsRefusedBy left RecursionLimitExceeded P = P refusal.recursion_limit_exceeded
 IsRefusedBy left Memory P = Unit {0}
 IsRefusedBy left TooLong P = P refusal.too_long

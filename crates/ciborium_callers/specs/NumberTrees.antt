@@ -8,7 +8,8 @@ use Rattle.ciborium.specs.{Meaning.trees_more, Nesting.nesting, Number.number_tr
 use Rattle.ciborium.specs.{ReadsBack.{met-itself, named}, Tree.{Tree, Trees}, View.trees_from, lemmas.Descriptions.both}
 use Rattle.ciborium.specs.lemmas.{ItemsOfTrees.tree_is_written_as_itself, ReadsBackParts.such_that_back}
 use Rattle.ciborium.specs.lemmas.ReadsBackValues.{value-back}
-use Rattle.ciborium_value.specs.declared.{key_order.KeyOrder.KeyOrder, kind.Kind.TheVariants.Other}
+use Rattle.ciborium_value.specs.declared.key_order.KeyOrder.{KeyOrder}
+use Rattle.ciborium_ll.specs.declared.kind.Kind.TheVariants.{Other}
 use Rattle.ciborium_callers.specs.declared.tree_types.NumberTree.{NumberTree, fold-NumberTree, TheOpen.NumberTree-F}
 use Rattle.ciborium.specs.Tree as trees
 

@@ -9,7 +9,7 @@ ghost use Rattle.ciborium.specs.OwnTypes.{under_tag};
 ghost use Rattle.ciborium.specs.Places.{dictionary, sequence};
 ghost use Rattle.ciborium.specs.Sinks.{container_of, in_turn, named_text};
 ghost use Rattle.ciborium.specs.Sinks.{number_item, open_container_of};
-ghost use Rattle.ciborium_value.specs.declared.kind.Kind.TheVariants.{Other, Range};
+ghost use Rattle.ciborium_ll.specs.declared.kind.Kind.TheVariants.{Other, Range};
 ghost use Rattle.ciborium_callers.specs.declared.own_types.Figure.TheVariants.{Circle, Point};
 
 use ciborium::de::{Deserialize, Source};

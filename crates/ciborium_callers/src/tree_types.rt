@@ -7,7 +7,7 @@ ghost use Rattle.ciborium.specs.ReadsBack.{by_form};
 ghost use Rattle.ciborium.specs.Tree as trees;
 ghost use Rattle.ciborium.specs.View.{tree_of, trees_of};
 ghost use Rattle.ciborium.specs.WrittenContents.{from_content};
-ghost use Rattle.ciborium_value.specs.declared.kind.Kind.TheVariants.{Other};
+ghost use Rattle.ciborium_ll.specs.declared.kind.Kind.TheVariants.{Other};
 ghost use Rattle.ciborium_value.specs.declared.error.Error.TheVariants.{Custom, Memory};
 ghost use Rattle.ciborium_callers.specs.NumberTrees.{are_number_trees, is_number_tree};
 ghost use Rattle.ciborium_callers.specs.NumberTrees.{number_tree-back, shape_of};

@@ -4,11 +4,11 @@ use Rattle.std.proofs.Common.{Bool, true, false, IsTrue, refl, sym, ap, subst, e
 use Rattle.std.proofs.{Common.{append_assoc, drop-drop, take-append-drop, length-take-le}, Math.Seq.take-add}
 use Rattle.std.proofs.lemmas.{Bool.eqb-false, List.{length-drop, take_rest}}
 use Rattle.ciborium_ll.proofs.{CutHeads.{cut-head, cut-string, long-no-break}, LevelEnds.{incomplete-again, unfinished-end}}
-use Rattle.ciborium_ll.proofs.{LevelEnds.{unfinished-incomplete, unfinished-start}, LevelFronts.unfinished-behind, LevelMisfits.no-item}
+use Rattle.ciborium_ll.proofs.{LevelEnds.{unfinished-incomplete, unfinished-start}, LevelFronts.left-behind, LevelMisfits.no-item}
 use Rattle.ciborium_ll.{proofs.UniqueSpelling.none_begins_another, specs.{Bytes.AreBytes, Head.break_byte}}
-use Rattle.ciborium_ll.specs.{Header.SpellsHeader, ItemHeads.{HasRead, unfinished_in, unread, was_read}}
+use Rattle.ciborium_ll.specs.{Header.SpellsHeader, ItemHeads.{HasRead, levels_of, unread, was_read}}
 use Rattle.ciborium_ll.specs.ItemLengths.{BeginNoItem, BeginText, EndInside, IsNoItem, Misfits, EntersTooMany}
-use Rattle.ciborium_ll.specs.{ItemLengths.StandsInside, Levels.{AreItem, EndAll, AreUnfinishedBehind, IsPayloadOf, behind_head}}
+use Rattle.ciborium_ll.specs.{ItemLengths.StandsInside, Levels.{AreItem, EndAll, AreLeftBehind, IsPayloadOf, behind_head}}
 use Rattle.ciborium_ll.specs.{Levels.incomplete, Refusal.argument_length, Spells.Spells, declared.header.Header.Header}
 use Rattle.ciborium_ll.specs.declared.{header.Header.TheVariants.{Bytes, Text}, item_heads.ItemHeads.ItemHeads}
 use Rattle.ciborium_ll.specs.declared.item_heads.NoItem.{NoItem, TheVariants.{Incomplete, Malformed, TooDeep}}
@@ -19,25 +19,25 @@ use Rattle.ciborium_ll.specs.declared.levels.Misfit.TheVariants as misfit
 
 -- ---- the beginning, and the end
 
-pub begun : (heads : ItemHeads) → heads.offset ≡ 0 → unfinished_in heads ≡ Items 1 ∷ [] → HasRead heads
+pub begun : (heads : ItemHeads) → heads.offset ≡ 0 → levels_of heads ≡ Items 1 ∷ [] → HasRead heads
 begun heads z e =
     let nothing : was_read heads ≡ [] = ap (λ n. take n heads.bytes.now) z in
     record {
       within = omega (arith, z);
-      levels = subst (λ levels. AreUnfinishedBehind (was_read heads) levels) (sym e)
-          (subst (λ c. AreUnfinishedBehind c (Items 1 ∷ [])) (sym nothing) unfinished-start);
+      levels = subst (λ levels. AreLeftBehind (was_read heads) levels) (sym e)
+          (subst (λ c. AreLeftBehind c (Items 1 ∷ [])) (sym nothing) unfinished-start);
       incomplete = ap incomplete e ∙ sym e;
     }
 
-pub whole-read : (heads : ItemHeads) → HasRead heads → unfinished_in heads ≡ [] → AreItem (was_read heads)
-whole-read heads h e = unfinished-end (was_read heads) (subst (AreUnfinishedBehind (was_read heads)) e h.levels)
+pub whole-read : (heads : ItemHeads) → HasRead heads → levels_of heads ≡ [] → AreItem (was_read heads)
+whole-read heads h e = unfinished-end (was_read heads) (subst (AreLeftBehind (was_read heads)) e h.levels)
 
 -- ---- no item
 
 both : (heads : ItemHeads) → was_read heads ++ unread heads ≡ heads.bytes.now
 both heads = take-append-drop heads.offset heads.bytes.now
 
-stands : (heads : ItemHeads) → HasRead heads → StandsInside heads.bytes.now heads.offset (unfinished_in heads) (unread heads)
+stands : (heads : ItemHeads) → HasRead heads → StandsInside heads.bytes.now heads.offset (levels_of heads) (unread heads)
 stands heads h = record {
   before = was_read heads;
   whole = sym (both heads);
@@ -45,19 +45,19 @@ stands heads h = record {
   inside = h.levels;
 }
 
-pub malformed : (heads : ItemHeads) → HasRead heads → ¬ (unfinished_in heads ≡ []) → Misfits (unfinished_in heads) (unread heads) →
+pub malformed : (heads : ItemHeads) → HasRead heads → ¬ (levels_of heads ≡ []) → Misfits (levels_of heads) (unread heads) →
     IsNoItem heads.bytes.now (Malformed heads.offset)
 malformed heads h some m = (
-  subst BeginNoItem (both heads) (no-item (was_read heads) (unread heads) (unfinished_in heads) h.incomplete some h.levels m),
-  (unfinished_in heads, unread heads, stands heads h, m),
+  subst BeginNoItem (both heads) (no-item (was_read heads) (unread heads) (levels_of heads) h.incomplete some h.levels m),
+  (levels_of heads, unread heads, stands heads h, m),
 )
 
-pub too-deep : (heads : ItemHeads) → HasRead heads → EntersTooMany (unfinished_in heads) (unread heads) →
+pub too-deep : (heads : ItemHeads) → HasRead heads → EntersTooMany (levels_of heads) (unread heads) →
     IsNoItem heads.bytes.now (TooDeep heads.offset)
-too-deep heads h many = (unfinished_in heads, unread heads, stands heads h, many)
+too-deep heads h many = (levels_of heads, unread heads, stands heads h, many)
 
 -- what can be completed behind what was read is the beginning of an item
-cut : (heads : ItemHeads) → HasRead heads → (t : List ℕ) → 0 < length t → EndAll (unfinished_in heads) (unread heads ++ t) →
+cut : (heads : ItemHeads) → HasRead heads → (t : List ℕ) → 0 < length t → EndAll (levels_of heads) (unread heads ++ t) →
     IsNoItem heads.bytes.now Incomplete
 cut heads h t some e = (
   t,
@@ -66,32 +66,32 @@ cut heads h t some e = (
       (h.levels.complete (unread heads ++ t) e),
 )
 
-pub cut-inside-head : (heads : ItemHeads) → HasRead heads → ¬ (unfinished_in heads ≡ []) → AreBytes (unread heads) →
-    IsCut (unread heads) → MayBeChunk (unfinished_in heads) (unread heads) → IsNoItem heads.bytes.now Incomplete
+pub cut-inside-head : (heads : ItemHeads) → HasRead heads → ¬ (levels_of heads ≡ []) → AreBytes (unread heads) →
+    IsCut (unread heads) → MayBeChunk (levels_of heads) (unread heads) → IsNoItem heads.bytes.now Incomplete
 cut-inside-head heads h some bytes ends chunk =
-    let more = cut-head (unfinished_in heads) (unread heads) some h.incomplete ends bytes chunk in
+    let more = cut-head (levels_of heads) (unread heads) some h.incomplete ends bytes chunk in
     cut heads h more.0 more.1 more.2
 
 pub cut-inside-payload : (heads : ItemHeads) (header : Header) (size : ℕ) (more : List Level) → HasRead heads →
-    SpellsHeader (take size (unread heads)) header → behind_head header (unfinished_in heads) ≡ Some more →
+    SpellsHeader (take size (unread heads)) header → behind_head header (levels_of heads) ≡ Some more →
     IsCutPayload header (drop size (unread heads)) → IsNoItem heads.bytes.now Incomplete
 cut-inside-payload heads header size more h spelled placed part =
     let rest = unread heads in
-    let t = cut-string header (take size rest) (drop size rest) (unfinished_in heads) more spelled placed part in
-    cut heads h t.0 t.1 (subst (λ (b : List ℕ). EndAll (unfinished_in heads) (b ++ t.0)) (take-append-drop size rest) t.2)
+    let t = cut-string header (take size rest) (drop size rest) (levels_of heads) more spelled placed part in
+    cut heads h t.0 t.1 (subst (λ (b : List ℕ). EndAll (levels_of heads) (b ++ t.0)) (take-append-drop size rest) t.2)
 
 -- ---- a head
 
 -- it may not stand there
 pub misplaced : (heads : ItemHeads) (header : Header) (size : ℕ) → SpellsHeader (take size (unread heads)) header →
-    behind_head header (unfinished_in heads) ≡ None → Misfits (unfinished_in heads) (unread heads)
+    behind_head header (levels_of heads) ≡ None → Misfits (levels_of heads) (unread heads)
 misplaced heads header size spelled none = Misfits.misplaced header (take size (unread heads))
     (drop size (unread heads)) spelled (sym (take-append-drop size (unread heads))) none
 
 -- it enters too many levels
 pub enters-too-many : (heads : ItemHeads) (header : Header) (size : ℕ) → SpellsHeader (take size (unread heads)) header →
-    (more : List Level) × (behind_head header (unfinished_in heads) ≡ Some more) × (length (unfinished_in heads) ≡ 257) ×
-    (length more ≡ 258) → EntersTooMany (unfinished_in heads) (unread heads)
+    (more : List Level) × (behind_head header (levels_of heads) ≡ Some more) × (length (levels_of heads) ≡ 257) ×
+    (length more ≡ 258) → EntersTooMany (levels_of heads) (unread heads)
 enters-too-many heads header size spelled (more, placed, kept, one) = (
   header,
   take size (unread heads),
@@ -107,7 +107,7 @@ enters-too-many heads header size spelled (more, placed, kept, one) = (
 -- it is that of a text of which the payload is none
 pub no-text : (heads : ItemHeads) (header : Header) (size : ℕ) → SpellsHeader (take size (unread heads)) header →
     (n : ℕ) × (header ≡ Text (Some n)) × ¬ BeginText n (take n (drop size (unread heads))) →
-    Misfits (unfinished_in heads) (unread heads)
+    Misfits (levels_of heads) (unread heads)
 no-text heads header size spelled (n, is, none) =
     Misfits.no_text n (take size (unread heads)) (drop size (unread heads))
     (subst (SpellsHeader (take size (unread heads))) is spelled) (sym (take-append-drop size (unread heads))) none
@@ -123,7 +123,7 @@ behind heads n levels = record {
 pub head-read : (heads : ItemHeads) (header : Header) (size n : ℕ) (levels : Levels) → HasRead heads →
     SpellsHeader (take size (unread heads)) header → size ≤ length (unread heads) →
     (n ≤ length (drop size (unread heads))) × IsPayloadOf header (take n (drop size (unread heads))) →
-    (more : List Level) × (behind_head header (unfinished_in heads) ≡ Some more) × (levels_in levels ≡ incomplete more) →
+    (more : List Level) × (behind_head header (levels_of heads) ≡ Some more) × (levels_in levels ≡ incomplete more) →
     HasRead (behind heads (size + n) levels)
 head-read heads header size n levels h spelled room (there, payload) (more, placed, after) =
     let rest = unread heads in
@@ -131,12 +131,12 @@ head-read heads header size n levels h spelled room (there, payload) (more, plac
     ≡ was_read heads ++ (take size rest ++ take n (drop size rest)) =
     take-add heads.offset (size + n) heads.bytes.now ∙
     ap (λ (b : List ℕ). was_read heads ++ b) (take-add size n rest) in
-    let state = unfinished-incomplete _ more (unfinished-behind (was_read heads) header (take size rest) (take n (drop size rest))
-    (unfinished_in heads) more spelled payload placed h.levels) in
+    let state = unfinished-incomplete _ more (left-behind (was_read heads) header (take size rest) (take n (drop size rest))
+    (levels_of heads) more spelled payload placed h.levels) in
     record {
       within = omega (arith, room, there, length-drop size rest, length-drop heads.offset heads.bytes.now, h.within);
-      levels = subst (λ (b : List ℕ). AreUnfinishedBehind b (levels_in levels)) (sym read)
-          (subst (λ (ls : List Level). AreUnfinishedBehind (was_read heads ++ (take size rest ++ take n (drop size rest))) ls)
+      levels = subst (λ (b : List ℕ). AreLeftBehind b (levels_in levels)) (sym read)
+          (subst (λ (ls : List Level). AreLeftBehind (was_read heads ++ (take size rest ++ take n (drop size rest))) ls)
           (sym after) state);
       incomplete = ap incomplete after ∙ incomplete-again more ∙ sym after;
     }

@@ -4,7 +4,7 @@ use Rattle.std.proofs.Common.{append-nil, append_assoc}
 use Rattle.ciborium_ll.specs.{declared.levels.Level.Level, declared.levels.Level.TheVariants.{Items, OpenItems}}
 use Rattle.ciborium_ll.specs.declared.levels.Level.TheVariants.{OpenKeys, OpenValues, ByteChunks, TextChunks}
 use Rattle.ciborium_ll.specs.{Head.within, Item.{unsigned, no_items, item, no_pairs, items_count, pairs_count}}
-use Rattle.ciborium_ll.specs.{Levels.{Ends, EndAll, EndsPairs, AreItem, AreUnfinishedBehind, incomplete}, Spells.Spells}
+use Rattle.ciborium_ll.specs.{Levels.{Ends, EndAll, EndsPairs, AreItem, AreLeftBehind, incomplete}, Spells.Spells}
 use Rattle.ciborium_ll.proofs.LevelsTo.{Standing, ItemsTo, LevelTo, LevelsTo, items-to, pairs-to, to-items, to-pairs}
 use Rattle.ciborium_ll.proofs.LevelsTo.{to-incomplete, from-incomplete, start, started}
 
@@ -91,7 +91,7 @@ incomplete-again (Items zero ∷ levels) = incomplete-again levels
 incomplete-again u = refl
 
 -- complete levels may be dropped
-pub unfinished-incomplete : (c : List ℕ) (levels : List Level) → AreUnfinishedBehind c levels → AreUnfinishedBehind c (incomplete levels)
+pub unfinished-incomplete : (c : List ℕ) (levels : List Level) → AreLeftBehind c levels → AreLeftBehind c (incomplete levels)
 unfinished-incomplete c levels o = record {
   complete = λ b e. o.complete b
       (to-end levels b (from-incomplete anywhere levels b [] (end-to (incomplete levels) b e)));
@@ -100,7 +100,7 @@ unfinished-incomplete c levels o = record {
 
 -- ---- before the first byte of an item, and behind its last
 
-pub unfinished-start : AreUnfinishedBehind [] (Items 1 ∷ [])
+pub unfinished-start : AreLeftBehind [] (Items 1 ∷ [])
 unfinished-start = record {
   complete = λ b e.
       let (i, s, spelled, whole, w) = started anywhere b [] (end-to (Items 1 ∷ []) b e) in
@@ -108,7 +108,7 @@ unfinished-start = record {
   only = λ b h. to-end (Items 1 ∷ []) b (start anywhere b [] (h.0, b, h.1, sym (append-nil b), tt));
 }
 
-pub unfinished-end : (c : List ℕ) → AreUnfinishedBehind c [] → AreItem c
+pub unfinished-end : (c : List ℕ) → AreLeftBehind c [] → AreItem c
 unfinished-end c o = subst AreItem (append-nil c) (o.complete [] refl)
 
 -- ---- levels can be completed

@@ -5,7 +5,7 @@ use Rattle.ciborium_ll.proofs.{LevelEnds.{anywhere, end-to, to-end}, LevelHeads.
 use Rattle.ciborium_ll.proofs.LevelsTo.{ItemsTo, LevelTo, LevelsTo, around, behind-around, items-to, pairs-to}
 use Rattle.ciborium_ll.{proofs.OneHeader.one_header_at_front, specs.{Head.{IsHead, open_byte}, Header.SpellsHeader}}
 use Rattle.ciborium_ll.specs.Item.{Item, unsigned, negative, bytes, text, array, map, tag, simple, float, items_count}
-use Rattle.ciborium_ll.specs.{Item.pairs_count, Levels.{EndAll, IsPayloadOf, AreUnfinishedBehind, AreItem, entered}}
+use Rattle.ciborium_ll.specs.{Item.pairs_count, Levels.{EndAll, IsPayloadOf, AreLeftBehind, AreItem, entered}}
 use Rattle.ciborium_ll.specs.Levels.{behind_item, behind_bytes, behind_text, behind_break, behind_head, incomplete}
 use Rattle.ciborium_ll.specs.{Spells.Spells, StringRefusal.{StringType, IsAllowed, string_major}}
 use Rattle.ciborium_ll.specs.declared.{header.Header.Header, levels.Level.{Level, TheVariants.{Items, OpenItems}}}
@@ -274,10 +274,10 @@ pub ends-behind : (header : Header) (h payload : List ℕ) (levels more : List L
 ends-behind header h payload levels more b spelled content behind ends = to-end levels (h ++ (payload ++ b))
     (to-behind anywhere header h payload b [] levels more spelled content behind (λ t. tt) (end-to more b ends))
 
-pub unfinished-behind : (c : List ℕ) (header : Header) (h payload : List ℕ) (levels more : List Level) →
+pub left-behind : (c : List ℕ) (header : Header) (h payload : List ℕ) (levels more : List Level) →
     SpellsHeader h header → IsPayloadOf header payload → behind_head header levels ≡ Some more →
-    AreUnfinishedBehind c levels → AreUnfinishedBehind (c ++ (h ++ payload)) more
-unfinished-behind c header h payload levels more spelled content behind o = record {
+    AreLeftBehind c levels → AreLeftBehind (c ++ (h ++ payload)) more
+left-behind c header h payload levels more spelled content behind o = record {
   complete = λ b e. subst AreItem (sym (placed b))
       (o.complete (h ++ (payload ++ b)) (ends-behind header h payload levels more b spelled content behind e));
   only = λ b i. to-end more b (behind-to anywhere header h payload b [] levels more spelled content behind

@@ -7,7 +7,7 @@ use Rattle.ciborium_ll.proofs.{LevelFronts.{HeadTo, front-of-end}, OneHeader.one
 use Rattle.ciborium_ll.{proofs.{UniqueSpelling.none_begins_another, UsableHeads.information-below}, specs.Head.IsHead}
 use Rattle.ciborium_ll.specs.{Head.{information, argument_bytes, initial_byte}, Header.SpellsHeader}
 use Rattle.ciborium_ll.specs.ItemLengths.{Misfits, ill_formed, misplaced, no_chunk, no_text, BeginNoItem, BeginText}
-use Rattle.ciborium_ll.specs.{ItemLengths.chunk_major, Levels.{EndAll, AreItem, AreUnfinishedBehind, IsPayloadOf, behind_head}}
+use Rattle.ciborium_ll.specs.{ItemLengths.chunk_major, Levels.{EndAll, AreItem, AreLeftBehind, IsPayloadOf, behind_head}}
 use Rattle.ciborium_ll.specs.{Levels.incomplete, Refusal.{argument_length, is_reserved, is_low_simple, is_ill_formed}}
 use Rattle.ciborium_ll.specs.declared.{header.Header.Header, levels.Level.{Level, TheVariants.{ByteChunks, TextChunks}}}
 use Rattle.ciborium_ll.specs.declared.header.Header.TheVariants as heads
@@ -171,7 +171,7 @@ last-empty [] b e = e
 last-empty (x ∷ y) b e = absurd cc
 
 pub no-item : (c r : List ℕ) (levels : List Level) → incomplete levels ≡ levels →
-    ¬ (levels ≡ []) → AreUnfinishedBehind c levels → Misfits levels r → BeginNoItem (c ++ r)
+    ¬ (levels ≡ []) → AreLeftBehind c levels → Misfits levels r → BeginNoItem (c ++ r)
 no-item c r levels normal some o misfit t s z e found =
     by (overlap c (r ++ t) s z (sym (append_assoc c r t) ∙ e))
   where

@@ -3,7 +3,7 @@ use Rattle.std.specs.Prelude.{◌≡◌, ℕ, ◌-◌, ◌≤◌, List, [], ◌+
 use Rattle.ciborium_ll.specs.{declared.item_heads.ItemHead.ItemHead, declared.item_heads.ItemHeads.ItemHeads}
 use Rattle.ciborium_ll.specs.{declared.item_heads.NoItem.NoItem, declared.item_heads.NoItem.TheVariants.Incomplete}
 use Rattle.ciborium_ll.specs.{declared.item_heads.NoItem.TheVariants.{Malformed, TooDeep}, declared.levels.Level.Level}
-use Rattle.ciborium_ll.specs.{Header.SpellsHeader, ItemLengths.{EndInside, IsNoItem}, Levels.{AreItem, AreUnfinishedBehind}}
+use Rattle.ciborium_ll.specs.{Header.SpellsHeader, ItemLengths.{EndInside, IsNoItem}, Levels.{AreItem, AreLeftBehind}}
 use Rattle.ciborium_ll.specs.{Levels.{IsPayloadOf, behind_head, incomplete}, inner.KeptLevels.levels_in}
 
 -- what was read, and what is unread
@@ -14,14 +14,14 @@ abbrev pub unread : ItemHeads → List ℕ
 unread heads = drop heads.offset heads.bytes.now
 
 -- the levels that are unfinished, the innermost first
-abbrev pub unfinished_in : ItemHeads → List Level
-unfinished_in heads = levels_in heads.levels
+abbrev pub levels_of : ItemHeads → List Level
+levels_of heads = levels_in heads.levels
 
 -- what was read is the beginning of an item, or all of one where no level is unfinished
 pub record HasRead (heads : ItemHeads) : Type 0 where
   pub within : heads.offset ≤ length heads.bytes.now
-  pub levels : AreUnfinishedBehind (was_read heads) (unfinished_in heads)
-  pub incomplete : incomplete (unfinished_in heads) ≡ unfinished_in heads
+  pub levels : AreLeftBehind (was_read heads) (levels_of heads)
+  pub incomplete : incomplete (levels_of heads) ≡ levels_of heads
 
 -- this head was read, which stood at the front of what was unread, with its payload
 pub record IsHeadRead (old new : ItemHeads) (head : ItemHead) : Type 0 where
@@ -30,9 +30,9 @@ pub record IsHeadRead (old new : ItemHeads) (head : ItemHead) : Type 0 where
   pub payload : IsPayloadOf head.header head.payload.now
   pub front : unread old ≡ head.bytes.now ++ (head.payload.now ++ unread new)
   pub offset : head.offset ≡ old.offset
-  pub depth : head.depth ≡ length (unfinished_in old) - 1
-  pub levels : (more : List Level) × (behind_head head.header (unfinished_in old) ≡ Some more) ×
-      (unfinished_in new ≡ incomplete more)
+  pub depth : head.depth ≡ length (levels_of old) - 1
+  pub levels : (more : List Level) × (behind_head head.header (levels_of old) ≡ Some more) ×
+      (levels_of new ≡ incomplete more)
 
 -- the reason shows right behind what was read
 abbrev pub ShowsAt : ItemHeads → NoItem → Type 0
@@ -42,6 +42,6 @@ ShowsAt heads (TooDeep p) = p ≡ heads.offset
 
 -- the next head is answered so: none where what was read is an item
 abbrev pub IsNext : ItemHeads → ItemHeads → Result (Option ItemHead) NoItem → Type 0
-IsNext old new (Ok None) = AreItem (was_read old) × (unfinished_in old ≡ []) × (new ≡ old)
+IsNext old new (Ok None) = AreItem (was_read old) × (levels_of old ≡ []) × (new ≡ old)
 IsNext old new (Ok (Some head)) = HasRead new × IsHeadRead old new head
 IsNext old new (Err e) = IsNoItem old.bytes.now e × ShowsAt old e

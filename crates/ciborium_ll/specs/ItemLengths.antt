@@ -2,7 +2,7 @@
 -- section 5.3.1, and appendix C).
 use Rattle.std.specs.Prelude.{◌≡◌, ℕ, ◌/◌, ◌%◌, ◌<◌, ◌≤◌, true, false, List, [], ◌∷◌, ◌++◌, length, IsUtf8, Option}
 use Rattle.std.specs.Prelude.{Some, None, take, Result, Ok, Err}
-use Rattle.ciborium_ll.specs.{Head.break_byte, Header.{SpellsHeader, announced_length}, Levels.{AreItem, AreUnfinishedBehind}}
+use Rattle.ciborium_ll.specs.{Head.break_byte, Header.{SpellsHeader, announced_length}, Levels.{AreItem, AreLeftBehind}}
 use Rattle.ciborium_ll.specs.{Levels.behind_head, Refusal.{argument_length, is_ill_formed}}
 use Rattle.ciborium_ll.specs.declared.{header.Header.{Header, TheVariants.Text}, item_heads.NoItem.NoItem}
 use Rattle.ciborium_ll.specs.declared.item_heads.NoItem.TheVariants.{Incomplete, Malformed, TooDeep}
@@ -41,7 +41,7 @@ pub record StandsInside (b : List ℕ) (p : ℕ) (levels : List Level) (r : List
   pub before : List ℕ
   pub whole : b ≡ before ++ r
   pub at : length before ≡ p
-  pub inside : AreUnfinishedBehind before levels
+  pub inside : AreLeftBehind before levels
 
 -- the bytes end inside a head, or before one, or inside the payload of a definite string
 pub data EndInside (b : List ℕ) : Type 0 where

@@ -39,8 +39,8 @@ EndAll (level ∷ levels) b = (s : List ℕ) × (r : List ℕ) × Ends level s �
 abbrev pub AreItem : List ℕ → Type 0
 AreItem b = (i : Item) × Spells b i
 
--- behind the bytes c these levels are unfinished: what ends them completes an item, and nothing else does
-pub record AreUnfinishedBehind (c : List ℕ) (levels : List Level) : Type 0 where
+-- behind the bytes c these levels are left: what ends them completes an item, and nothing else does
+pub record AreLeftBehind (c : List ℕ) (levels : List Level) : Type 0 where
   pub complete : (b : List ℕ) → EndAll levels b → AreItem (c ++ b)
   pub only : (b : List ℕ) → AreItem (c ++ b) → EndAll levels b
 

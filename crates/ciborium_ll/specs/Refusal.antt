@@ -4,18 +4,9 @@ use Rattle.std.specs.Prelude.{◌≡◌, ℕ, ◌+◌, ◌/◌, ◌%◌, List, [
 use Rattle.std.specs.{Prelude.{◌&&◌, ◌||◌, nat_lt, nat_le, slice_index, take, Option, Some, None}, Int.from_be_bytes}
 use Rattle.std.specs.Int.{w16, w32, w64}
 use Rattle.ciborium_ll.specs.{Bytes.greatest_offset, Head.IsHead}
-
--- why a well-formed item, or a break, has no meaning where it stands
-pub data SemanticKind : Type 0 where
-  Float : SemanticKind
-  Simple : SemanticKind
-  Break : SemanticKind
-  TooLarge : SemanticKind
-  -- a deterministic reader alone refuses these
-  NotShortest : SemanticKind
-  Open : SemanticKind
-  NotFolded : SemanticKind
-  KeyOrder : SemanticKind
+pub use Rattle.ciborium_ll.specs.declared.kind.Kind.{Kind}
+pub use Rattle.ciborium_ll.specs.declared.kind.Kind.TheVariants.{Float, Simple, Break, TooLarge, NotShortest, Open}
+pub use Rattle.ciborium_ll.specs.declared.kind.Kind.TheVariants.{NotFolded, KeyOrder}
 
 -- what reading answers in place of a value; numbers are offsets
 pub data Refusal : Type 0 where
@@ -25,8 +16,8 @@ pub data Refusal : Type 0 where
   syntax : ℕ → Refusal
   -- the next bytes would take the offset past the greatest
   too_long : Refusal
-  -- the item that begins here has no meaning, for this reason
-  semantic : ℕ → SemanticKind → Refusal
+  -- the item that begins here, or a break, has no meaning where it stands, for this reason
+  semantic : ℕ → Kind → Refusal
   -- a container or tag stands where no level is left
   recursion_limit_exceeded : Refusal
 

@@ -114,14 +114,14 @@ fn payload_of(header: Header, rest: &[u8]) -> Payload
 impl<'b> ItemHeads<'b> {
     ghost use Rattle.std.specs.Prelude.{◌≡◌, ◌∷◌, [], IsFalse, IsTrue};
     ghost use Rattle.ciborium_ll.specs.declared.levels.Level.TheVariants.{Items};
-    ghost use Rattle.ciborium_ll.specs.ItemHeads.{HasRead, IsNext, unfinished_in, unread};
+    ghost use Rattle.ciborium_ll.specs.ItemHeads.{HasRead, IsNext, levels_of, unread};
     ghost use Rattle.ciborium_ll.specs.inner.Fronts.{IsNoChunk, MayBeChunk};
 
     /// Reads the heads of the item at the front of these bytes.
     pub fn new(bytes: &'b [u8]) -> ItemHeads<'b>
         ensures bytes { result.bytes.now ≡ bytes.now }
         ensures offset { result.offset ≡ 0 }
-        ensures levels { unfinished_in result ≡ Items 1 ∷ [] }
+        ensures levels { levels_of result ≡ Items 1 ∷ [] }
         ensures begins { HasRead result }
     {
         ItemHeads {
@@ -150,8 +150,8 @@ impl<'b> ItemHeads<'b> {
 
     // Whether this begins no part of the string of indefinite length that is read, and no break.
     fn is_no_chunk(&self, rest: &[u8]) -> bool
-        ensures yes { IsTrue result → IsNoChunk (unfinished_in self.now) rest.now }
-        ensures no { IsFalse result → MayBeChunk (unfinished_in self.now) rest.now }
+        ensures yes { IsTrue result → IsNoChunk (levels_of self.now) rest.now }
+        ensures no { IsFalse result → MayBeChunk (levels_of self.now) rest.now }
     {
         let Some(major) = self.levels.chunk_major() else {
             return false;

@@ -7,7 +7,7 @@ use Rattle.ciborium_value.specs.Given.{gives, mapped, nests, outcome, outcome_ma
 use Rattle.ciborium_value.proofs.Sources.Sequences.{so, Follows, IsPast, IsInside, IsBlamed, goes_on, reads}
 use Rattle.ciborium_value.proofs.Sources.Sequences.{blames_part, leaves, fault_map, fault_then}
 use Rattle.ciborium_tests.specs.Few.{few_items}
-use Rattle.ciborium_value.specs.declared.kind.Kind.TheVariants as kinds
+use Rattle.ciborium_ll.specs.declared.kind.Kind.TheVariants as kinds
 
 -- what such a sequence becomes of which these items were read, and n more have room
 abbrev pub few_from : {A : Type 0} → Given A → ℕ → List A → List Item → Steps (List A)

@@ -2,7 +2,7 @@
 use Rattle.std.specs.Prelude.{ℕ, zero, suc, List, [], ◌∷◌}
 use Rattle.ciborium_ll.specs.Item.{Item}
 use Rattle.ciborium_value.specs.{Given.{Steps, Given, give, mapped, refuse, then_read}, GivenParts.after_seq}
-use Rattle.ciborium_value.specs.declared.kind.Kind.TheVariants as kinds
+use Rattle.ciborium_ll.specs.declared.kind.Kind.TheVariants as kinds
 
 -- one more, where there is room for it; else a refusal, whatever it is
 abbrev pub one_of_few : {A : Type 0} → ℕ → Steps A → (ℕ → Steps (List A)) → Steps (List A)

@@ -15,7 +15,7 @@ use Rattle.ciborium_uses.specs.Envelopes.{is_empty, is_label_map}
 use Rattle.ciborium.specs.Item as item
 use Rattle.ciborium.specs.Tree as trees
 use Rattle.ciborium_value.specs.declared.error.Error.TheVariants as errors
-use Rattle.ciborium_value.specs.declared.kind.Kind.TheVariants as kinds
+use Rattle.ciborium_ll.specs.declared.kind.Kind.TheVariants as kinds
 
 -- ---- folding keeps labels
 

@@ -6,7 +6,7 @@ use Rattle.ciborium_value.specs.{Canonical.key_order, Folded.tree_folding_bytes,
 use Rattle.ciborium_value.specs.{Given.{gives, nests, of_meaning, outcome_map, refuses, then_take}, Tree.Tree}
 use Rattle.ciborium_value.specs.Tree.{integer, bytes, text, boolean, null, tag, array, map, Trees, no_trees, tree}
 use Rattle.ciborium_value.specs.{Tree.{TreePairs, no_tree_pairs, tree_pair}, declared.key_order.KeyOrder.KeyOrder}
-use Rattle.ciborium_value.specs.declared.kind.Kind.TheVariants as kinds
+use Rattle.ciborium_ll.specs.declared.kind.Kind.TheVariants as kinds
 
 -- ---- pairs in order
 

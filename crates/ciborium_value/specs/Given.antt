@@ -6,10 +6,10 @@ use Rattle.std.specs.{Prelude.Err, Int.complement_if, Str.is_utf8}
 use Rattle.ciborium_ll.specs.Item.{Item, Items, Pairs, unsigned, negative, bytes, text, array, tag, simple, float}
 use Rattle.ciborium_value.specs.Meaning.{big_endian, without_zeros, is_bignum_tag, folding_bytes, bignum_meaning}
 use Rattle.ciborium_value.specs.{Meaning.simple_meaning, Nesting.{Limit, nesting}, Tree.{Tree, Trees, TreePairs}}
-use Rattle.ciborium_value.specs.declared.kind.Kind.{Kind}
+use Rattle.ciborium_ll.specs.declared.kind.Kind.{Kind}
 use Rattle.ciborium_ll.specs.Item as items
 use Rattle.ciborium_value.specs.Tree as trees
-use Rattle.ciborium_value.specs.declared.kind.Kind.TheVariants as kinds
+use Rattle.ciborium_ll.specs.declared.kind.Kind.TheVariants as kinds
 
 -- what reading an item gives within a limit
 pub data Outcome (A : Type 0) : Type 0 where

@@ -4,7 +4,7 @@ use Rattle.std.specs.{Prelude.{Some, None, ◌&&◌}, declared.cmp.Ordering.Orde
 use Rattle.ciborium_ll.specs.Item.{Item}
 use Rattle.ciborium_value.specs.Given.{Steps, Given, chosen, give, is_null, mapped, read_inside, refuse, take_each}
 use Rattle.ciborium_value.specs.Given.{given_pairs, given_seq, given_value, then_read}
-use Rattle.ciborium_value.specs.declared.kind.Kind.TheVariants as kinds
+use Rattle.ciborium_ll.specs.declared.kind.Kind.TheVariants as kinds
 
 -- what was taken, looked at once more
 abbrev pub given_then : {A B : Type 0} → Given A → (A → Steps B) → Given B

@@ -6,7 +6,7 @@ use Rattle.ciborium_value.specs.{Given.{Given, mapped, given_integer, given_plac
 use Rattle.ciborium_value.specs.{Places.dictionary, Sinks.{Named, container_of, in_turn, named_text, number_item}}
 use Rattle.ciborium_value.specs.declared.labels.LabelKind.{LabelKind, TheVariants.{Name, Number, Other}}
 use Prim.Native.String.{String}
-use Rattle.ciborium_value.specs.declared.kind.Kind.TheVariants as kinds
+use Rattle.ciborium_ll.specs.declared.kind.Kind.TheVariants as kinds
 
 -- what a key is: a name, by the bytes of its UTF-8, a number, or neither
 pub data Label : Type 0 where

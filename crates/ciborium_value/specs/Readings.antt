@@ -6,7 +6,8 @@ use Rattle.ciborium_ll.specs.Item.{Item}
 use Rattle.ciborium_value.specs.Given.{Steps, Given, chosen, give, number_below, number_within, refuse, given_integer}
 use Rattle.ciborium_value.specs.{Given.given_value, GivenParts.{after_seq, no_part_given, part_given, given_list}}
 use Rattle.ciborium_value.specs.{GivenParts.{given_made, given_map, given_option, given_then}, Order.tree_cmp}
-use Rattle.ciborium_value.specs.{Tree.Tree, declared.kind.Kind.Kind}
+use Rattle.ciborium_value.specs.Tree.{Tree}
+use Rattle.ciborium_ll.specs.declared.kind.Kind.{Kind}
 
 -- how values of the type T are read, of which C is what counts: capacities do not
 pub record Reading (T C : Type 0) : Type 1 where

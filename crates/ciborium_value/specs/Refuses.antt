@@ -4,7 +4,7 @@
 -- there.
 use Rattle.std.specs.Prelude.{◌≡◌, ℕ, zero, suc, ◌+◌, ◌^◌, ◌<◌, ◌≤◌, List, [], ◌∷◌, ◌++◌, length, true, Option, Some}
 use Rattle.std.specs.Prelude.{None, option_and_then}
-use Rattle.ciborium_ll.specs.{Bytes.greatest_offset, Head.{open_byte, break_byte, IsSimple}, Refusal.SemanticKind}
+use Rattle.ciborium_ll.specs.{Bytes.greatest_offset, Head.{open_byte, break_byte, IsSimple}, Refusal.Kind}
 use Rattle.ciborium_ll.specs.Refusal.{Float, Simple, Break, TooLarge, NotFolded, Refusal, semantic}
 use Rattle.ciborium_ll.specs.Refusal.{recursion_limit_exceeded, HeadRefuses, KeyOrder, IsUsable, HasHead, IsAtFront}
 use Rattle.ciborium_ll.specs.StringRefusal.{StringType, StringRefuses, OpenStringRefuses}
@@ -116,7 +116,7 @@ IsFoldingAt t r = (is_bignum_tag t ≡ true) × (n : ℕ) × (k : ℕ) × (s : L
 pub data Refuses (spelling : Spelling) : List ℕ → ℕ → Limit → Refusal → Type 0 where
   -- no usable head stands here (section 3), or it is none that the spelling accepts (section 4.2.1)
   no_head : {b : List ℕ} {p : ℕ} {l : Limit} {e : Refusal} → HeadRefuses b p e → Refuses spelling b p l e
-  bad_head : {b : List ℕ} {p : ℕ} {l : Limit} (kind : SemanticKind) → IsUsable b p →
+  bad_head : {b : List ℕ} {p : ℕ} {l : Limit} (kind : Kind) → IsUsable b p →
       spelling_fault spelling b ≡ Some kind → Refuses spelling b p l (semantic p kind)
   -- a string, definite or open (sections 3.1 and 3.2.3)
   string : {b : List ℕ} {p : ℕ} {l : Limit} {e : Refusal} (kind : StringType) →

@@ -4,7 +4,8 @@ use Rattle.std.specs.Prelude.{Some, None, Result, Ok, Err, false}
 use Rattle.ciborium_ll.specs.Item.{Item}
 use Rattle.ciborium_value.specs.{Encoding.item_of, Number.shortest_bytes, Places.{Shape, Place, within, tagged}}
 use Rattle.ciborium_value.specs.{Places.{HasRoom, added, ended, IsComplete, IsCutBetween, Out, container}, View.tree_of}
-use Rattle.ciborium_value.specs.{declared.kind.Kind.Kind, declared.tree.Value.Value}
+use Rattle.ciborium_value.specs.declared.tree.Value.{Value}
+use Rattle.ciborium_ll.specs.declared.kind.Kind.{Kind}
 use Rattle.ciborium_ll.specs.Item as item
 
 -- ---- what values name

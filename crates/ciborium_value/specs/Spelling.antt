@@ -2,7 +2,7 @@
 -- deterministic one by each order of keys (sections 4.1 and 4.2).
 use Rattle.std.specs.Prelude.{◌≡◌, ℕ, ◌+◌, ◌/◌, ◌%◌, ◌≤◌, ◌⊎◌, List, [], ◌∷◌, length, Bool, if◌then◌else◌, ◌==◌, ◌&&◌}
 use Rattle.std.specs.Prelude.{nat_lt, nat_le, Option, Some, None}
-use Rattle.ciborium_ll.specs.{Bytes.greatest_offset, Head.shortest_head, Item.Item, Refusal.{SemanticKind, NotShortest}}
+use Rattle.ciborium_ll.specs.{Bytes.greatest_offset, Head.shortest_head, Item.Item, Refusal.{Kind, NotShortest}}
 use Rattle.ciborium_ll.specs.{Refusal.{Open, argument_length, argument}, Spells.Spells}
 use Rattle.ciborium_value.specs.{Deterministic.{AreRising, HasRisingKeys}, Encoding.encoding, Meaning.meaning}
 use Rattle.ciborium_value.specs.{Nesting.{Limit, IsWithin, nesting}, Tree.Tree, declared.key_order.KeyOrder.KeyOrder}
@@ -32,13 +32,13 @@ is_long major info b = nat_lt info 28 &&
 
 -- why a usable head is not accepted: it is of indefinite length (sections 3.2 and 4.2.1), or not
 -- the shortest (section 4.1); undefined is read as null, so f7 is another spelling of f6
-abbrev pub deterministic_fault : ℕ → ℕ → List ℕ → Option SemanticKind
+abbrev pub deterministic_fault : ℕ → ℕ → List ℕ → Option Kind
 deterministic_fault major info b = if nat_le 2 major && nat_le major 5 && (info == 31) then Some Open
     else if nat_lt major 7 && is_long major info b then Some NotShortest
     else if (major == 7) && (info == 23) then Some NotShortest else None
 
 -- the same of the head at the front in a spelling, or None where it accepts the head
-abbrev pub spelling_fault : Spelling → List ℕ → Option SemanticKind
+abbrev pub spelling_fault : Spelling → List ℕ → Option Kind
 spelling_fault any b = None
 spelling_fault (deterministic order) [] = None
 spelling_fault (deterministic order) (x ∷ b) = deterministic_fault (x / 32) (x % 32) b

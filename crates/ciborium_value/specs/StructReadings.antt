@@ -4,9 +4,10 @@ use Rattle.std.specs.Prelude.{Err, ◌&&◌, if◌then◌else◌}
 use Rattle.ciborium_ll.specs.Item.{Item}
 use Rattle.ciborium_value.specs.Given.{Steps, Given, chosen, decided, give, mapped, refuse, given_skip, then_read}
 use Rattle.ciborium_value.specs.{GivenParts.{after_pairs, given_then}, Labels.{Label, is_label, given_label}}
-use Rattle.ciborium_value.specs.{Readings.{Reading, option_of, spacious, unordered}, declared.kind.Kind.Kind}
+use Rattle.ciborium_value.specs.Readings.{Reading, option_of, spacious, unordered}
+use Rattle.ciborium_ll.specs.declared.kind.Kind.{Kind}
 use Rattle.ciborium_value.specs.declared.wanted.FieldPlace.{FieldPlace, TheVariants.{First, Behind}}
-use Rattle.ciborium_value.specs.declared.kind.Kind.TheVariants as kinds
+use Rattle.ciborium_ll.specs.declared.kind.Kind.TheVariants as kinds
 
 -- ---- fields by their labels
 

@@ -3,7 +3,7 @@ use Rattle.std.specs.{Prelude.{ℕ, Bool, true, false, Option, Some, None, ◌==
 use Rattle.std.specs.Option.{option_cmp}
 use Rattle.ciborium_value.specs.{Readings.{Reading, checked}, Given.{Steps, Given, chosen, give, mapped, refuse}}
 use Rattle.ciborium_value.specs.Given.{given_outer_tag, then_inside}
-use Rattle.ciborium_value.specs.declared.kind.Kind.TheVariants as kinds
+use Rattle.ciborium_ll.specs.declared.kind.Kind.TheVariants as kinds
 
 -- the outermost tag, if there is one, and what is taken from the item under it
 abbrev pub given_with_tag : {A : Type 0} → Given A → Given (Option ℕ × A)

@@ -2,7 +2,7 @@
 use Rattle.std.specs.Prelude.{ℕ, true, List, [], ◌∷◌, bytes_eq}
 use Rattle.ciborium_value.specs.{Readings.{Reading, spacious, unordered}, Given.{Given, chosen, give, refuse}}
 use Rattle.ciborium_value.specs.{Given.{given_unit, given_variant, then_inside}, GivenParts.given_then}
-use Rattle.ciborium_value.specs.declared.kind.Kind.TheVariants as kinds
+use Rattle.ciborium_ll.specs.declared.kind.Kind.TheVariants as kinds
 
 -- a variant: its name, and what is taken from its data
 pub record Variant (C : Type 0) : Type 1 where

@@ -9,10 +9,10 @@ ghost use Rattle.ciborium_value.specs.Meaning.{without_zeros};
 ghost use Rattle.ciborium_value.specs.Given.{magnitude};
 ghost use Rattle.ciborium_value.specs.Tree as trees;
 ghost use Rattle.ciborium_value.specs.View.{tree_of};
-ghost use Rattle.ciborium_value.specs.declared.kind.Kind.TheVariants as kinds;
+ghost use Rattle.ciborium_ll.specs.declared.kind.Kind.TheVariants as kinds;
 ghost use Rattle.ciborium_value.specs.declared.bignum.FoldError.TheVariants.{TooLarge};
 
-use crate::kind::Kind;
+use ciborium_ll::Kind;
 use crate::tree::Value;
 use ciborium_ll::Integer;
 use ciborium_ll::tag::{BIGNEG, BIGPOS};

@@ -10,7 +10,7 @@ ghost use Rattle.ciborium_value.specs.TreeAnswers.{IsErrorOf, tree_fault, value_
 
 use crate::deserialize::Deserialize;
 use crate::error::Error;
-use crate::kind::Kind;
+use ciborium_ll::Kind;
 use crate::labels::Labels;
 use crate::source::Source;
 use crate::tree::Value;

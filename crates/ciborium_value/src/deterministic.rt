@@ -12,12 +12,12 @@ ghost use Rattle.ciborium_value.specs.SameContents.{AreAlike, IsAlike, PairsAreA
 ghost use Rattle.ciborium_value.specs.Given.{gives, refuses};
 ghost use Rattle.ciborium_value.specs.Tree as trees;
 ghost use Rattle.ciborium_value.specs.View.{tree_of, tree_pairs_of, trees_of};
-ghost use Rattle.ciborium_value.specs.declared.kind.Kind.TheVariants.{DuplicateKey, TooLarge};
+ghost use Rattle.ciborium_ll.specs.declared.kind.Kind.TheVariants.{DuplicateKey, TooLarge};
 
 use crate::bignum::{find_folding, fold_number, without_leading_zeros};
 use crate::canonical::{cmp_bytewise, cmp_keys};
 use crate::key_order::KeyOrder;
-use crate::kind::Kind;
+use ciborium_ll::Kind;
 use crate::tree::Value;
 use std::cmp::Ordering;
 

@@ -4,7 +4,7 @@ ghost use Rattle.std.specs.Prelude.{◌≡◌, Some};
 ghost use Rattle.ciborium_value.specs.RefusalMessages.{tree_error_message};
 ghost use Rattle.ciborium_value.specs.declared.error.Error.TheVariants.{Memory};
 
-use crate::kind::Kind;
+use ciborium_ll::Kind;
 use std::alloc::{AllocError, AllocFailed};
 use std::{error, fmt};
 

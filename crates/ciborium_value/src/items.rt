@@ -9,7 +9,7 @@ ghost use Rattle.ciborium_value.specs.Readings.{part};
 ghost use Rattle.ciborium_value.specs.Sources.{TakesOnly};
 
 use crate::deserialize::Deserialize;
-use crate::kind::Kind;
+use ciborium_ll::Kind;
 use crate::parts::{OfArray, Parts, serialize_parts};
 use crate::serialize::Serialize;
 use crate::sink::Sink;

@@ -14,7 +14,6 @@ mod fields;
 mod from_notation;
 mod items;
 mod key_order;
-mod kind;
 mod labels;
 mod notation;
 mod parts;
@@ -30,14 +29,13 @@ mod unique_keys;
 mod wanted;
 
 pub use byte_buf::ByteBuf;
-pub use ciborium_ll::{Integer, OutOfRange};
+pub use ciborium_ll::{Integer, Kind, OutOfRange};
 pub use described::{AsDescribed, Described, DescribedKey};
 pub use deserialize::{Deserialize, Key};
 pub use fields::{Field, MaybeField, NoField};
 pub use from_notation::{NotationError, NotationFault};
 pub use items::{Array, Item, NoItem, WantedItems};
 pub use key_order::KeyOrder;
-pub use kind::Kind;
 pub use labels::{Label, LabelKind, Labels, SoughtLabel};
 pub use parts::{Container, OfArray, OfMap, Parts, serialize_parts};
 pub use reads_back::{

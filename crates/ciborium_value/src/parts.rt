@@ -7,7 +7,7 @@ ghost use Rattle.ciborium_value.specs.Progress.{counted_of};
 ghost use Rattle.ciborium_value.specs.Sinks.{AddsNamed, Begins, BreaksBegin, BreaksNamed};
 ghost use Rattle.ciborium_value.specs.Sinks.{IsGranted, IsOutside, IsOwed, IsReady, Named};
 
-use crate::kind::Kind;
+use ciborium_ll::Kind;
 use crate::sink::Sink;
 
 /// What parts stand in: `OfArray` or `OfMap`.

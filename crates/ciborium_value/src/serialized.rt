@@ -9,7 +9,7 @@ ghost use Rattle.ciborium_value.specs.TreeAnswers.{IsTreeOf, tree_cause};
 ghost use Rattle.ciborium_value.specs.View.{tree_of};
 
 use crate::error::Error;
-use crate::kind::Kind;
+use ciborium_ll::Kind;
 use crate::serialize::Serialize;
 use crate::sink::Sink;
 use crate::stack::{NewFrame, Stack};

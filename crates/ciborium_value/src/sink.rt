@@ -8,7 +8,7 @@ ghost use Rattle.ciborium_value.specs.Sinks.{Adds, Begins, Breaks, BreaksBegin, 
 ghost use Rattle.ciborium_value.specs.Sinks.{BreaksTag, CanEnd, Cause, Ends, IsGranted, IsOutside};
 ghost use Rattle.ciborium_value.specs.Sinks.{IsReady, Tags, memory, number_item, value};
 
-use crate::kind::Kind;
+use ciborium_ll::Kind;
 
 /// Where an item is written, part by part: to bytes, or into a tree.
 ///

@@ -18,7 +18,7 @@ ghost use Rattle.ciborium_value.specs.Given.{is_null, given_pairs, given_seq, gi
 ghost use Rattle.ciborium_value.specs.Given.{given_text, given_unit, given_value, given_variant};
 ghost use Rattle.ciborium_value.specs.Tree.{Tree};
 
-use crate::kind::Kind;
+use ciborium_ll::Kind;
 use crate::labels::Labels;
 use crate::tree::Value;
 use std::alloc::Global;

@@ -11,11 +11,11 @@ ghost use Rattle.ciborium_value.specs.Sources.{TakesOnly, of_kind};
 ghost use Rattle.ciborium_value.specs.StructReadings.{FieldsGiven, field_place, field_given};
 ghost use Rattle.ciborium_value.specs.StructReadings.{no_field_given, no_other_given, given_fields};
 ghost use Rattle.ciborium_value.specs.Given.{outcome};
-ghost use Rattle.ciborium_value.specs.declared.kind.Kind.TheVariants.{Other};
+ghost use Rattle.ciborium_ll.specs.declared.kind.Kind.TheVariants.{Other};
 
 use crate::deserialize::Deserialize;
 use crate::fields::NoField;
-use crate::kind::Kind;
+use ciborium_ll::Kind;
 use crate::labels::{Labels, SoughtLabel};
 use crate::source::Source;
 use std::alloc::Global;

@@ -22,7 +22,7 @@ use Rattle.ciborium.specs.inner.{StringContents.TakesContent, Unread.{AreSpelled
 use Rattle.ciborium.specs.inner.Unread.{span_of, HasCount}
 use Rattle.ciborium_ll.specs.declared.header.Header.TheVariants as header
 use Rattle.ciborium_ll.specs.Item as items
-use Rattle.ciborium_value.specs.declared.kind.Kind.TheVariants as kinds
+use Rattle.ciborium_ll.specs.declared.kind.Kind.TheVariants as kinds
 use Rattle.ciborium.specs.declared.de.byte_source.Left.TheVariants as left
 
 -- ---- levels

@@ -16,7 +16,7 @@ use Rattle.ciborium.specs.inner.{ByteSources.IsUnreadBy, FrontItems.{Reads, Deni
 use Rattle.ciborium.specs.inner.{Skips.{TakesBare, EntersLevelUnread}, StringContents.TakesContent}
 use Rattle.ciborium_ll.specs.declared.header.Header.TheVariants as header
 use Rattle.ciborium_ll.specs.Item as items
-use Rattle.ciborium_value.specs.declared.kind.Kind.TheVariants as kinds
+use Rattle.ciborium_ll.specs.declared.kind.Kind.TheVariants as kinds
 
 -- ---- names
 

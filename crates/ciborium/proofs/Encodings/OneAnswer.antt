@@ -1,12 +1,11 @@
 -- Known bytes and a limit leave one answer.
-use Rattle.std.proofs.Common.{◌≡◌, ℕ, ◌⊎◌, List, [], ◌∷◌, Option, Some, None, option_map, Ok, Err, sym, ap, ◌∙◌, inl}
+use Rattle.std.proofs.Common.{◌≡◌, ℕ, ◌⊎◌, List, [], ◌∷◌, Option, Some, None, Ok, Err, sym, ap, ◌∙◌, inl}
 use Rattle.std.{proofs.Common.{inr, refl}, specs.declared.io.Error.Error as IoError}
 use Rattle.ciborium_ll.specs.Refusal.{Refusal}
 use Rattle.ciborium_value.{proofs.GoodItems.Outcome.{never_both, one_reading, one_refusal}, specs.Refuses.Refuses}
 use Rattle.ciborium_value.specs.{Spelling.any, View.tree_of}
-use Rattle.ciborium.{proofs.Readers.Outcomes.only-fails, specs.ValueAnswers.{IsFailed, IsRefusedBy, IsNamed}}
-use Rattle.ciborium.specs.{ValueAnswers.refusal_kind_of, declared.de.error.Error.Error, laws.AnswerLaws.refusal_of}
-use Rattle.ciborium.specs.laws.AnswerLaws.{OneAnswer}
+use Rattle.ciborium.{proofs.Readers.Outcomes.only-fails, specs.ValueAnswers.{IsFailed, IsRefusedBy}}
+use Rattle.ciborium.specs.{declared.de.error.Error.Error, laws.AnswerLaws.{OneAnswer, refusal_of}}
 use Rattle.ciborium_ll.specs.Refusal as refusal
 use Rattle.ciborium.specs.declared.de.error.Error.TheVariants as errors
 
@@ -17,15 +16,7 @@ names None (errors.Io x) P h = inl (λ end. absurd cc)
 names (Some []) (errors.Io x) P h = inr (refusal.io, refl, h refl)
 names (Some (n ∷ r)) (errors.Io x) P h = inl (λ end. absurd cc)
 names left (errors.Syntax p) P h = inr (refusal.syntax p, refl, h)
-names left (errors.Semantic (Some p) k) P h = by (refusal_kind_of k) h
-  where
-    at : Error IoError
-    at = errors.Semantic (Some p) k
-
-    by : (o : Option refusal.SemanticKind) → IsNamed (Some p) o P →
-        IsFailed left at ⊎ ((r : Refusal) × (option_map (refusal.semantic p) o ≡ Some r) × P r)
-    by (Some n) h = inr (refusal.semantic p n, refl, h)
-    by None h = absurd h
+names left (errors.Semantic (Some p) k) P h = inr (refusal.semantic p k, refl, h)
 names left (errors.Semantic None k) P h = absurd h
 names left errors.RecursionLimitExceeded P h = inr (refusal.recursion_limit_exceeded, refl, h)
 names left errors.Memory P h = inl tt

@@ -5,13 +5,14 @@ use Rattle.ciborium_ll.specs.{declared.header.Header.Header, Item.{Item, tag, si
 use Rattle.ciborium_value.specs.{Meaning.is_bignum_tag, Nesting.Limit, Sources.{Fault, IsFaultOf}, Given.gives}
 use Rattle.ciborium_value.specs.Given.{refuses, outcome, settled, untagged, number_of, bignum_of, bare_boolean}
 use Rattle.ciborium_value.specs.Given.{bare_unit, boolean_of, is_null_simple, given_bignum, given_boolean}
-use Rattle.ciborium_value.specs.{Given.{given_integer, given_unit, with_sign}, declared.kind.Kind.Kind}
+use Rattle.ciborium_value.specs.Given.{given_integer, given_unit, with_sign}
+use Rattle.ciborium_ll.specs.declared.kind.Kind.{Kind}
 use Rattle.ciborium_value.proofs.Sources.Sequences.{fault_map}
 use Rattle.ciborium.specs.{inner.FrontItems.{Reads, Denies}, inner.Skips.{under, AreSkipped, IsBare, TakesBare}}
 use Rattle.ciborium.proofs.Items.ItemHeads.{header_of, tag-front, by-shape, no-bare-tag}
 use Rattle.ciborium.proofs.Items.SkippedTags.{ReadsBehind, number-under, untagged-under}
 use Rattle.ciborium_ll.specs.declared.header.Header.TheVariants as header
-use Rattle.ciborium_value.specs.declared.kind.Kind.TheVariants as kinds
+use Rattle.ciborium_ll.specs.declared.kind.Kind.TheVariants as kinds
 
 -- ---- integers
 

@@ -30,27 +30,17 @@ use Rattle.ciborium_ll.specs.declared.header.Header.TheVariants as header
 use Rattle.ciborium_ll.specs.Item as maps
 use Rattle.ciborium_ll.specs.Refusal as refusal
 use Rattle.ciborium_value.specs.Tree as trees
-use Rattle.ciborium_value.specs.declared.kind.Kind.TheVariants as kinds
+use Rattle.ciborium_ll.specs.declared.kind.Kind.TheVariants as kinds
 
 not-break : (s r y : List ℕ) (i : Item) → Spells s i → s ++ r ≡ break_byte ∷ y → ⊥
 not-break s r y i sp e = no-break-head i (same-head s r (break_byte ∷ []) y i header.Break sp refl e).0
-
-abbrev pub kind_fault : refusal.SemanticKind → Fault
-kind_fault refusal.Float = of_kind kinds.Float
-kind_fault refusal.Simple = of_kind kinds.Simple
-kind_fault refusal.Break = of_kind kinds.Break
-kind_fault refusal.TooLarge = of_kind kinds.TooLarge
-kind_fault refusal.NotShortest = of_kind kinds.NotShortest
-kind_fault refusal.Open = of_kind kinds.Open
-kind_fault refusal.NotFolded = of_kind kinds.NotFolded
-kind_fault refusal.KeyOrder = of_kind kinds.KeyOrder
 
 -- the fault that a refusal is
 abbrev pub fault_of : Refusal → Fault
 fault_of io = of_end
 fault_of (syntax p) = of_syntax
 fault_of too_long = of_length
-fault_of (semantic p k) = kind_fault k
+fault_of (semantic p k) = of_kind k
 fault_of recursion_limit_exceeded = of_nesting
 
 -- ---- refusals of the bytes that spell an item

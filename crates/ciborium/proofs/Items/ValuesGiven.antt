@@ -10,7 +10,7 @@ use Rattle.ciborium_value.specs.{Tree.{Tree, Trees, TreePairs}, lemmas.GivenOutc
 use Rattle.ciborium_value.specs.lemmas.ReadsBackParts.{within-left, within-right}
 use Rattle.ciborium_ll.specs.Item as items
 use Rattle.ciborium_value.specs.Tree as trees
-use Rattle.ciborium_value.specs.declared.kind.Kind.TheVariants as kinds
+use Rattle.ciborium_ll.specs.declared.kind.Kind.TheVariants as kinds
 
 -- with a level, what is inside decides
 pub level-taken : {A : Type 0} (l m : Limit) (s : Steps A) → IsOneLess l m → outcome l (leveled s) ≡ outcome m s

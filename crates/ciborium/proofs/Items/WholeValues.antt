@@ -8,15 +8,14 @@ use Rattle.ciborium_ll.specs.{Header.SpellsHeader, Item.{Item, unsigned, simple}
 use Rattle.ciborium_ll.specs.declared.{decoder.Decoder.Decoder, header.Header.Header}
 use Rattle.ciborium_value.{proofs.Sources.Sequences.fault_outside, specs.Given.{gives, given_value, outcome}}
 use Rattle.ciborium_value.specs.{Meaning.simple_meaning, Nesting.{Limit, IsWithin, nesting}, Refuses.Refuses}
-use Rattle.ciborium_value.specs.{Sources.{IsFaultOf, of_kind}, Spelling.any, Tree.Tree, View.{read_as, tree_of}}
-use Rattle.ciborium_value.specs.declared.{kind.Kind.Kind, tree.Value.Value}
+use Rattle.ciborium_value.specs.{Sources.IsFaultOf, Spelling.any, Tree.Tree, View.{read_as, tree_of}}
+use Rattle.ciborium_value.specs.declared.tree.Value.{Value}
 use Rattle.ciborium.proofs.Items.{FrontReads.io-outside, ValueFaults.value-faults, ValuesGiven.value-gives}
 use Rattle.ciborium.proofs.{Readers.WhateverFollows.{ahead-same, so-unread}, Turns.Fronts.{ahead-at, front-fits}}
-use Rattle.ciborium.specs.{Errors.{fault_of, io_fault}, ValueAnswers.{IsRefusedBy, IsNamed, refusal_kind_of}}
+use Rattle.ciborium.specs.{Errors.{fault_of, io_fault}, ValueAnswers.IsRefusedBy}
 use Rattle.ciborium.specs.{declared.de.error.Error.Error, inner.ByteSources.{MeansTree, is_portable, IsUnreadBy}}
 use Rattle.ciborium.specs.inner.{ByteSources.{known_end, reader_of}, Turns.{IsTreeRead, IsValueRead}}
 use Rattle.ciborium_ll.specs.declared.header.Header.TheVariants as header
-use Rattle.ciborium_value.specs.declared.kind.Kind.TheVariants as kinds
 use Rattle.ciborium_value.specs.Tree as trees
 use Rattle.ciborium.specs.declared.de.error.Error.TheVariants as errors
 
@@ -126,19 +125,7 @@ whole-faults left (errors.Io x) l p end b s z i sp f fits h = fault_outside end 
     (outcome (Some l) (given_value i)) (io-outside left end (λ none. value-faults (h none) i s z end sp f fits))
 whole-faults left (errors.Syntax q) l p end b s z i sp f fits h = value-faults h i s z end sp f fits
 whole-faults left (errors.Semantic None k) l p end b s z i sp f fits h = absurd h
-whole-faults left (errors.Semantic (Some q) k) l p end b s z i sp f fits h = by k h
-  where
-    by : (k : Kind) → IsNamed (Some q) (refusal_kind_of k) (λ r. Refuses any b p (Some l) r) →
-        IsFaultOf end (of_kind k) (outcome (Some l) (given_value i))
-    by kinds.Float h = value-faults h i s z end sp f fits
-    by kinds.Simple h = value-faults h i s z end sp f fits
-    by kinds.Break h = value-faults h i s z end sp f fits
-    by kinds.TooLarge h = value-faults h i s z end sp f fits
-    by kinds.NotShortest h = value-faults h i s z end sp f fits
-    by kinds.Open h = value-faults h i s z end sp f fits
-    by kinds.NotFolded h = value-faults h i s z end sp f fits
-    by kinds.KeyOrder h = value-faults h i s z end sp f fits
-    by k h = absurd h
+whole-faults left (errors.Semantic (Some q) k) l p end b s z i sp f fits h = value-faults h i s z end sp f fits
 whole-faults left errors.RecursionLimitExceeded l p end b s z i sp f fits h = value-faults h i s z end sp f fits
 whole-faults left errors.Memory l p end b s z i sp f fits h = tt
 whole-faults left errors.TooLong l p end b s z i sp f fits h = value-faults h i s z end sp f fits

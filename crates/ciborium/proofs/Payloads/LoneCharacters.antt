@@ -14,7 +14,7 @@ use Rattle.ciborium.{proofs.Payloads.StringPayloads.string-only, specs.inner.Byt
 use Rattle.ciborium.specs.inner.{FrontItems.Denies, Skips.{under, AreSkipped, IsBare, TakesBare}}
 use Rattle.ciborium.specs.inner.StringContents.{TakesContent, TakesJust}
 use Rattle.ciborium_ll.specs.declared.header.Header.TheVariants as header
-use Rattle.ciborium_value.specs.declared.kind.Kind.TheVariants as kinds
+use Rattle.ciborium_ll.specs.declared.kind.Kind.TheVariants as kinds
 
 -- ---- the characters of a text
 

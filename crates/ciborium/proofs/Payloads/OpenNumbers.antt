@@ -14,7 +14,7 @@ use Rattle.ciborium.proofs.Payloads.{SpelledStrings.{string-break, opened-up, sa
 use Rattle.ciborium.specs.inner.{FrontItems.{TakesHead, DeniesHead, Reads, Denies}, StringContents.digits_of}
 use Rattle.ciborium.specs.inner.StringContents.{TakesDigits, TakesNumber, TakesParts, DeniesContent, DeniesJust}
 use Rattle.ciborium_ll.specs.declared.header.Header.TheVariants as header
-use Rattle.ciborium_value.specs.declared.kind.Kind.TheVariants as kinds
+use Rattle.ciborium_ll.specs.declared.kind.Kind.TheVariants as kinds
 
 module _ (P M Q R : List ℕ → Type 0) where
   pub parts-more : (n : ℕ) (v w : Option ℕ) → TakesParts P M v →

@@ -12,7 +12,7 @@ use Rattle.ciborium_value.specs.{Meaning.{big_endian, without_zeros}, Sources.Is
 use Rattle.ciborium.{proofs.Items.FrontReads.{failed-end, io-outside}, specs.Errors.{fault_of, from_ll}}
 use Rattle.ciborium.specs.inner.{ByteSources.{known_end, reader_of}, StringContents.{one_digit_more, digits_of}}
 use Rattle.ciborium_ll.specs.declared.header.Error.TheVariants as ll
-use Rattle.ciborium_value.specs.declared.kind.Kind.TheVariants as kinds
+use Rattle.ciborium_ll.specs.declared.kind.Kind.TheVariants as kinds
 
 pub digits-append : (o : Option ℕ) (c d : List ℕ) → digits_of o (c ++ d) ≡ digits_of (digits_of o c) d
 digits-append o [] d = refl

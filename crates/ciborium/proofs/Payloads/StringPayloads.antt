@@ -13,7 +13,7 @@ use Rattle.ciborium.specs.inner.{ByteSources.IsUnreadBy, FrontItems.{DeniesItem,
 use Rattle.ciborium.specs.inner.{Skips.{AreSkipped, IsBare, TakesBare}, StringContents.{head_of, string_item}}
 use Rattle.ciborium.specs.inner.StringContents.{IsContent, TakesContent, DeniesContent}
 use Rattle.ciborium_ll.specs.declared.header.Header.TheVariants as header
-use Rattle.ciborium_value.specs.declared.kind.Kind.TheVariants as kinds
+use Rattle.ciborium_ll.specs.declared.kind.Kind.TheVariants as kinds
 
 -- the payload that was taken makes a string with its head
 content-spelled : (E : Type 0) (kind : StringType) (len : Option ℕ) (p q : ℕ) (added c : List ℕ) →

@@ -4,15 +4,12 @@ use Rattle.std.proofs.Common.{refl, sym, ap, ◌∙◌, subst, arith, eqb, get_o
 use Rattle.std.proofs.{Math.Seq.{take-add, take-length, take-suc}, lemmas.List.{take_all, length-drop}}
 use Rattle.std.proofs.{lemmas.Bool.Decides.Decides-eqb, lemmas.Slice.Eq.slice_eq-Decides}
 use Rattle.std.specs.{List.{starts_with, slice_range}, Result.is_ok}
-use Rattle.ciborium_value.specs.{Encoding.encoding, Readings.Reading, Refuses.Refuses, Sinks.Named}
-use Rattle.ciborium_value.specs.{Spelling.deterministic, Given.Outcome, Tree.Tree, declared.key_order.KeyOrder.KeyOrder}
-use Rattle.ciborium_value.specs.declared.kind.Kind.{Kind}
+use Rattle.ciborium_value.specs.{Encoding.encoding, Given.Outcome, Readings.Reading, Sinks.Named, Tree.Tree}
+use Rattle.ciborium_value.specs.declared.key_order.KeyOrder.{KeyOrder}
 use Rattle.ciborium.specs.{DeterministicWrites.{HasForm, WritesForm}, LoadedAnswers.{DifferAt, LoadsAll}}
-use Rattle.ciborium.specs.{LoadedAnswers.RefusesSpelling, SliceAnswers.ReadsAll, ValueAnswers.IsNamed}
-use Rattle.ciborium.specs.{ValueAnswers.refusal_kind_of, declared.de.error.Error.Error}
-use Rattle.ciborium.specs.{declared.de.error.Error.TheVariants.Semantic, declared.ser.error.Error.Error as WriteError}
+use Rattle.ciborium.specs.{SliceAnswers.ReadsAll, declared.de.error.Error.Error}
+use Rattle.ciborium.specs.declared.ser.error.Error.{Error as WriteError}
 use lib.Pointwise.{pointwise}
-use Rattle.ciborium_ll.specs.Refusal as refusal
 
 -- ---- where bytes differ
 
@@ -65,14 +62,3 @@ loads-refused o l reading written b e (Err y) h reads = record {
   ok = tt;
   refused = inl (subst (λ x. ReadsAll l reading b (Err x)) (sym h) reads);
 }
-
-pub spelled-refused : {E : Type 0} (o : KeyOrder) (l : ℕ) (b : List ℕ) (k p : ℕ) (kind : Kind) →
-    IsNamed (Some p) (refusal_kind_of kind) (Refuses (deterministic o) b 0 (Some l)) →
-    RefusesSpelling {E = E} o l b k (Semantic (Some p) kind)
-spelled-refused {E} o l b k p kind h = by (refusal_kind_of kind) refl h
-  where
-    by : (n : Option refusal.SemanticKind) → refusal_kind_of kind ≡ n →
-        IsNamed (Some p) n (Refuses (deterministic o) b 0 (Some l)) →
-        RefusesSpelling {E = E} o l b k (Semantic (Some p) kind)
-    by None e g = absurd g
-    by (Some name) e g = RefusesSpelling.spelled p kind name e g

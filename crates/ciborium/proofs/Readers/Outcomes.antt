@@ -1,8 +1,8 @@
 -- What a call that reads a value leaves, and which errors are failures.
 use Rattle.std.proofs.Common.{◌≡◌, ℕ, List, Option, Some, None, subst}
 use Rattle.ciborium_ll.specs.{declared.decoder.Decoder.Decoder, Decoding.{IsAhead, IsAheadBy, left_of}, Refusal.Refusal}
-use Rattle.ciborium.specs.{declared.de.error.Error.Error, ValueAnswers.{IsFailed, IsRefusedBy, IsNamed}}
-use Rattle.ciborium.specs.{ValueAnswers.refusal_kind_of, inner.ValuesInBytes.IsAt}
+use Rattle.ciborium.specs.{declared.de.error.Error.Error, ValueAnswers.{IsFailed, IsRefusedBy}}
+use Rattle.ciborium.specs.inner.ValuesInBytes.{IsAt}
 use Rattle.ciborium_ll.specs.Refusal as refusal
 use Rattle.ciborium.specs.declared.de.error.Error.TheVariants as errors
 
@@ -15,12 +15,8 @@ pub only-fails : {E : Type 0} (left : Option (List ℕ)) (e : Error E) (P : Refu
     ((r : Refusal) → P r → ⊥) → IsRefusedBy left e P → IsFailed left e
 only-fails left (errors.Io x) P never h = λ end. never refusal.io (h end)
 only-fails left (errors.Syntax p) P never h = never (refusal.syntax p) h
-only-fails left (errors.Semantic p k) P never h = named p (refusal_kind_of k) h
-  where
-    named : (p : Option ℕ) (k : Option refusal.SemanticKind) → IsNamed p k P → ⊥
-    named (Some p) (Some k) h = never (refusal.semantic p k) h
-    named (Some p) None h = h
-    named None k h = h
+only-fails left (errors.Semantic (Some p) k) P never h = never (refusal.semantic p k) h
+only-fails left (errors.Semantic None k) P never h = h
 only-fails left errors.RecursionLimitExceeded P never h = never refusal.recursion_limit_exceeded h
 only-fails left errors.Memory P never h = tt
 only-fails left errors.TooLong P never h = never refusal.too_long h

@@ -7,7 +7,8 @@ use Rattle.ciborium_ll.specs.{Decoding.left_of, Header.SpellsHeader, Refusal.{Re
 use Rattle.ciborium_ll.specs.Refusal.{recursion_limit_exceeded, HeadRefuses, IsUsable}
 use Rattle.ciborium_ll.specs.StringRefusal.{StringType, PayloadRefuses}
 use Rattle.ciborium_ll.proofs.{Decoders.{unread-left, unread-count}, OneHeader.one_header_at_front}
-use Rattle.ciborium_value.specs.{declared.kind.Kind.Kind, declared.tree.Value.Value, Refuses.{HasGoodHead, IsTagAt}}
+use Rattle.ciborium_value.specs.{declared.tree.Value.Value, Refuses.{HasGoodHead, IsTagAt}}
+use Rattle.ciborium_ll.specs.declared.kind.Kind.{Kind}
 use Rattle.ciborium_value.specs.{Refuses.{IsFoldingAt, Refuses}, Spelling.{Spelling, any, deterministic, IsUnwanted}}
 use Rattle.ciborium_value.specs.{View.tree_of, inner.ReadItems.ReadsItem, inner.Stack.begun_frame}
 use Rattle.ciborium_value.proofs.{GoodItems.Bignums.none-large, GoodItems.Introduced.{reads-string, reads-folded}}

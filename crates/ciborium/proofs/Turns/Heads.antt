@@ -9,16 +9,16 @@ use Rattle.ciborium_ll.specs.declared.{decoder.Decoder.Decoder, header.Header.He
 use Rattle.ciborium_value.proofs.GoodItems.Faults.{short-fault, fault-head, fault-open, fault-break, fault-float}
 use Rattle.ciborium_value.{proofs.GoodItems.Faults.{fault-simple, fault-undefined}, specs.Refuses.HasGoodHead}
 use Rattle.ciborium_value.specs.{Refuses.Refuses, Spelling.{Spelling, any, deterministic, spelling_fault}, Tree.Tree}
-use Rattle.ciborium_value.specs.{declared.{key_order.KeyOrder.KeyOrder, kind.Kind.Kind}, inner.ReadItems.ReadsItem}
+use Rattle.ciborium_value.specs.{declared.key_order.KeyOrder.KeyOrder, inner.ReadItems.ReadsItem}
+use Rattle.ciborium_ll.specs.declared.kind.Kind.{Kind}
 use Rattle.ciborium.proofs.{Readers.WhateverFollows.so-both, Turns.Fronts.{front-of, IsNoBreak, no-break}}
 use Rattle.ciborium.proofs.Turns.{Fronts.{head-no-break, ahead-at, offset-at, PullsSo}, Pulled.refused-map}
-use Rattle.ciborium.specs.{ValueAnswers.{IsNamed, IsRefusedBy, refusal_kind_of}, declared.de.error.Error.Error}
+use Rattle.ciborium.specs.{ValueAnswers.IsRefusedBy, declared.de.error.Error.Error}
 use Rattle.ciborium.specs.{declared.de.error.Error.TheVariants.Semantic, inner.Parts.{IsHeadAccepted, IsHeadMeasured}}
 use Rattle.ciborium.specs.inner.{Parts.RefusesPart, Rules.{long_fault, counted_fault, deterministic_fault, head_fault}}
 use Rattle.ciborium.specs.inner.ValuesInBytes.{IsAt, IsPulled, StandsAt}
 use Rattle.ciborium_ll.specs.declared.header.Header.TheVariants as header
-use Rattle.ciborium_ll.specs.Refusal as refusal
-use Rattle.ciborium_value.specs.declared.kind.Kind.TheVariants as kinds
+use Rattle.ciborium_ll.specs.declared.kind.Kind.TheVariants as kinds
 
 -- ---- where the decoder stands
 
@@ -60,9 +60,7 @@ got spelling remaining d l xs p t u zs r pushed same item at = (
 
 -- the fault of a head is that of its bytes
 abbrev IsFaultAt : KeyOrder → List ℕ → Option Kind → Type 0
-IsFaultAt order b None = spelling_fault (deterministic order) b ≡ None
-IsFaultAt order b (Some kind) = (k : refusal.SemanticKind) × (spelling_fault (deterministic order) b ≡ Some k) ×
-    (refusal_kind_of kind ≡ Some k)
+IsFaultAt order b fault = spelling_fault (deterministic order) b ≡ fault
 
 module _ (order : KeyOrder) (b r : List ℕ) (size : ℕ) (len : length b ≡ size) where
   long-found : (m n : ℕ) → m < 7 → IsHead b m n → IsFaultAt order (b ++ r) (long_fault m n size)
@@ -76,22 +74,15 @@ module _ (order : KeyOrder) (b r : List ℕ) (size : ℕ) (len : length b ≡ si
           short-fault (deterministic order) (b ++ r) m n size r lt (b, is, len, refl) (omega (arith, same))
       by false f g =
           let differ = g refl in
-          let least = none_is_shorter b m n is in (
-            refusal.NotShortest,
-            fault-head order (b ++ r) m n size r lt (b, is, len, refl) ∙
-                ap (λ t. cond t (Some refusal.NotShortest) None)
-                (lt-ltb (length (shortest_head m n)) size (omega (arith, differ, least, len))),
-            refl,
-          )
+          let least = none_is_shorter b m n is in
+          fault-head order (b ++ r) m n size r lt (b, is, len, refl) ∙ ap (λ t. cond t (Some kinds.NotShortest) None)
+          (lt-ltb (length (shortest_head m n)) size (omega (arith, differ, least, len)))
 
   counted-found : (m : ℕ) (count : Option ℕ) → 2 ≤ m → m ≤ 5 → IsCounted b m count →
       IsFaultAt order (b ++ r) (counted_fault m count size)
   counted-found m (Some n) low high is = long-found m n (omega (arith, high)) is
-  counted-found m None low high is = (
-    refusal.Open,
-    ap (λ (c : List ℕ). spelling_fault (deterministic order) (c ++ r)) is ∙ fault-open order m r low high,
-    refl,
-  )
+  counted-found m None low high is =
+      ap (λ (c : List ℕ). spelling_fault (deterministic order) (c ++ r)) is ∙ fault-open order m r low high
 
   simple-found : (n : ℕ) → IsSimple b n → IsFaultAt order (b ++ r) (cond (eqb n 23) (Some kinds.NotShortest) None)
   simple-found n is = by (eqb n 23) (eqb-true n 23) (eqb-false n 23)
@@ -102,12 +93,8 @@ module _ (order : KeyOrder) (b r : List ℕ) (size : ℕ) (len : length b ≡ si
 
       by : (t : Bool) → (t ≡ true → n ≡ 23) → (t ≡ false → n ≡ 23 → ⊥) → IsFaultAt order (b ++ r)
           (cond t (Some kinds.NotShortest) None)
-      by true f g = (
-        refusal.NotShortest,
-        ap (λ (c : List ℕ). spelling_fault (deterministic order) (c ++ r)) (undefined (f refl) is) ∙
-            fault-undefined order r,
-        refl,
-      )
+      by true f g = ap (λ (c : List ℕ). spelling_fault (deterministic order) (c ++ r)) (undefined (f refl) is) ∙
+          fault-undefined order r
       by false f g = fault-simple (deterministic order) b n r is (g refl)
 
   float-found : (j : ℕ) (raw : List ℕ) → j < 3 → b ≡ (249 + j) ∷ raw → spelling_fault (deterministic order) (b ++ r) ≡
@@ -153,9 +140,7 @@ module _ {S W : Type 0} (remaining : S → Option (List ℕ)) (d : Decoder S W) 
   bad-at (deterministic order) E l offset kind left wrong size here =
       let f = subst (IsFaultAt order xs) wrong (found-at order size) in
       subst (λ n. IsRefusedBy {E = E} left (Semantic (Some n) kind) (RefusesPart (deterministic order) xs p l))
-      (sym here)
-      (subst (λ k. IsNamed (Some p) k (RefusesPart (deterministic order) xs p l)) (sym f.2)
-      (Refuses.bad_head f.0 a.3 f.1, other))
+      (sym here) (Refuses.bad_head kind a.3 f, other)
     where
       other : ¬ Rattle.ciborium.specs.inner.ValuesInBytes.IsBreakAt xs p
       other = no-break xs p h a.0 a.1 (faulty h wrong) (front-of remaining d h h xs p refl a)

@@ -6,8 +6,8 @@ use Rattle.ciborium_ll.specs.{declared.header.Header.Header, declared.header.Err
 use Rattle.ciborium_ll.specs.{declared.decoder.Decoder.Decoder, Bytes.greatest_offset, Decoding.{ReadsNothing, Takes}}
 use Rattle.ciborium_ll.specs.{Decoding.left_of, Header.SpellsHeader, ReaderSteps.IsHeadTaken, Refusal.Refusal}
 use Rattle.ciborium_ll.specs.Refusal.{HeadRefuses, IsUsable, IsAtFront, argument_length}
-use Rattle.ciborium.specs.{declared.de.error.Error.Error, Errors.from_ll, ValueAnswers.{IsRefusedBy, IsNamed}}
-use Rattle.ciborium.specs.{ValueAnswers.refusal_kind_of, inner.ValuesInBytes.{IsPulled, heads_by, heads_left}}
+use Rattle.ciborium.specs.{declared.de.error.Error.Error, Errors.from_ll, ValueAnswers.IsRefusedBy}
+use Rattle.ciborium.specs.inner.ValuesInBytes.{IsPulled, heads_by, heads_left}
 use Rattle.ciborium_ll.specs.declared.header.Error.TheVariants as ll
 use Rattle.ciborium_ll.specs.ReaderSteps as reading
 use Rattle.ciborium.specs.declared.de.error.Error.TheVariants as errors
@@ -22,12 +22,8 @@ pub refused-map : {E : Type 0} (left : Option (List ℕ)) (e : Error E) (P Q : R
     ((r : Refusal) → P r → Q r) → IsRefusedBy left e P → IsRefusedBy left e Q
 refused-map left (errors.Io x) P Q f a = λ end. f _ (a end)
 refused-map left (errors.Syntax p) P Q f a = f _ a
-refused-map left (errors.Semantic p k) P Q f a = named p (refusal_kind_of k) a
-  where
-    named : (p : Option ℕ) (k : Option Rattle.ciborium_ll.specs.Refusal.SemanticKind) → IsNamed p k P → IsNamed p k Q
-    named (Some p) (Some k) a = f _ a
-    named (Some p) None a = a
-    named None k a = a
+refused-map left (errors.Semantic (Some p) k) P Q f a = f _ a
+refused-map left (errors.Semantic None k) P Q f a = a
 refused-map left errors.RecursionLimitExceeded P Q f a = f _ a
 refused-map left errors.Memory P Q f a = tt
 refused-map left errors.TooLong P Q f a = f _ a

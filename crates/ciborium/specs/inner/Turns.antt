@@ -6,7 +6,7 @@ use Rattle.ciborium_value.specs.{Tree.Tree, inner.Frames.{TreeFrame, done, more,
 use Rattle.ciborium.specs.{declared.de.error.Error.Error, declared.de.error.Error.TheVariants.{Memory, Semantic}}
 use Rattle.ciborium.specs.{ValueAnswers.IsRefusedBy, inner.Around.IsAround, inner.Rules.HasKeysInOrder}
 use Rattle.ciborium.specs.{inner.Rules.HasKeyOutOfOrder, inner.ValuesInBytes.StandsAt}
-use Rattle.ciborium_value.specs.declared.kind.Kind.TheVariants as kinds
+use Rattle.ciborium_ll.specs.declared.kind.Kind.TheVariants as kinds
 
 -- a value within l levels is being read at xs, offset p: this is unfinished, and the decoder stands
 -- inside it

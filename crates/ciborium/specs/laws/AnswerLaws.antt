@@ -3,11 +3,12 @@
 use Rattle.std.specs.Prelude.{◌≡◌, ℕ, ◌⊎◌, List, Option, Some, None, option_map, Result, Ok, Err}
 use Rattle.std.specs.declared.io.Error.{Error as IoError}
 use Rattle.ciborium_ll.specs.{Bytes.AreBytes, Refusal.Refusal}
-use Rattle.ciborium_value.specs.{declared.kind.Kind.Kind, declared.tree.Value.Value, Refuses.Refuses, View.tree_of}
+use Rattle.ciborium_value.specs.{declared.tree.Value.Value, Refuses.Refuses, View.tree_of}
+use Rattle.ciborium_ll.specs.declared.kind.Kind.{Kind}
 use Rattle.ciborium_value.specs.Spelling.{any}
 use Rattle.ciborium.specs.{declared.de.error.Error.Error, declared.de.error.Error.TheVariants.{Io, Syntax, Semantic}}
 use Rattle.ciborium.specs.declared.de.error.Error.TheVariants.{RecursionLimitExceeded, Memory, TooLong}
-use Rattle.ciborium.specs.{ValueAnswers.{IsFailed, IsRefusedBy, refusal_kind_of}, ValueClauses.TakesValue}
+use Rattle.ciborium.specs.{ValueAnswers.{IsFailed, IsRefusedBy}, ValueClauses.TakesValue}
 use Rattle.ciborium_ll.specs.Refusal as refusal
 
 -- what the clauses of a call say of its answer: b were the known bytes, within l levels, and this
@@ -18,7 +19,7 @@ IsReadAnswer b l left (Err e) = IsRefusedBy left e (λ r. Refuses any b 0 (Some 
 
 -- the refusal of a kind at an offset
 abbrev pub semantic_of : Option ℕ → Kind → Option Refusal
-semantic_of (Some p) k = option_map (refusal.semantic p) (refusal_kind_of k)
+semantic_of (Some p) k = Some (refusal.semantic p k)
 semantic_of None k = None
 
 -- the refusal that an error names: `Io` is one where the reader came to its end

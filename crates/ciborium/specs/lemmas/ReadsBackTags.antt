@@ -16,7 +16,7 @@ use Rattle.ciborium_value.specs.lemmas.{GivenOutcomes.{mapped_gives, one_given},
 use Rattle.ciborium.specs.Tags.{captured_of}
 use Rattle.ciborium_ll.specs.Item as items
 use Rattle.ciborium_value.specs.Tree as trees
-use Rattle.ciborium_value.specs.declared.kind.Kind.TheVariants as kinds
+use Rattle.ciborium_ll.specs.declared.kind.Kind.TheVariants as kinds
 
 -- what is written without a tag around it has none of its own, as a bignum has
 abbrev pub IsToldApart : Option ℕ → Named → Type 0

@@ -10,14 +10,15 @@ use Rattle.ciborium_value.specs.{Given.given_tree_pairs, Meaning.{tag_meaning, t
 use Rattle.ciborium_value.specs.{Meaning.{simple_meaning, is_bignum_tag}, Sources.{Fault, of_kind, of_nesting}}
 use Rattle.ciborium_value.specs.{Sources.{of_syntax, of_memory, of_device, of_end, of_length, IsFaultOf}, Tree.Tree}
 use Rattle.ciborium_value.specs.{Tree.{Trees, TreePairs}, View.{tree_of, trees_of, tree_pairs_of, trees_from}}
-use Rattle.ciborium_value.specs.{View.tree_pairs_from, declared.{deserialized.folding.Coming.Coming, kind.Kind.Kind}}
+use Rattle.ciborium_value.specs.{View.tree_pairs_from, declared.deserialized.folding.Coming.Coming}
+use Rattle.ciborium_ll.specs.declared.kind.Kind.{Kind}
 use Rattle.ciborium_value.specs.{declared.tree.Value.Value, inner.FoldedCopies.{where_folded, copied, pairs_in_turn}}
 use Rattle.ciborium_value.specs.inner.FoldedCopies.{nodes_of, IsUnfolded, path_trees, coming_trees, all_coming}
 use Rattle.ciborium_value.specs.{inner.Frames.{TreeFrame, Placed, done, more, placed}, lemmas.GivenOutcomes.pair_first}
 use Rattle.ciborium_value.specs.lemmas.{GivenOutcomes.tree_first, ItemsOfTrees.short_string-item_of}
 use Rattle.ciborium_value.specs.inner.Frames as frames
 use Rattle.ciborium_value.specs.Tree as trees
-use Rattle.ciborium_value.specs.declared.kind.Kind.TheVariants as kinds
+use Rattle.ciborium_ll.specs.declared.kind.Kind.TheVariants as kinds
 use Rattle.ciborium_value.specs.declared.tree.Value as value
 
 -- ---- what the item of a tree gives is the folded tree

@@ -16,7 +16,7 @@ use Rattle.ciborium_value.proofs.{Forms.BignumShapes.bignum-no_bytes, Forms.Give
 use Rattle.ciborium_value.proofs.{Forms.GivenValues.{given-then, given-more}, Forms.OwnForms.{own_form, bignum-formed}}
 use Rattle.ciborium_value.proofs.{Forms.ReorderedPairs.{alike-reordered, sorted-reorders}, Forms.SortedPairs.commutes}
 use Rattle.ciborium_value.specs.SameContents as same
-use Rattle.ciborium_value.specs.declared.kind.Kind.TheVariants as kinds
+use Rattle.ciborium_ll.specs.declared.kind.Kind.TheVariants as kinds
 
 -- ---- the sorted forms of pairs
 

@@ -17,7 +17,7 @@ use Rattle.ciborium_value.specs.{Tree.{TreePairs, no_tree_pairs, tree_pair}, dec
 use Rattle.ciborium_value.specs.{inner.OwnForms.{IsFormed, AreFormed, PairsAreFormed}, laws.FormLaws.FormIsItsOwn}
 use Rattle.ciborium_value.specs.{laws.FormLaws.AcceptedWhereOwnForm, lemmas.GivenOutcomes.{one_given, mapped_gives}}
 use Rattle.ciborium_value.specs.lemmas.GivenOutcomes.{then_gives, more_gives, pair_gives, meaning_given}
-use Rattle.ciborium_value.specs.declared.kind.Kind.TheVariants as kinds
+use Rattle.ciborium_ll.specs.declared.kind.Kind.TheVariants as kinds
 
 -- ---- a formed tree is its own form
 

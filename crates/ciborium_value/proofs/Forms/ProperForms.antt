@@ -13,7 +13,7 @@ use Rattle.ciborium_value.specs.lemmas.GivenOutcomes.{then_gives, more_gives, pa
 use Rattle.ciborium_value.proofs.{Forms.BignumShapes.short_where_folding, GoodItems.ProperMeanings.proper_bignum}
 use Rattle.ciborium_value.proofs.Forms.ReorderedPairs.{AreReordered, as_they_are, behind, neighbours, then_again}
 use Rattle.ciborium_value.proofs.Forms.ReorderedPairs.{sorted-reorders}
-use Rattle.ciborium_value.specs.declared.kind.Kind.TheVariants as kinds
+use Rattle.ciborium_ll.specs.declared.kind.Kind.TheVariants as kinds
 
 -- ---- bytes on which a tag folds
 

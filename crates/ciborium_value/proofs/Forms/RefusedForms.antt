@@ -8,8 +8,9 @@ use Rattle.ciborium_value.specs.{Folded.{tree_pairs_folded, tree_folding_bytes},
 use Rattle.ciborium_value.specs.{Given.{then_take, outcome_map, of_meaning}, Meaning.{bignum_meaning, tag_meaning}}
 use Rattle.ciborium_value.specs.{Meaning.{trees_more, tree_pairs_more}, Tree.{Tree, tag, array, map, Trees, no_trees}}
 use Rattle.ciborium_value.specs.{Tree.{tree, TreePairs, no_tree_pairs, tree_pair}, declared.key_order.KeyOrder.KeyOrder}
-use Rattle.ciborium_value.specs.{declared.kind.Kind.Kind, laws.FormLaws.{FormOrRefused, RefusedByDuplicates}}
-use Rattle.ciborium_value.specs.declared.kind.Kind.TheVariants as kinds
+use Rattle.ciborium_value.specs.laws.FormLaws.{FormOrRefused, RefusedByDuplicates}
+use Rattle.ciborium_ll.specs.declared.kind.Kind.{Kind}
+use Rattle.ciborium_ll.specs.declared.kind.Kind.TheVariants as kinds
 
 -- ---- what a refusal is made of
 

@@ -10,7 +10,7 @@ use Rattle.ciborium_value.specs.{Given.{gives, refuses, nests, then_take, outcom
 use Rattle.ciborium_value.specs.{Tree.{no_tree_pairs, tree_pair}, Visits.saturated}
 use Rattle.ciborium_value.specs.declared.key_order.KeyOrder.{KeyOrder, TheVariants.{LengthFirst, Bytewise}}
 use Rattle.ciborium_value.specs.{inner.OwnForms.AreApart, lemmas.PutEntries.not-at}
-use Rattle.ciborium_value.specs.declared.kind.Kind.TheVariants as kinds
+use Rattle.ciborium_ll.specs.declared.kind.Kind.TheVariants as kinds
 
 -- ---- one pair among others
 

@@ -7,7 +7,7 @@ use Rattle.std.proofs.lemmas.Str.{IsUtf8-from_is_utf8}
 use Rattle.ciborium_ll.proofs.FrontHeads.{Front, nothing, counted, opened, plain, raw, front, front_open}
 use Rattle.ciborium_ll.proofs.{ReadHeads.{Face, faces}, UsableHeads.{EachIsByte, bytes_after, take_bytes, stands-front}}
 use Rattle.ciborium_ll.{proofs.UsableHeads.{stands-length, IsStringMajor}, specs.{Bytes.greatest_offset, Head.IsHead}}
-use Rattle.ciborium_ll.specs.Refusal.{SemanticKind, Refusal, syntax, semantic, recursion_limit_exceeded, Float, Simple}
+use Rattle.ciborium_ll.specs.Refusal.{Kind, Refusal, syntax, semantic, recursion_limit_exceeded, Float, Simple}
 use Rattle.ciborium_ll.specs.Refusal.{Break, TooLarge, IsUsable, HasHead, head_refusal, IsAtFront}
 use Rattle.ciborium_ll.specs.{Spells.{IsDefiniteString, AreChunks, joined}, StringRefusal.StringType}
 use Rattle.ciborium_ll.specs.StringRefusal.{string_major, IsAllowed, PayloadRefuses, StringRefuses}
@@ -439,7 +439,7 @@ module _ (spelling : Spelling) where
         (Refuses.float (subst (λ c. IsUsable c p) f.3 good.0) f.1 f.2)
 
   judged-meets : (d : ℕ) → ReadMeets d → PartsMeet d → (b : List ℕ) (p : ℕ) (l : Limit) → IsUsable b p →
-      EachIsByte b → 2 * length b ≤ d → (o : Option SemanticKind) → spelling_fault spelling b ≡ o → Meets b p l
+      EachIsByte b → 2 * length b ≤ d → (o : Option Kind) → spelling_fault spelling b ≡ o → Meets b p l
       (checked (option_map (semantic p) o) (item_at spelling (read spelling d) (λ w. parts spelling d w (Some w) [])
       (pieces d) b p l (front b)))
   judged-meets d rec recs b p l h bytes fuel (Some kind) e = Refuses.bad_head kind h e

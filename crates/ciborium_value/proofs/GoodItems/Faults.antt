@@ -3,7 +3,7 @@ use Rattle.std.proofs.Common.{◌≡◌, ℕ, suc, ◌+◌, ◌*◌, ◌%◌, �
 use Rattle.std.proofs.Common.{◌∷◌, ◌++◌, length, Option, Some, None, refl, sym, ap, ◌∙◌, arith, lt-ltb, le-ltb}
 use Rattle.std.proofs.{Common.{ltb-false, ne_eqb, inl, inr}, lemmas.Nat.{div-mul-add, mod-mul-add}}
 use Rattle.std.proofs.lemmas.Bool.Decides.{nat_tests}
-use Rattle.ciborium_ll.specs.{Head.{IsSimple, information, argument_bytes, shortest_head}, Refusal.SemanticKind}
+use Rattle.ciborium_ll.specs.{Head.{IsSimple, information, argument_bytes, shortest_head}, Refusal.Kind}
 use Rattle.ciborium_ll.specs.Refusal.{NotShortest, Open, argument, argument_length, HasHead}
 use Rattle.ciborium_ll.proofs.{ShortestHead.no_other_is_as_short, UsableHeads.argument-information}
 use Rattle.ciborium_ll.proofs.UsableHeads.{argument_length-information, information-below, pass, and_false}
@@ -11,7 +11,7 @@ use Rattle.ciborium_value.specs.Spelling.{Spelling, any, deterministic, determin
 use Rattle.ciborium_value.specs.declared.key_order.KeyOrder.{KeyOrder}
 
 -- what is wrong with a head of this major type and argument that has so many bytes
-abbrev pub long_fault : ℕ → ℕ → ℕ → Option SemanticKind
+abbrev pub long_fault : ℕ → ℕ → ℕ → Option Kind
 long_fault m n size = cond (ltb (length (shortest_head m n)) size) (Some NotShortest) None
 
 fault-number : (m a n k : ℕ) (b : List ℕ) → m < 7 → a < 28 → argument a b ≡ n → 1 + argument_length a ≡ k →
@@ -62,7 +62,7 @@ fault-short order b m n k r lt s none =
     let len = s.2 in
     no_other_is_as_short s.0 m n s.1 (omega (arith, few, len))
   where
-    short : (t : Bool) → ◌≡◌ {A = Option SemanticKind} (cond t (Some NotShortest) None) None → t ≡ false
+    short : (t : Bool) → ◌≡◌ {A = Option Kind} (cond t (Some NotShortest) None) None → t ≡ false
     short true e = absurd cc
     short false e = refl
 

@@ -6,7 +6,7 @@ use Rattle.std.proofs.lemmas.Bool.{cond-true}
 use Rattle.ciborium_ll.proofs.{CutHeads.each-byte, FrontHeads.{Front, nothing, counted, opened, plain, raw, front}}
 use Rattle.ciborium_ll.proofs.{ReadHeads.{Face, faces}, UsableHeads.{EachIsByte, bytes_after, stands-front}}
 use Rattle.ciborium_ll.{proofs.UsableHeads.{stands-length, pass}, specs.Bytes.{AreBytes, greatest_offset}}
-use Rattle.ciborium_ll.specs.{Head.IsSimple, Refusal.{SemanticKind, Refusal, syntax, semantic, Float, Simple, Break}}
+use Rattle.ciborium_ll.specs.{Head.IsSimple, Refusal.{Kind, Refusal, syntax, semantic, Float, Simple, Break}}
 use Rattle.ciborium_ll.specs.Refusal.{TooLarge, NotFolded, recursion_limit_exceeded, IsUsable, HeadRefuses, HasHead}
 use Rattle.ciborium_ll.specs.{Refusal.IsAtFront, StringRefusal.{StringType, string_major, IsAllowed}}
 use Rattle.ciborium_ll.specs.StringRefusal.{PayloadRefuses, StringRefuses, ChunkRefuses, OpenStringRefuses}

@@ -4,7 +4,7 @@ use Rattle.std.proofs.Common.{[], ◌∷◌, ◌++◌, length, take, drop, Optio
 use Rattle.std.proofs.Common.{subst, arith, length-append, append_assoc, le-ltb, eq-eqb, ne_eqb}
 use Rattle.std.proofs.{Math.Seq.{take-append_seam, drop-append_seam}, lemmas.Nat.{div-mul-add, mod-mul-add}}
 use Rattle.std.proofs.{lemmas.Bool.Decides.nat_tests, lemmas.Bool.cond-true}
-use Rattle.ciborium_ll.specs.{Spells.{AreChunks, joined}, Refusal.{SemanticKind, Refusal, semantic, head_refusal}}
+use Rattle.ciborium_ll.specs.{Spells.{AreChunks, joined}, Refusal.{Kind, Refusal, semantic, head_refusal}}
 use Rattle.ciborium_ll.specs.Refusal.{IsUsable, HeadRefuses, HasHead, argument_length, is_reserved, is_low_simple}
 use Rattle.ciborium_ll.specs.{Refusal.payload_length, Bytes.greatest_offset}
 use Rattle.ciborium_ll.proofs.{FrontHeads.{Front, counted, opened, front, front_open}, UsableHeads.{HeadFits, low}}
@@ -72,7 +72,7 @@ module _ (spelling : Spelling) where
       ap (item_at spelling (read spelling d) (λ w. parts spelling d w (Some w) []) (pieces d) b p l) e
 
   -- a head that the spelling does not accept
-  pub read-fault : (d p : ℕ) (b : List ℕ) (l : Limit) (kind : SemanticKind) → IsUsable b p →
+  pub read-fault : (d p : ℕ) (b : List ℕ) (l : Limit) (kind : Kind) → IsUsable b p →
       spelling_fault spelling b ≡ Some kind → read spelling (suc d) b p l ≡ refused (semantic p kind)
   read-fault d p b l kind h e =
       checked-none b p _ h ∙ ap (λ o. checked (option_map (semantic p) o) (item_at spelling (read spelling d)
@@ -101,7 +101,7 @@ module _ (spelling : Spelling) where
       has None a h = (refl, h)
       has (Some f) a h = absurd cc
 
-      fine : (o : Option SemanticKind) (a : Answer Tree) → checked (option_map (semantic p) o) a ≡ ends v r q → o ≡ None
+      fine : (o : Option Kind) (a : Answer Tree) → checked (option_map (semantic p) o) a ≡ ends v r q → o ≡ None
       fine None a h = refl
       fine (Some f) a h = absurd cc
 

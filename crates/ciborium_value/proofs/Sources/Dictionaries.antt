@@ -8,7 +8,7 @@ use Rattle.ciborium_value.specs.Given.{Steps, Given, chosen, deeper_if, outcome,
 use Rattle.ciborium_value.specs.{GivenParts.{has_key, put_each, given_map}, Nesting.Limit, Places.{Shape, dictionary}}
 use Rattle.ciborium_value.specs.Sources.{Fault, of_kind, IsFaultOf, TakesAhead, RefusesAhead, EntersMap, GoesOn, Leaves}
 use Rattle.ciborium_value.specs.Sources.{RefusesNext, TakesTo, TakesItem, OwesLess, OwesNothing}
-use Rattle.ciborium_value.specs.declared.kind.Kind.TheVariants as kinds
+use Rattle.ciborium_ll.specs.declared.kind.Kind.TheVariants as kinds
 
 -- ---- from one place to the next
 

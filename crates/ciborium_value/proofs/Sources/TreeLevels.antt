@@ -9,7 +9,7 @@ use Rattle.ciborium_value.specs.{Ahead.past, inner.TreeSources.{IsTreeAhead, IsD
 use Rattle.ciborium_value.specs.{TreeAnswers.value_item, declared.deserialized.TreeSource.TreeSource, View.tree_of}
 use Rattle.ciborium_value.specs.{View.tree_pairs_of, declared.tree.Value.Value}
 use Rattle.ciborium_value.proofs.Trees.Views.{tree_of-Bytes, tree_of-Map}
-use Rattle.ciborium_value.specs.declared.kind.Kind.TheVariants as kinds
+use Rattle.ciborium_ll.specs.declared.kind.Kind.TheVariants as kinds
 use Rattle.ciborium_value.specs.declared.tree.Value as value
 
 -- ---- names

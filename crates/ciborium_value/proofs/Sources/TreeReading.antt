@@ -15,7 +15,7 @@ use Rattle.ciborium_value.specs.{Tree.Tree, TreeAnswers.value_item, View.{tree_o
 use Rattle.ciborium_value.specs.{declared.tree.Value.Value, inner.TreeSources.{IsDueValue, pair_items, value_weight}}
 use Rattle.ciborium_value.specs.inner.TreeSources.{pending_due, pending_tree_weight, due_weight}
 use Rattle.ciborium_value.specs.Tree as trees
-use Rattle.ciborium_value.specs.declared.kind.Kind.TheVariants as kinds
+use Rattle.ciborium_ll.specs.declared.kind.Kind.TheVariants as kinds
 use Rattle.ciborium_value.specs.declared.tree.Value as value
 
 -- ---- containers

@@ -11,7 +11,8 @@ use Rattle.ciborium_value.specs.{Places.{is_open, IsFull, IsOutAt, Out}, Progres
 use Rattle.ciborium_value.specs.{Progress.{Owes, TakesAll, counted, counted_of}, Sinks.{Named, and_then, all_named}}
 use Rattle.ciborium_value.specs.Sinks.{contained, container_of, in_turn, tag_of, Cause, value, IsOwed, IsReady, Begins}
 use Rattle.ciborium_value.specs.Sinks.{Tags, CanEnd, Ends, Breaks, BreaksBegin, BreaksTag, BreaksEnd, AddsNamed}
-use Rattle.ciborium_value.specs.{Sinks.BreaksNamed, declared.kind.Kind.{Kind, TheVariants.Other}}
+use Rattle.ciborium_value.specs.Sinks.{BreaksNamed}
+use Rattle.ciborium_ll.specs.declared.kind.Kind.{Kind, TheVariants.Other}
 use Rattle.ciborium_ll.specs.Item as item
 
 -- ---- results

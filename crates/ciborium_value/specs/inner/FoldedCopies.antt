@@ -6,7 +6,7 @@ use Rattle.ciborium_value.specs.declared.{deserialized.folding.{Coming.Coming, P
 use Rattle.ciborium_value.specs.inner.{Frames.{TreeFrame, Placed, done, more, placed}, Stack.begun_frame}
 use Rattle.ciborium_value.specs.declared.deserialized.folding.Coming.TheVariants as coming
 use Rattle.ciborium_value.specs.declared.deserialized.folding.Part.TheVariants as part
-use Rattle.ciborium_value.specs.declared.kind.Kind.TheVariants as kinds
+use Rattle.ciborium_ll.specs.declared.kind.Kind.TheVariants as kinds
 
 abbrev pub where_folded : Option Tree → (Tree → Option Placed) → Option Placed
 where_folded None f = None

@@ -66,8 +66,8 @@ around_of (level.Keys pairs) = in_keys (map pair_trees pairs.items)
 around_of (level.Values pairs key) = in_values (map pair_trees pairs.items) (tree_of key)
 around_of (level.Tag n) = in_tag n
 
-abbrev pub unfinished_in : Levels → List Around
-unfinished_in levels = map around_of (reverse levels.levels.items)
+abbrev pub around_in : Levels → List Around
+around_in levels = map around_of (reverse levels.levels.items)
 
 -- whether a token enters a level
 abbrev pub enters : Token → Bool

@@ -4,8 +4,9 @@ use Rattle.ciborium_ll.specs.Bytes.{greatest_offset}
 use Rattle.ciborium_value.specs.{DeterministicForms.deterministic_form, Encoding.{encoding, item_of}, Folded.folded}
 use Rattle.ciborium_value.specs.{Nesting.nesting, ProperTrees.IsProperTree, SameContents.IsAlike}
 use Rattle.ciborium_value.specs.{Spelling.{deterministic, IsReadAs}, Given.{gives, refuses}, Tree.Tree}
-use Rattle.ciborium_value.specs.{declared.key_order.KeyOrder.KeyOrder, declared.kind.Kind.Kind}
-use Rattle.ciborium_value.specs.declared.kind.Kind.TheVariants as kinds
+use Rattle.ciborium_value.specs.declared.key_order.KeyOrder.{KeyOrder}
+use Rattle.ciborium_ll.specs.declared.kind.Kind.{Kind}
+use Rattle.ciborium_ll.specs.declared.kind.Kind.TheVariants as kinds
 
 -- the form of a form is itself
 abbrev pub FormIsItsOwn : Type 0

@@ -16,8 +16,10 @@ use Rattle.ciborium_value.specs.{Sinks.or_null, StructReadings.{Fields, FieldsGi
 use Rattle.ciborium_value.specs.StructReadings.{no_field_given, no_other_given, optional_field, struct_of, given_struct}
 use Rattle.ciborium_value.specs.WrittenContents.{AreFieldsAlike, IsWrittenByContent, field_alike, list-alike}
 use Rattle.ciborium_value.specs.WrittenContents.{no_field_alike, option-alike, signed-alike, tuple1-alike, tuple2-alike}
-use Rattle.ciborium_value.specs.{WrittenContents.{tuple3-alike, tuple4-alike, unsigned-alike}, declared.kind.Kind.Kind}
-use Rattle.ciborium_value.specs.{declared.kind.Kind.TheVariants.Other, lemmas.ReadsBackNumbers.signed-back}
+use Rattle.ciborium_value.specs.WrittenContents.{tuple3-alike, tuple4-alike, unsigned-alike}
+use Rattle.ciborium_ll.specs.declared.kind.Kind.{Kind}
+use Rattle.ciborium_value.specs.lemmas.ReadsBackNumbers.{signed-back}
+use Rattle.ciborium_ll.specs.declared.kind.Kind.TheVariants.{Other}
 use Rattle.ciborium_value.specs.lemmas.{ReadsBackNumbers.unsigned-back, ReadsBackOptions.{option-back, option_levels}}
 use Rattle.ciborium_value.specs.lemmas.ReadsBackParts.{greatest, list-back, such_that_back, tuple1-back, tuple2-back}
 use Rattle.ciborium_value.specs.lemmas.{ReadsBackParts.{tuple3-back, tuple4-back}, ReadsBackStructs.FieldsReadBack}

@@ -2,7 +2,8 @@
 use Rattle.std.proofs.Common.{◌≡◌, List, ◌∷◌, Option, Some, None, refl, ap}
 use Rattle.ciborium_value.specs.{DeterministicForms.{one_more, one_pair_more}, Given.{Outcome, gives, refuses}}
 use Rattle.ciborium_value.specs.{Given.{then_take, outcome_map, of_meaning}, Tree.{Tree, Trees, tree, TreePairs}}
-use Rattle.ciborium_value.specs.{Tree.tree_pair, declared.kind.Kind.Kind}
+use Rattle.ciborium_value.specs.Tree.{tree_pair}
+use Rattle.ciborium_ll.specs.declared.kind.Kind.{Kind}
 
 -- one before others
 abbrev pub and_take : {A : Type 0} → Outcome A → Outcome (List A) → Outcome (List A)

@@ -12,7 +12,7 @@ use Rattle.ciborium_value.specs.{Nesting.Limit, WrittenContents.contents, lemmas
 use Rattle.ciborium_value.specs.lemmas.{GivenOutcomes.{one_given, then_gives}, ReadsBackStructs.nothing-twice}
 use Rattle.ciborium_value.specs.lemmas.Reordered.{AreReordered, all-reordered, as_they_are, first_stays, neighbours}
 use Rattle.ciborium_value.specs.lemmas.Reordered.{then_again}
-use Rattle.ciborium_value.specs.declared.kind.Kind.TheVariants as kinds
+use Rattle.ciborium_ll.specs.declared.kind.Kind.TheVariants as kinds
 
 -- ---- keys that rise
 

@@ -11,11 +11,12 @@ use Rattle.ciborium_value.specs.{ReadsBack.{item-back, met-itself, named}, lemma
 use Rattle.ciborium_value.specs.lemmas.ReadsBackBignums.{length-shortest, magnitude-shortest, without_zeros-shortest}
 use Rattle.ciborium_value.specs.{Sinks.{bignum_item, number_item}, Given.{gives, number_below, number_of}}
 use Rattle.ciborium_value.specs.Given.{number_within, of_meaning, outcome, settled, then_take, with_sign}
-use Rattle.ciborium_value.specs.{declared.key_order.KeyOrder.KeyOrder, declared.kind.Kind.Kind}
+use Rattle.ciborium_value.specs.declared.key_order.KeyOrder.{KeyOrder}
+use Rattle.ciborium_ll.specs.declared.kind.Kind.{Kind}
 use Rattle.ciborium_ll.specs.Item as items
 use Rattle.ciborium_value.specs.Readings as readings
 use Rattle.ciborium_value.specs.Tree as trees
-use Rattle.ciborium_value.specs.declared.kind.Kind.TheVariants as kinds
+use Rattle.ciborium_ll.specs.declared.kind.Kind.TheVariants as kinds
 
 -- ---- numbers of either sign
 

@@ -13,7 +13,7 @@ use Rattle.ciborium_value.specs.{Sinks.or_null, Tree.Tree, declared.key_order.Ke
 use Rattle.ciborium_value.specs.lemmas.{GivenOutcomes.{mapped_gives, meaning_given, one_given}, MetItems.form-kept}
 use Rattle.ciborium_ll.specs.Item as items
 use Rattle.ciborium_value.specs.Tree as trees
-use Rattle.ciborium_value.specs.declared.kind.Kind.TheVariants as kinds
+use Rattle.ciborium_ll.specs.declared.kind.Kind.TheVariants as kinds
 
 -- the levels of what there is
 abbrev pub option_levels : {T : Type 0} → (T → ℕ) → Option T → ℕ

@@ -8,7 +8,8 @@ use Rattle.ciborium_value.specs.{Given.{take_each, then_take, unpack}, GivenPart
 use Rattle.ciborium_value.specs.GivenParts.{no_part_given, part_given, given_tuple1, given_tuple2, given_tuple3}
 use Rattle.ciborium_value.specs.{GivenParts.given_tuple4, Nesting.{Limit, IsWithin}, Places.sequence}
 use Rattle.ciborium_value.specs.{ReadsBack.{IsItemRead, IsNameRead, IsReadBack, Way, at, name-back}, Sinks.Named}
-use Rattle.ciborium_value.specs.{Sinks.{and_then, all_named, contained, container_of}, declared.kind.Kind.Kind}
+use Rattle.ciborium_value.specs.Sinks.{and_then, all_named, contained, container_of}
+use Rattle.ciborium_ll.specs.declared.kind.Kind.{Kind}
 use Rattle.ciborium_value.specs.lemmas.MetItems.{AreMet, array-met, inside}
 
 -- the greatest of these levels, or 0

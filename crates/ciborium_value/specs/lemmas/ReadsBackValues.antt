@@ -13,7 +13,7 @@ use Rattle.ciborium_value.specs.{Tree.TreePairs, lemmas.GivenOutcomes.{pair_firs
 use Rattle.ciborium_value.specs.lemmas.ItemsOfTrees.{short_string-item_of, tree_is_written_as_itself}
 use Rattle.ciborium_value.specs.lemmas.ReadsBackParts.{within-left, within-right}
 use Rattle.ciborium_value.specs.Tree as trees
-use Rattle.ciborium_value.specs.declared.kind.Kind.TheVariants as kinds
+use Rattle.ciborium_ll.specs.declared.kind.Kind.TheVariants as kinds
 
 -- within as many levels this gives what there is
 abbrev IsGiven : {A : Type 0} → Option A → ℕ → Steps A → Type 0

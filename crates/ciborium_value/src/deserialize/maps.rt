@@ -8,7 +8,7 @@ ghost use Rattle.ciborium_value.specs.Sources.{TakesOneItem};
 ghost use Rattle.ciborium_value.specs.GivenParts.{has_key, given_map};
 
 use super::{Deserialize, Key};
-use crate::kind::Kind;
+use ciborium_ll::Kind;
 use crate::source::Source;
 use std::alloc::Global;
 use std::collections::BTreeMap;

@@ -6,7 +6,7 @@ ghost use Rattle.ciborium_value.specs.Readings.{IsBounded, below, bounded};
 ghost use Rattle.ciborium_value.specs.Sources.{IsGrantedFault, TakesOneItem};
 
 use super::{Deserialize, Key};
-use crate::kind::Kind;
+use ciborium_ll::Kind;
 use crate::source::Source;
 use std::alloc::Global;
 

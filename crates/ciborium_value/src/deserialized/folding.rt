@@ -10,7 +10,7 @@ ghost use Rattle.ciborium_value.specs.View.{tree_of};
 
 use crate::bignum::{FoldError, find_folding, fold};
 use crate::error::Error;
-use crate::kind::Kind;
+use ciborium_ll::Kind;
 use crate::stack::{NewFrame, Stack};
 use crate::tree::Value;
 use std::alloc::{AllocError, Global};

@@ -14,11 +14,11 @@ ghost use Rattle.ciborium_value.specs.Given.{given_name, given_text, given_unit}
 ghost use Rattle.ciborium_value.specs.inner.TreeSources.{value_weight};
 ghost use Rattle.ciborium_value.specs.TreeAnswers.{IsErrorOf, tree_fault, value_item};
 ghost use Rattle.ciborium_value.specs.View.{tree_pairs_of};
-ghost use Rattle.ciborium_value.specs.declared.kind.Kind.TheVariants as kinds;
+ghost use Rattle.ciborium_ll.specs.declared.kind.Kind.TheVariants as kinds;
 
 use crate::bignum::find_magnitude;
 use crate::error::Error;
-use crate::kind::Kind;
+use ciborium_ll::Kind;
 use crate::labels::{LabelKind, Labels};
 use crate::tree::Value;
 use ciborium_ll::tag::{BIGNEG, BIGPOS};

@@ -10,7 +10,7 @@ ghost use Rattle.ciborium_value.specs.inner.ReadTokens.{Completes, IsMisplaced, 
 ghost use Rattle.ciborium_value.specs.inner.ReadTokens.{array_part};
 ghost use Rattle.ciborium_value.specs.inner.ReadTokens.{await_of, behind, in_array, in_keys};
 ghost use Rattle.ciborium_value.specs.inner.ReadTokens.{in_tag};
-ghost use Rattle.ciborium_value.specs.inner.ReadTokens.{in_values, item, map_part, unfinished_in};
+ghost use Rattle.ciborium_value.specs.inner.ReadTokens.{in_values, item, map_part, around_in};
 ghost use Rattle.ciborium_value.specs.inner.ReadTokens.{token_read};
 
 use super::error::{NotationError, NotationFault};
@@ -54,7 +54,7 @@ pub struct Levels {
 impl Levels {
     /// None is unfinished, and so many may be.
     pub fn new(alloc: Global, limit: usize) -> Levels
-        ensures levels { unfinished_in result ≡ [] }
+        ensures levels { around_in result ≡ [] }
         ensures limit { result.limit ≡ limit }
     {
         Levels {
@@ -70,10 +70,10 @@ impl Levels {
     ///
     /// What is wanted at the end.
     pub fn end(&self, due: Due) -> Result<Value, NotationError>
-        ensures ok { IfOk result (λ v. (unfinished_in self.now ≡ []) ×
+        ensures ok { IfOk result (λ v. (around_in self.now ≡ []) ×
             (await_of due ≡ behind (tree_of v))) }
         ensures refused { IfErr result (λ _. (l : ℕ) (t : List ℕ) (v : Tree) →
-            behind_blanks t ≡ Some [] → ¬ Completes l (unfinished_in self.now) (await_of due) t v) }
+            behind_blanks t ≡ Some [] → ¬ Completes l (around_in self.now) (await_of due) t v) }
     {
         let Due::Behind(value) = due else {
             return Err(NotationError::At(0, NotationFault::Item));
@@ -90,11 +90,11 @@ impl Levels {
     ///
     /// Why it may not stand there, and `Memory`.
     pub fn take(&mut self, due: Due, token: Token, place: usize) -> Result<Due, NotationError>
-        ensures taken { IfOk result (λ next. Leads (unfinished_in self.old) (await_of due) (token_read
+        ensures taken { IfOk result (λ next. Leads (around_in self.old) (await_of due) (token_read
             token)
-            (unfinished_in self.new) (await_of next)) }
+            (around_in self.new) (await_of next)) }
         ensures refused { IfErr result
-            (IsMisplaced (unfinished_in self.old) (await_of due) (token_read token) self.old.limit) }
+            (IsMisplaced (around_in self.old) (await_of due) (token_read token) self.old.limit) }
         ensures limit { self.new.limit ≡ self.old.limit }
         ensures room { IfOk result (λ next.
             IsRoom self.old.limit (length self.old.levels.items) (await_of due) →
@@ -118,10 +118,10 @@ impl Levels {
 
     // Takes the first token of an item.
     fn take_item(&mut self, token: Token, place: usize) -> Result<Due, NotationError>
-        ensures taken { IfOk result (λ next. Leads (unfinished_in self.old) item (token_read token)
-            (unfinished_in self.new) (await_of next)) }
+        ensures taken { IfOk result (λ next. Leads (around_in self.old) item (token_read token)
+            (around_in self.new) (await_of next)) }
         ensures refused { IfErr result
-            (IsMisplaced (unfinished_in self.old) item (token_read token) self.old.limit) }
+            (IsMisplaced (around_in self.old) item (token_read token) self.old.limit) }
         ensures limit { self.new.limit ≡ self.old.limit }
         ensures room { IfOk result (λ next.
             IsRoom self.old.limit (length self.old.levels.items) item →
@@ -151,10 +151,10 @@ impl Levels {
 
     // Takes the first token of the first item of an array, or its end.
     fn take_array_part(&mut self, token: Token, place: usize) -> Result<Due, NotationError>
-        ensures taken { IfOk result (λ next. Leads (unfinished_in self.old) array_part (token_read token)
-            (unfinished_in self.new) (await_of next)) }
+        ensures taken { IfOk result (λ next. Leads (around_in self.old) array_part (token_read token)
+            (around_in self.new) (await_of next)) }
         ensures refused { IfErr result
-            (IsMisplaced (unfinished_in self.old) array_part (token_read token) self.old.limit) }
+            (IsMisplaced (around_in self.old) array_part (token_read token) self.old.limit) }
         ensures limit { self.new.limit ≡ self.old.limit }
         ensures room { IfOk result (λ next.
             IsRoom self.old.limit (length self.old.levels.items) array_part →
@@ -170,10 +170,10 @@ impl Levels {
 
     // Takes the first token of the first key of a map, or its end.
     fn take_map_part(&mut self, token: Token, place: usize) -> Result<Due, NotationError>
-        ensures taken { IfOk result (λ next. Leads (unfinished_in self.old) map_part (token_read token)
-            (unfinished_in self.new) (await_of next)) }
+        ensures taken { IfOk result (λ next. Leads (around_in self.old) map_part (token_read token)
+            (around_in self.new) (await_of next)) }
         ensures refused { IfErr result
-            (IsMisplaced (unfinished_in self.old) map_part (token_read token) self.old.limit) }
+            (IsMisplaced (around_in self.old) map_part (token_read token) self.old.limit) }
         ensures limit { self.new.limit ≡ self.old.limit }
         ensures room { IfOk result (λ next.
             IsRoom self.old.limit (length self.old.levels.items) map_part →
@@ -195,10 +195,10 @@ impl Levels {
         token: Token,
         place: usize,
     ) -> Result<Due, NotationError>
-        ensures taken { IfOk result (λ next. Leads (in_array (map tree_of items.items) ∷ unfinished_in
+        ensures taken { IfOk result (λ next. Leads (in_array (map tree_of items.items) ∷ around_in
             self.old)
-            (behind (tree_of value)) (token_read token) (unfinished_in self.new) (await_of next)) }
-        ensures refused { IfErr result (IsMisplaced (in_array (map tree_of items.items) ∷ unfinished_in
+            (behind (tree_of value)) (token_read token) (around_in self.new) (await_of next)) }
+        ensures refused { IfErr result (IsMisplaced (in_array (map tree_of items.items) ∷ around_in
             self.old)
             (behind (tree_of value)) (token_read token) self.old.limit) }
         ensures limit { self.new.limit ≡ self.old.limit }
@@ -227,10 +227,10 @@ impl Levels {
         token: Token,
         place: usize,
     ) -> Result<Due, NotationError>
-        ensures taken { IfOk result (λ next. Leads (in_keys (map pair_trees pairs.items) ∷ unfinished_in
+        ensures taken { IfOk result (λ next. Leads (in_keys (map pair_trees pairs.items) ∷ around_in
             self.old)
-            (behind (tree_of value)) (token_read token) (unfinished_in self.new) (await_of next)) }
-        ensures refused { IfErr result (IsMisplaced (in_keys (map pair_trees pairs.items) ∷ unfinished_in
+            (behind (tree_of value)) (token_read token) (around_in self.new) (await_of next)) }
+        ensures refused { IfErr result (IsMisplaced (in_keys (map pair_trees pairs.items) ∷ around_in
             self.old)
             (behind (tree_of value)) (token_read token) self.old.limit) }
         ensures limit { self.new.limit ≡ self.old.limit }
@@ -256,10 +256,10 @@ impl Levels {
         place: usize,
     ) -> Result<Due, NotationError>
         ensures taken { IfOk result (λ next. Leads (in_values (map pair_trees pairs.items) (tree_of
-            key) ∷ unfinished_in self.old)
-            (behind (tree_of value)) (token_read token) (unfinished_in self.new) (await_of next)) }
+            key) ∷ around_in self.old)
+            (behind (tree_of value)) (token_read token) (around_in self.new) (await_of next)) }
         ensures refused { IfErr result (IsMisplaced (in_values (map pair_trees pairs.items)
-            (tree_of key) ∷ unfinished_in self.old)
+            (tree_of key) ∷ around_in self.old)
             (behind (tree_of value)) (token_read token) self.old.limit) }
         ensures limit { self.new.limit ≡ self.old.limit }
         ensures room { IfOk result (λ next. length self.old.levels.items < self.old.limit →
@@ -287,9 +287,9 @@ impl Levels {
         token: Token,
         place: usize,
     ) -> Result<Due, NotationError>
-        ensures taken { IfOk result (λ next. Leads (in_tag tag ∷ unfinished_in self.old)
-            (behind (tree_of value)) (token_read token) (unfinished_in self.new) (await_of next)) }
-        ensures refused { IfErr result (IsMisplaced (in_tag tag ∷ unfinished_in self.old)
+        ensures taken { IfOk result (λ next. Leads (in_tag tag ∷ around_in self.old)
+            (behind (tree_of value)) (token_read token) (around_in self.new) (await_of next)) }
+        ensures refused { IfErr result (IsMisplaced (in_tag tag ∷ around_in self.old)
             (behind (tree_of value)) (token_read token) self.old.limit) }
         ensures limit { self.new.limit ≡ self.old.limit }
         ensures room { IfOk result (λ next. length self.old.levels.items < self.old.limit →

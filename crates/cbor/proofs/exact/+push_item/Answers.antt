@@ -1,6 +1,6 @@
 use Rattle.std.proofs.Common.{◌≡◌, ◌+◌, ◌*◌, ◌++◌, ◌∙◌, List, ℕ, ap, arith, codes, decimal, false, length, true, refl}
 use Rattle.std.proofs.{Common.{subst, ◌-◌, ◌∷◌, suc}, lemmas.Result.on_ok_weaker}
-use Rattle.ciborium_ll.specs.{ItemHeads.unfinished_in, Levels.incomplete, StringRefusal.StringType}
+use Rattle.ciborium_ll.specs.{ItemHeads.levels_of, Levels.incomplete, StringRefusal.StringType}
 use Rattle.ciborium_ll.specs.declared.levels.Level.TheVariants.{Items}
 use Rattle.cbor.specs.Exact.{AreExactly, AreOpenParts, IsBegun, IsExactly, mark, open_level, spaced}
 use Rattle.cbor.proofs.{DumpedHeads.less-unread, ExactLevels.{head-begun, no-break, part-due, parts-break, parts-due}}
@@ -223,7 +223,7 @@ push_open_parts-parts-preserved t c = (
 pub push_parts-parts-init : goal.push_parts-parts-init
 push_parts-parts-init t c = (
   none-pushed c.args.is_map c.args.heads.now c.args.text.now.items c.requires.read,
-  λ around e. subst (λ n. unfinished_in c.args.heads.now ≡ incomplete (Items n ∷ around)) (omega arith) e,
+  λ around e. subst (λ n. levels_of c.args.heads.now ≡ incomplete (Items n ∷ around)) (omega arith) e,
 )
 
 pub push_parts-parts-preserved : goal.push_parts-parts-preserved

@@ -1,5 +1,5 @@
 use Rattle.std.proofs.Common.{◌≡◌, ◌+◌, ◌-◌, ◌*◌, ◌∷◌, ◌≤◌, List, length}
-use Rattle.ciborium_ll.specs.{ItemHeads.{unfinished_in, unread}, Levels.incomplete, declared.levels.Level.Level}
+use Rattle.ciborium_ll.specs.{ItemHeads.{levels_of, unread}, Levels.incomplete, declared.levels.Level.Level}
 use Rattle.ciborium_ll.specs.declared.levels.Level.TheVariants.{Items}
 use Rattle.cbor.specs.Exact.{AreExactly, IsPushed, open_level}
 use Rattle.cbor.proofs.exact.+push_item.Given as goal
@@ -21,15 +21,15 @@ decreases-push_item l = 3 * length (unread l.heads.now) + 2
 abbrev pub invariant-push_parts-parts : goal.invariant-push_parts-parts
 invariant-push_parts-parts l =
     IsPushed (AreExactly l.is_map l.place) l.initial.heads l.heads l.initial.text.items l.text.items ×
-    ((around : List Level) → unfinished_in l.initial.heads ≡ incomplete (Items l.count ∷ around) →
-    unfinished_in l.heads ≡ incomplete (Items (l.count - l.place) ∷ around))
+    ((around : List Level) → levels_of l.initial.heads ≡ incomplete (Items l.count ∷ around) →
+    levels_of l.heads ≡ incomplete (Items (l.count - l.place) ∷ around))
 
 -- the items so far were shown, each of a byte at least, and the level is unfinished
 abbrev pub invariant-push_open_parts-parts : goal.invariant-push_open_parts-parts
 invariant-push_open_parts-parts l =
     IsPushed (AreExactly l.is_map l.place) l.initial.heads l.heads l.initial.text.items l.text.items ×
-    ((around : List Level) → unfinished_in l.initial.heads ≡ open_level l.is_map 0 ∷ around →
-    unfinished_in l.heads ≡ open_level l.is_map l.place ∷ around) ×
+    ((around : List Level) → levels_of l.initial.heads ≡ open_level l.is_map 0 ∷ around →
+    levels_of l.heads ≡ open_level l.is_map l.place ∷ around) ×
     (l.place + length (unread l.heads) ≤ length (unread l.initial.heads))
 
 abbrev pub decreases-push_open_parts-parts : goal.decreases-push_open_parts-parts

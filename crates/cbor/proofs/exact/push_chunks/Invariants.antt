@@ -1,5 +1,5 @@
 use Rattle.std.proofs.Common.{◌≡◌, ◌+◌, ◌∷◌, ◌≤◌, List, length}
-use Rattle.ciborium_ll.specs.{ItemHeads.{unfinished_in, unread}, declared.levels.Level.Level}
+use Rattle.ciborium_ll.specs.{ItemHeads.{levels_of, unread}, declared.levels.Level.Level}
 use Rattle.cbor.{proofs.ExactNotation.AreChunksBegun, specs.Exact.chunk_level}
 use Rattle.cbor.proofs.exact.push_chunks.Given as goal
 
@@ -7,8 +7,8 @@ use Rattle.cbor.proofs.exact.push_chunks.Given as goal
 abbrev pub invariant-chunks : goal.invariant-chunks
 invariant-chunks l =
     AreChunksBegun l.string l.place l.initial.heads l.heads l.initial.text.items l.text.items ×
-    ((around : List Level) → unfinished_in l.initial.heads ≡ chunk_level l.string ∷ around →
-    unfinished_in l.heads ≡ chunk_level l.string ∷ around) ×
+    ((around : List Level) → levels_of l.initial.heads ≡ chunk_level l.string ∷ around →
+    levels_of l.heads ≡ chunk_level l.string ∷ around) ×
     (l.place + length (unread l.heads) ≤ length (unread l.initial.heads))
 
 abbrev pub decreases-chunks : goal.decreases-chunks

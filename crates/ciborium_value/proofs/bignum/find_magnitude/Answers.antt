@@ -1,7 +1,7 @@
 -- Leading zeros hold nothing.
 use Rattle.std.proofs.Common.{◌≤◌, Ok, Err, length, le-leb, cond, ap, ◌∙◌, subst, sym, arith}
 use Rattle.ciborium_value.specs.{Meaning.{big_endian, without_zeros}, lemmas.ReadsBackBignums.zeros_hold_nothing}
-use Rattle.ciborium_value.specs.declared.kind.Kind.TheVariants as kinds
+use Rattle.ciborium_ll.specs.declared.kind.Kind.TheVariants as kinds
 use Rattle.ciborium_value.proofs.bignum.find_magnitude.Goals as goal
 
 pub returns : goal.returns

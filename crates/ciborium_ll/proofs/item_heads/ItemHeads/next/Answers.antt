@@ -2,7 +2,7 @@ use Rattle.std.proofs.Common.{ap, refl, subst, ◌-◌, ◌≡◌, ◌≤◌, tr
 use Rattle.ciborium_ll.proofs.HeadsRead.{behind-bytes, cut-inside-head, cut-inside-payload, ends-in-head}
 use Rattle.ciborium_ll.proofs.HeadsRead.{ends-in-payload, front-behind, head-read, malformed, misplaced, no-chunk}
 use Rattle.ciborium_ll.proofs.HeadsRead.{no-text, enters-too-many, some-unfinished, too-deep, was-misplaced, was-too-deep}
-use Rattle.ciborium_ll.{proofs.HeadsRead.whole-read, specs.{Bytes.AreBytes, Header.SpellsHeader, ItemHeads.unfinished_in}}
+use Rattle.ciborium_ll.{proofs.HeadsRead.whole-read, specs.{Bytes.AreBytes, Header.SpellsHeader, ItemHeads.levels_of}}
 use Rattle.ciborium_ll.specs.{ItemLengths.Misfits, Levels.IsPayloadOf, Refusal.is_ill_formed, inner.Fronts.IsCut}
 use Rattle.ciborium_ll.specs.inner.Fronts.{IsCutPayload, IsNoChunk, IsNoText, MayBeChunk}
 use Rattle.ciborium_ll.proofs.item_heads.ItemHeads.next.Goals as goal
@@ -23,7 +23,7 @@ pub returns-in-Cut : goal.returns-in-Cut
 returns-in-Cut c h =
     let some = some-unfinished _ _ c.is_empty.ensures c.if-is_empty.false in (
       malformed _ h some (no-chunk _ _ (subst IsCut c.rest-rest.ensures c.in-Cut.ensures.front)
-          (subst (IsNoChunk (unfinished_in c.args.self.now)) c.rest-rest.ensures
+          (subst (IsNoChunk (levels_of c.args.self.now)) c.rest-rest.ensures
           (c.is_no_chunk.ensures.yes c.if-is_no_chunk.true))),
       refl,
     )
@@ -33,7 +33,7 @@ returns-in-Cut-2 c h =
     let some = some-unfinished _ _ c.is_empty.ensures c.if-is_empty.false in (
       cut-inside-head _ h some (subst AreBytes c.rest-rest.ensures c.in-Cut-2.ensures.bytes)
           (subst IsCut c.rest-rest.ensures c.in-Cut-2.ensures.front)
-          (subst (MayBeChunk (unfinished_in c.args.self.now)) c.rest-rest.ensures
+          (subst (MayBeChunk (levels_of c.args.self.now)) c.rest-rest.ensures
           (c.is_no_chunk.ensures.no c.if-is_no_chunk.false)),
       ends-in-head _ (subst IsCut c.rest-rest.ensures c.in-Cut-2.ensures.front),
     )
@@ -44,7 +44,7 @@ returns-in-Err-Misplaced c h =
     let spelled = subst (λ b. SpellsHeader (take c.in-Head.size b) c.in-Head.header) c.rest-rest.ensures
     c.in-Head.ensures.front.0 in (
       malformed _ h some (misplaced c.args.self.now c.in-Head.header c.in-Head.size spelled
-          (was-misplaced _ _ (unfinished_in c.args.self.now) _ c.in-Err-Misplaced.field-0-is
+          (was-misplaced _ _ (levels_of c.args.self.now) _ c.in-Err-Misplaced.field-0-is
           c.in-Err-Misplaced.ensures)),
       refl,
     )
@@ -54,7 +54,7 @@ returns-in-Err-TooDeep c h =
     let spelled = subst (λ b. SpellsHeader (take c.in-Head.size b) c.in-Head.header) c.rest-rest.ensures
     c.in-Head.ensures.front.0 in (
       too-deep c.args.self.now h (enters-too-many c.args.self.now c.in-Head.header c.in-Head.size spelled
-          (was-too-deep _ _ (unfinished_in c.args.self.now) _ c.in-Err-TooDeep.field-0-is c.in-Err-TooDeep.ensures)),
+          (was-too-deep _ _ (levels_of c.args.self.now) _ c.in-Err-TooDeep.field-0-is c.in-Err-TooDeep.ensures)),
       refl,
     )
 

@@ -4,7 +4,7 @@ use Rattle.ciborium_value.proofs.Sources.Sequences.{so, Follows, IsBefore, IsIns
 use Rattle.ciborium_value.{proofs.Sources.Sequences.{owed_more, owed_all, passes_on}, specs.Given.given_byte}
 use Rattle.ciborium_value.specs.Sources.{RefusesAhead, of_kind}
 use Rattle.ciborium_tests.{proofs.FewItems.{few_from, few_more, few_blames, few_refuses, few_ends}, specs.Few.given_few}
-use Rattle.ciborium_value.specs.declared.kind.Kind.TheVariants as kinds
+use Rattle.ciborium_ll.specs.declared.kind.Kind.TheVariants as kinds
 use Rattle.ciborium_tests.proofs.few.FewDeserialize.deserialize.Goals as goal
 
 pub returns-in_err-next-clause-takes : goal.returns-in_err-next-clause-takes

@@ -6,7 +6,7 @@ use Rattle.ciborium_value.proofs.Sources.Sequences.{so, Follows, IsBefore, takes
 use Rattle.ciborium_value.proofs.Sources.Dictionaries.{IsInsideMap, map_begins, map_more, map_blames_next}
 use Rattle.ciborium_value.proofs.Sources.Dictionaries.{map_blames_again, map_blames_key, map_blames_value, map_ends}
 use Rattle.ciborium_value.proofs.{Sources.Dictionaries.{owed_pair, owed_pairs}, deserialize.maps.read_map.Given.Over}
-use Rattle.ciborium_value.specs.declared.kind.Kind.TheVariants as kinds
+use Rattle.ciborium_ll.specs.declared.kind.Kind.TheVariants as kinds
 use Rattle.ciborium_value.proofs.deserialize.maps.read_map.Goals as goal
 
 -- a key occurs again where its content does

@@ -4,7 +4,7 @@ use Rattle.ciborium.proofs.Items.SkippedTags.{bare-head, bare-behind, skips-none
 use Rattle.ciborium.{proofs.Items.{SkippedTags.denies-behind, TakenOnly.same-end}, specs.inner.ByteSources.IsUnread}
 use Rattle.ciborium.specs.inner.{ByteSources.{end_at, fault_at}, FrontItems.TakesHead, Skips.IsEndTag}
 use Rattle.ciborium_ll.specs.declared.header.Header.TheVariants as header
-use Rattle.ciborium_value.specs.declared.kind.Kind.TheVariants as kinds
+use Rattle.ciborium_ll.specs.declared.kind.Kind.TheVariants as kinds
 use Rattle.ciborium.proofs.de.byte_source.ByteSource.bare_head.Goals as goal
 
 pub returns-in_err-header-clause-denied : goal.returns-in_err-header-clause-denied

@@ -3,7 +3,7 @@ use Rattle.ciborium_value.specs.Sources.{of_kind}
 use Rattle.ciborium.proofs.Items.{FrontReads.weighs-none, SkippedTags.{skips-none, skips-more, denies-item}}
 use Rattle.ciborium.{proofs.Items.{SkippedTags.denies-break, TakenOnly.same-end}, specs.inner.ByteSources.IsUnread}
 use Rattle.ciborium.specs.inner.{ByteSources.{end_at, fault_at}, FrontItems.TakesHead, Skips.IsEndTag}
-use Rattle.ciborium_value.specs.declared.kind.Kind.TheVariants as kinds
+use Rattle.ciborium_ll.specs.declared.kind.Kind.TheVariants as kinds
 use Rattle.ciborium.proofs.de.byte_source.ByteSource.behind_tags.Goals as goal
 
 pub tags-init : goal.tags-init

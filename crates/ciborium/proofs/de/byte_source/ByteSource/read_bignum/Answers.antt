@@ -4,7 +4,7 @@ use Rattle.ciborium.specs.{inner.ByteSources.{IsUnread, end_at, fault_at}, inner
 use Rattle.ciborium.specs.inner.StringContents.{TakesNumber}
 use Rattle.ciborium.proofs.Payloads.OpenNumbers.{bignum-reads, bignum-large, bignum-content, bignum-no-head}
 use Rattle.ciborium.proofs.{Payloads.OpenNumbers.{bignum-break, bignum-other}, Items.TakenOnly.same-end}
-use Rattle.ciborium_value.specs.declared.kind.Kind.TheVariants as kinds
+use Rattle.ciborium_ll.specs.declared.kind.Kind.TheVariants as kinds
 use Rattle.ciborium.proofs.de.byte_source.ByteSource.read_bignum.Goals as goal
 
 pub returns-in_err-header-clause-answer : goal.returns-in_err-header-clause-answer

@@ -7,7 +7,7 @@ use Rattle.ciborium.proofs.Items.{BareScalars.bignum-denied, SkippedTags.{denies
 use Rattle.ciborium.{proofs.Items.TakenOnly.same-end, specs.inner.ByteSources.{IsUnread, end_at, fault_at}}
 use Rattle.ciborium.specs.inner.{FrontItems.Reads, Skips.{TakesBare, IsBare}}
 use Rattle.ciborium_ll.specs.declared.header.Header.TheVariants as header
-use Rattle.ciborium_value.specs.declared.kind.Kind.TheVariants as kinds
+use Rattle.ciborium_ll.specs.declared.kind.Kind.TheVariants as kinds
 use Rattle.ciborium.proofs.de.byte_source.ByteSource.read_integer.Goals as goal
 
 pub returns-in_err-header-clause-answer : goal.returns-in_err-header-clause-answer

@@ -8,7 +8,7 @@ use Rattle.ciborium.proofs.{Containers.NextParts.aside-unread, Items.SkippedTags
 use Rattle.ciborium.proofs.Items.{SkippedTags.{denies-of-item, skips-none}, TakenOnly.kept-alone}
 use Rattle.ciborium.specs.inner.ByteSources.{IsUnread, IsUnreadBy, end_at, fault_at, pending_head_weight}
 use Rattle.ciborium.specs.inner.FrontItems.{TakesHead}
-use Rattle.ciborium_value.specs.declared.kind.Kind.TheVariants as kinds
+use Rattle.ciborium_ll.specs.declared.kind.Kind.TheVariants as kinds
 use Rattle.ciborium.proofs.de.byte_source.source.ByteSourceSource.begin_tag.Goals as goal
 
 pub returns-in_err-header-clause-refused : goal.returns-in_err-header-clause-refused

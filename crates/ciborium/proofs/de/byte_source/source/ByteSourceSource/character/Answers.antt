@@ -10,7 +10,7 @@ use Rattle.ciborium.proofs.{Items.SkippedTags.reads-bare, Items.TakenOnly.same-e
 use Rattle.ciborium.proofs.{Payloads.StringPayloads.string-behind, Containers.ByteItems.{bare-refused, behind-given}}
 use Rattle.ciborium.proofs.Containers.ByteItems.{behind-refused, head-refused, other-refuses, refuses-denied}
 use Rattle.ciborium_ll.specs.declared.header.Header.TheVariants as header
-use Rattle.ciborium_value.specs.declared.kind.Kind.TheVariants as kinds
+use Rattle.ciborium_ll.specs.declared.kind.Kind.TheVariants as kinds
 use Rattle.ciborium.proofs.de.byte_source.source.ByteSourceSource.character.Goals as goal
 
 short : (n : ℕ) → n ≤ 4 → length {A = ℕ} (take n (0 ∷ 0 ∷ 0 ∷ 0 ∷ [])) ≡ n

@@ -1,7 +1,7 @@
 //! What was found in place of the wanted item.
 
 ghost use Rattle.std.specs.Prelude.{◌≡◌, Some};
-ghost use Rattle.ciborium_value.specs.RefusalMessages.{kind_message};
+ghost use Rattle.ciborium_ll.specs.HeadMessages.{kind_message};
 
 use std::{error, fmt};
 
