@@ -94,8 +94,10 @@ chunk-head string (header.Array None) around more other e =
     absurd (none-enters level.OpenItems _ more (no-item-due string around) e)
 chunk-head string (header.Map (Some n)) around more other e =
     absurd (none-enters (level.Items (n + n)) _ more (no-item-due string around) e)
-chunk-head string (header.Map None) around more other e = absurd (none-enters level.OpenKeys _ more (no-item-due string around) e)
-chunk-head string (header.Tag n) around more other e = absurd (none-enters (level.Items 1) _ more (no-item-due string around) e)
+chunk-head string (header.Map None) around more other e = absurd
+    (none-enters level.OpenKeys _ more (no-item-due string around) e)
+chunk-head string (header.Tag n) around more other e = absurd
+    (none-enters (level.Items 1) _ more (no-item-due string around) e)
 chunk-head string (header.Positive n) around more other e = absurd (cc (e, no-item-due string around))
 chunk-head string (header.Negative n) around more other e = absurd (cc (e, no-item-due string around))
 chunk-head string (header.Simple n) around more other e = absurd (cc (e, no-item-due string around))

@@ -219,7 +219,8 @@ less-left a b c r head before is =
 
 -- where no level is unfinished, what was read is one item
 pub front-pushed : (old new : ItemHeads) (b text longer : List ℕ) (n : ℕ) → old.bytes.now ≡ b → old.offset ≡ 0 →
-    levels_of new ≡ [] → n ≡ length (unread new) → IsPushed IsExactly old new text longer → IsFrontPushed b n text longer
+    levels_of new ≡ [] → n ≡ length (unread new) → IsPushed IsExactly old new text longer → IsFrontPushed b n text
+    longer
 front-pushed old new b text longer n whole at none count (s, t, passed, shows, e) =
     (s, unread new, t, item, front, count, shows, e)
   where

@@ -57,7 +57,8 @@ front-of-all e b limit other (inl refuses) = refuses
 front-of-all e b limit other (inr trailing) = absurd {A = _} (other _ trailing.6)
 
 -- what such an error stands for refuses them
-pub slice-refused : {E : Type 0} (named : Option LineRefusal) (answer : LineRefusal) (e : Error E) (b : List ℕ) (limit : ℕ) →
+pub slice-refused : {E : Type 0} (named : Option LineRefusal) (answer : LineRefusal) (e : Error E) (b : List ℕ)
+    (limit : ℕ) →
     answer ≡ unwrap_or named Memory → IfSome named (λ r. StandsFor e true r) →
     IsRefusedBy (Some []) e (RefusesItem Any b limit) → AreRefused Any b limit answer
 slice-refused named answer e b limit same h refuses = front-refuses-all Any b limit answer

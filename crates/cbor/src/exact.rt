@@ -110,7 +110,8 @@ fn next_head<'b>(heads: &mut ItemHeads<'b>) -> Result<ItemHead<'b>, Unshown>
 #[cycle(push_item)]
 fn push_next(alloc: Global, heads: &mut ItemHeads, text: &mut Vec<u8>) -> Result<(), Unshown>
     requires read { HasRead heads.old }
-    requires due { (n : ℕ) × (around : List Level) × (levels_of heads.old ≡ Items (suc n) ∷ around) }
+    requires due { (n : ℕ) × (around : List Level)
+        × (levels_of heads.old ≡ Items (suc n) ∷ around) }
     ensures shown { OnOk result
         (IsPushed IsExactly heads.old heads.new text.old.items text.new.items) }
     ensures left { OnOk result ((n : ℕ) (around : List Level) →
@@ -191,7 +192,8 @@ fn push_parts(
     text: &mut Vec<u8>,
 ) -> Result<(), Unshown>
     requires read { HasRead heads.old }
-    requires due { (around : List Level) × (levels_of heads.old ≡ incomplete (Items count ∷ around)) }
+    requires due { (around : List Level)
+        × (levels_of heads.old ≡ incomplete (Items count ∷ around)) }
     ensures shown { OnOk result
         (IsPushed (AreExactly is_map count) heads.old heads.new text.old.items text.new.items) }
     ensures left { OnOk result ((around : List Level) →
@@ -219,7 +221,8 @@ fn push_open_parts(
     ensures shown { OnOk result
         (IsPushed (AreOpenParts is_map) heads.old heads.new text.old.items text.new.items) }
     ensures left { OnOk result ((around : List Level) →
-        levels_of heads.old ≡ open_level is_map 0 ∷ around → levels_of heads.new ≡ incomplete around) }
+        levels_of heads.old ≡ open_level is_map 0 ∷ around →
+        levels_of heads.new ≡ incomplete around) }
     ensures unshown { IfErr result (λ unshown. Explains heads.old.bytes.now unshown) }
 {
     'parts: for place in 0..u128::MAX {
@@ -246,7 +249,8 @@ fn push_chunks(
         (IsPushed (AreOpenChunks string) heads.old heads.new text.old.items
         text.new.items) }
     ensures left { OnOk result ((around : List Level) →
-        levels_of heads.old ≡ chunk_level string ∷ around → levels_of heads.new ≡ incomplete around) }
+        levels_of heads.old ≡ chunk_level string ∷ around →
+        levels_of heads.new ≡ incomplete around) }
     ensures unshown { IfErr result (λ unshown. Explains heads.old.bytes.now unshown) }
 {
     'chunks: for place in 0..u128::MAX {

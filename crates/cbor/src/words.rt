@@ -20,8 +20,8 @@ use ciborium_value::KeyOrder::{Bytewise, LengthFirst};
 // How many flags a command has at most.
 const MOST_FLAGS: usize = 3;
 
-// The greatest limit that a word names. Writing, showing and dropping a value take stack for each of
-// its levels, and so many fit the 8 MiB that a process has by default.
+// The greatest limit that a word names. Writing, showing and dropping a value take stack for each
+// of its levels, and so many fit the 8 MiB that a process has by default.
 const MOST_LEVELS: usize = 10_000;
 
 /// What all of the words ask for, or `None` where they ask for nothing.

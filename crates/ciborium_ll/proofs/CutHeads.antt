@@ -11,7 +11,8 @@ use Rattle.ciborium_ll.specs.{Bytes.AreBytes, Head.{IsHead, one_byte, two_bytes,
 use Rattle.ciborium_ll.specs.{Header.SpellsHeader, ItemLengths.chunk_major, Levels.{EndAll, behind_item, behind_bytes}}
 use Rattle.ciborium_ll.specs.{Levels.{behind_text, behind_head, IsPayloadOf, incomplete}, Refusal.argument_length}
 use Rattle.ciborium_ll.proofs.{BegunTexts.{zeros, length-zeros, bytes-zeros, text-zeros}, LevelEnds.can-end}
-use Rattle.ciborium_ll.proofs.{LevelFronts.{AreUnfinished, are-unfinished, front-of-end, ends-behind}, UsableHeads.EachIsByte}
+use Rattle.ciborium_ll.proofs.LevelFronts.{AreUnfinished, are-unfinished, front-of-end, ends-behind}
+use Rattle.ciborium_ll.proofs.UsableHeads.{EachIsByte}
 use Rattle.ciborium_ll.proofs.{UsableHeads.byte_at, Advancing.single, HeadAnswers.head-some}
 use Rattle.ciborium_ll.specs.declared.header.Header.TheVariants as header
 

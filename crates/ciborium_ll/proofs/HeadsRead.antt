@@ -3,12 +3,15 @@ use Rattle.std.proofs.Common.{◌≡◌, ℕ, ◌+◌, ◌-◌, ◌<◌, ◌≤�
 use Rattle.std.proofs.Common.{Bool, true, false, IsTrue, refl, sym, ap, subst, eqb, ◌∙◌, ◌%◌, inl, inr, arith}
 use Rattle.std.proofs.{Common.{append_assoc, drop-drop, take-append-drop, length-take-le}, Math.Seq.take-add}
 use Rattle.std.proofs.lemmas.{Bool.eqb-false, List.{length-drop, take_rest}}
-use Rattle.ciborium_ll.proofs.{CutHeads.{cut-head, cut-string, long-no-break}, LevelEnds.{incomplete-again, unfinished-end}}
-use Rattle.ciborium_ll.proofs.{LevelEnds.{unfinished-incomplete, unfinished-start}, LevelFronts.left-behind, LevelMisfits.no-item}
+use Rattle.ciborium_ll.proofs.CutHeads.{cut-head, cut-string, long-no-break}
+use Rattle.ciborium_ll.proofs.LevelEnds.{incomplete-again, unfinished-end}
+use Rattle.ciborium_ll.proofs.{LevelEnds.{unfinished-incomplete, unfinished-start}, LevelFronts.left-behind}
+use Rattle.ciborium_ll.proofs.LevelMisfits.{no-item}
 use Rattle.ciborium_ll.{proofs.UniqueSpelling.none_begins_another, specs.{Bytes.AreBytes, Head.break_byte}}
 use Rattle.ciborium_ll.specs.{Header.SpellsHeader, ItemHeads.{HasRead, levels_of, unread, was_read}}
 use Rattle.ciborium_ll.specs.ItemLengths.{BeginNoItem, BeginText, EndInside, IsNoItem, Misfits, EntersTooMany}
-use Rattle.ciborium_ll.specs.{ItemLengths.StandsInside, Levels.{AreItem, EndAll, AreLeftBehind, IsPayloadOf, behind_head}}
+use Rattle.ciborium_ll.specs.ItemLengths.{StandsInside}
+use Rattle.ciborium_ll.specs.Levels.{AreItem, EndAll, AreLeftBehind, IsPayloadOf, behind_head}
 use Rattle.ciborium_ll.specs.{Levels.incomplete, Refusal.argument_length, Spells.Spells, declared.header.Header.Header}
 use Rattle.ciborium_ll.specs.declared.{header.Header.TheVariants.{Bytes, Text}, item_heads.ItemHeads.ItemHeads}
 use Rattle.ciborium_ll.specs.declared.item_heads.NoItem.{NoItem, TheVariants.{Incomplete, Malformed, TooDeep}}
@@ -37,7 +40,8 @@ whole-read heads h e = unfinished-end (was_read heads) (subst (AreLeftBehind (wa
 both : (heads : ItemHeads) → was_read heads ++ unread heads ≡ heads.bytes.now
 both heads = take-append-drop heads.offset heads.bytes.now
 
-stands : (heads : ItemHeads) → HasRead heads → StandsInside heads.bytes.now heads.offset (levels_of heads) (unread heads)
+stands : (heads : ItemHeads) → HasRead heads → StandsInside heads.bytes.now heads.offset (levels_of heads)
+    (unread heads)
 stands heads h = record {
   before = was_read heads;
   whole = sym (both heads);
@@ -45,10 +49,12 @@ stands heads h = record {
   inside = h.levels;
 }
 
-pub malformed : (heads : ItemHeads) → HasRead heads → ¬ (levels_of heads ≡ []) → Misfits (levels_of heads) (unread heads) →
+pub malformed : (heads : ItemHeads) → HasRead heads → ¬ (levels_of heads ≡ []) → Misfits (levels_of heads)
+    (unread heads) →
     IsNoItem heads.bytes.now (Malformed heads.offset)
 malformed heads h some m = (
-  subst BeginNoItem (both heads) (no-item (was_read heads) (unread heads) (levels_of heads) h.incomplete some h.levels m),
+  subst BeginNoItem (both heads) (no-item (was_read heads) (unread heads) (levels_of heads) h.incomplete some h.levels
+  m),
   (levels_of heads, unread heads, stands heads h, m),
 )
 
@@ -89,7 +95,8 @@ misplaced heads header size spelled none = Misfits.misplaced header (take size (
     (drop size (unread heads)) spelled (sym (take-append-drop size (unread heads))) none
 
 -- it enters too many levels
-pub enters-too-many : (heads : ItemHeads) (header : Header) (size : ℕ) → SpellsHeader (take size (unread heads)) header →
+pub enters-too-many : (heads : ItemHeads) (header : Header) (size : ℕ) → SpellsHeader (take size (unread heads)) header
+    →
     (more : List Level) × (behind_head header (levels_of heads) ≡ Some more) × (length (levels_of heads) ≡ 257) ×
     (length more ≡ 258) → EntersTooMany (levels_of heads) (unread heads)
 enters-too-many heads header size spelled (more, placed, kept, one) = (
@@ -131,7 +138,8 @@ head-read heads header size n levels h spelled room (there, payload) (more, plac
     ≡ was_read heads ++ (take size rest ++ take n (drop size rest)) =
     take-add heads.offset (size + n) heads.bytes.now ∙
     ap (λ (b : List ℕ). was_read heads ++ b) (take-add size n rest) in
-    let state = unfinished-incomplete _ more (left-behind (was_read heads) header (take size rest) (take n (drop size rest))
+    let state = unfinished-incomplete _ more (left-behind (was_read heads) header (take size rest)
+    (take n (drop size rest))
     (levels_of heads) more spelled payload placed h.levels) in
     record {
       within = omega (arith, room, there, length-drop size rest, length-drop heads.offset heads.bytes.now, h.within);
@@ -195,7 +203,8 @@ front-behind heads r size n levels e =
     ap (λ (b : List ℕ). take size r ++ (take n b ++ d)) (sym (behind-bytes r u size e))
 
 -- some level is unfinished
-pub some-unfinished : (levels : List Level) (b : Bool) → (IsTrue b → levels ≡ []) × (levels ≡ [] → IsTrue b) → b ≡ false →
+pub some-unfinished : (levels : List Level) (b : Bool) → (IsTrue b → levels ≡ []) × (levels ≡ [] → IsTrue b) → b ≡ false
+    →
     ¬ (levels ≡ [])
 some-unfinished levels b is f e = let never : false ≡ true = sym f ∙ is.1 e in absurd cc
 

@@ -91,7 +91,8 @@ incomplete-again (Items zero ∷ levels) = incomplete-again levels
 incomplete-again u = refl
 
 -- complete levels may be dropped
-pub unfinished-incomplete : (c : List ℕ) (levels : List Level) → AreLeftBehind c levels → AreLeftBehind c (incomplete levels)
+pub unfinished-incomplete : (c : List ℕ) (levels : List Level) → AreLeftBehind c levels → AreLeftBehind c
+    (incomplete levels)
 unfinished-incomplete c levels o = record {
   complete = λ b e. o.complete b
       (to-end levels b (from-incomplete anywhere levels b [] (end-to (incomplete levels) b e)));

@@ -48,7 +48,8 @@ none-behind heads.Break levels i b t k = k
 none-behind header levels i b t k = i
 
 -- where a head may stand, something is still to come
-pub behind-unfinished : (header : Header) (levels more : List Level) → behind_head header levels ≡ Some more → AreUnfinished levels
+pub behind-unfinished : (header : Header) (levels more : List Level) → behind_head header levels ≡ Some more →
+    AreUnfinished levels
 behind-unfinished header [] more behind =
     let none = none-behind header [] refl refl refl refl in absurd cc
 behind-unfinished header (Items zero ∷ levels) more behind =
@@ -265,7 +266,8 @@ module _ (S : Standing) where
 
 -- ---- what ends the levels, with nothing behind it
 
-pub front-of-end : (levels : List Level) (x : List ℕ) → AreUnfinished levels → EndAll levels x → HeadTo anywhere levels x []
+pub front-of-end : (levels : List Level) (x : List ℕ) → AreUnfinished levels → EndAll levels x → HeadTo anywhere levels
+    x []
 front-of-end levels x some ends = front anywhere levels x [] some (end-to levels x ends)
 
 pub ends-behind : (header : Header) (h payload : List ℕ) (levels more : List Level) (b : List ℕ) →

@@ -228,8 +228,8 @@ pub trait Source {
         ensures reads { reads self.old self.new (read_as tree_of result) };
 
     /// Passes over the item ahead, of any kind, also one that no `Value` holds, as a float. Nothing
-    /// is made of it: memory is taken only for the levels around a place in it. It takes the levels that
-    /// `value` takes.
+    /// is made of it: memory is taken only for the levels around a place in it. It takes the levels
+    /// that `value` takes.
     fn skip(&mut self, alloc: Global) -> Result<(), Self::Error>
         ensures takes { TakesOneItem stands_before is_unread has_taken left cause self.old self.new
             given_skip (λ v. v) result };

@@ -54,7 +54,8 @@ module _ {S W P : Type 0} (remaining : S → Option (List ℕ)) (old : ByteSourc
     module _ (len : Option ℕ) (is : h ≡ header.Text len) where
       -- it is a text, whose payload was taken
       pub key-text : (new : ByteSource S W) (v : P) →
-          TakesPlace (IsUnread remaining mid) (IsUnread remaining new) StringType.Text len (name_place place) v → IsKey new v
+          TakesPlace (IsUnread remaining mid) (IsUnread remaining new) StringType.Text len (name_place place) v → IsKey
+          new v
       key-text new v (payload, content, same) b u =
           let (x, y, hd, e, un) = head b u in
           let (c, z, make, f, un') = content y un in (

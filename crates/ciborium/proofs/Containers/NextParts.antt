@@ -352,7 +352,8 @@ module _ {S W : Type 0} (remaining : S → Option (List ℕ)) where
   leaves-open old mid new q is kept took levels none into = (
     λ l span its f (b, u, (s, r, stand, rest, e), lv, ahead) (lq, hold).
         let (x, y, hd, g, un) = took b u in
-        let (empty, all) = unfinished-end Spells item-begins span its s r b x y (subst (λ k. HoldsItems k span its) is hold)
+        let (empty, all) = unfinished-end Spells item-begins span its s r b x y
+        (subst (λ k. HoldsItems k span its) is hold)
         stand e hd g in (
           empty,
           stands-past remaining old new l q y f (kept-reader remaining old new kept b u) levels none (into y un)

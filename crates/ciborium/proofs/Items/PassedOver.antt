@@ -1,7 +1,8 @@
 -- An item that is passed over head by head: what is said of each, and then of the item.
 use Rattle.std.proofs.Common.{◌≡◌, ℕ, suc, ◌+◌, ◌≤◌, ◌<◌, Bool, true, false, List, [], ◌∷◌, ◌++◌, length, length-append}
 use Rattle.std.proofs.Common.{Option, Some, None, refl, sym, ap, ◌∙◌, subst, arith, ltb, ltb-true, ltb-false}
-use Rattle.ciborium_ll.proofs.{LevelFronts.{AreUnfinished, are-unfinished, behind-to, front, misplaced}, LevelHeads.entered-inner}
+use Rattle.ciborium_ll.proofs.LevelFronts.{AreUnfinished, are-unfinished, behind-to, front, misplaced}
+use Rattle.ciborium_ll.proofs.LevelHeads.{entered-inner}
 use Rattle.ciborium_ll.proofs.LevelsTo.{around, behind-around, done, from-incomplete, longer, not-done, start, started}
 use Rattle.ciborium_ll.{proofs.{LevelsTo.to-incomplete, OneHeader.one_header_at_front}, specs.Header.SpellsHeader}
 use Rattle.ciborium_ll.specs.{Item.Item, Levels.{IsPayloadOf, behind_head, behind_item, incomplete, levels_by, entered}}

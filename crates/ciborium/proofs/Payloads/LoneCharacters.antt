@@ -86,7 +86,8 @@ module _ {S : Type 0} (IsUnread : S → List ℕ → Type 0) (End : S → ℕ) (
       let (i, t, is, sq, g) = tagged.inward j s z sp e in
       let (payload, io) = string-only StringType.Text (Some n) i
       (same-head t z x y i (header.Text (Some n)) sq hd (sym g ∙ f)).0 in
-      let (size, utf8, h) = definite-payload StringType.Text n y x t z payload hd (subst (Spells t) io sq) (sym f ∙ g) in
+      let (size, utf8, h) = definite-payload StringType.Text n y x t z payload hd (subst (Spells t) io sq) (sym f ∙ g)
+      in
       subst (λ o. IsFaultOf end fault o) (sym (ap settled (ap (λ k. bare_character (untagged k)) is ∙
       ap bare_character (untagged-under ts i) ∙ ap (λ k. bare_character (untagged k)) io)))
       (blames y z payload end un (sym size) utf8 h (subst (λ n. n ≤ end + length z) (sym (same b u)) fits))

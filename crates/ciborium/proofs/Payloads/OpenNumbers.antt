@@ -5,7 +5,8 @@ use Rattle.std.proofs.lemmas.List.Elements.{All-append}
 use Rattle.ciborium_ll.proofs.{OneHeader.one_header_at_front, OpenStrings.{AreParts-more, joined-more}}
 use Rattle.ciborium_ll.{proofs.UniqueSpelling.one_at_front, specs.{Bytes.AreBytes, Head.{IsHead, open_byte}}}
 use Rattle.ciborium_ll.specs.{Head.break_byte, Header.{SpellsHeader, announced_length}, Item.{Item, bytes}}
-use Rattle.ciborium_ll.specs.{Spells.{Spells, AreChunks, joined}, StringRefusal.StringType, declared.header.Header.Header}
+use Rattle.ciborium_ll.specs.{Spells.{Spells, AreChunks, joined}, StringRefusal.StringType}
+use Rattle.ciborium_ll.specs.declared.header.Header.{Header}
 use Rattle.ciborium_value.{proofs.Sources.Sequences.fault_outside, specs.Given.{bignum_of, settled, given_bignum}}
 use Rattle.ciborium_value.specs.{Places.is_open, Sources.{Fault, IsOutsideFault, of_kind}}
 use Rattle.ciborium.proofs.Items.ItemHeads.{header_of, first-head, first-payload, same-head, no-break-head, by-shape}
@@ -185,11 +186,13 @@ module _ {S : Type 0} (IsUnread : S → List ℕ → Type 0) (End : S → ℕ) (
       ap settled (ap bignum_of one.2 ∙ digits-none payload small val)
 
   pub bignum-content : (len : Option ℕ) (fault : Fault) → ((b : List ℕ) → IsUnread old b → End mid ≡ End old) →
-      TakesHead IsUnread old mid (header.Bytes len) → DeniesContent (IsUnread mid) (End mid) StringType.Bytes len fault →
+      TakesHead IsUnread old mid (header.Bytes len) → DeniesContent (IsUnread mid) (End mid) StringType.Bytes len fault
+      →
       Denies IsUnread End old None given_bignum fault
   bignum-content len fault same took none b s z i end u sp e fits =
       let (x, y, hd, f, un) = took b u in
-      let (payload, io) = string-only StringType.Bytes len i (same-head s z x y i (header.Bytes len) sp hd (sym e ∙ f)).0 in
+      let (payload, io) = string-only StringType.Bytes len i
+      (same-head s z x y i (header.Bytes len) sp hd (sym e ∙ f)).0 in
       fault_outside end fault (settled (bignum_of i)) (none y x s z payload end un hd (subst (Spells s) io sp)
       (sym f ∙ e)
       (subst (λ n. n ≤ end + length z) (sym (same b u)) fits))

@@ -184,7 +184,8 @@ module _ {S W : Type 0} (remaining : S → Option (List ℕ)) (d : Decoder S W) 
           ReadsItem spelling (Some l) (r spelling a) (q spelling a) (trees.bytes y) s
           (q spelling a + length (string spelling a).0 + n)
       payload y s len low split = let w = string-front spelling a in
-          reads-string spelling StringType.Bytes (r spelling a) (q spelling a) n (length (string spelling a).0) (Some l) y s
+          reads-string spelling StringType.Bytes (r spelling a) (q spelling a) n (length (string spelling a).0) (Some l)
+          y s
           ((string spelling a).0, w.spelled, refl, w.split ∙ ap (λ (z : List ℕ). (string spelling a).0 ++ z) split) len
           low good.1 fits
 

@@ -53,7 +53,8 @@ module _ (P Q : List ℕ → Type 0) where
   -- the payload of a byte string was taken, which makes this number
   abbrev pub TakesNumber : Option ℕ → Option ℕ → Type 0
   TakesNumber len v = (y : List ℕ) → P y → (payload : List ℕ) × (c : List ℕ) × (z : List ℕ) ×
-      IsContent StringType.Bytes len c payload × (v ≡ digits_of (Some 0) payload) × AreBytes payload × (y ≡ c ++ z) × Q z
+      IsContent StringType.Bytes len c payload × (v ≡ digits_of (Some 0) payload) × AreBytes payload × (y ≡ c ++ z) × Q
+      z
 
   -- of an open byte string some parts were taken, which make this number
   abbrev pub TakesParts : Option ℕ → Type 0

@@ -397,11 +397,13 @@ module _ (spelling : Spelling) where
     opened-meets (suc zero) r e lt a0 a1 a6 room = absurd (a1 refl)
     opened-meets (suc (suc zero)) r e lt a0 a1 a6 room =
         let lb : length b ≡ suc (length r) = ap length e in
-        open-item StringType.Bytes r (pieces d 2 r (p + 1)) e (pieces-meet StringType.Bytes d r (p + 1) (omega (arith, room))
+        open-item StringType.Bytes r (pieces d 2 r (p + 1)) e
+        (pieces-meet StringType.Bytes d r (p + 1) (omega (arith, room))
         (rest-bytes b (95 ∷ []) r e bytes) (omega (arith, lb, fuel)))
     opened-meets (suc (suc (suc zero))) r e lt a0 a1 a6 room =
         let lb : length b ≡ suc (length r) = ap length e in
-        open-item StringType.Text r (pieces d 3 r (p + 1)) e (pieces-meet StringType.Text d r (p + 1) (omega (arith, room))
+        open-item StringType.Text r (pieces d 3 r (p + 1)) e
+        (pieces-meet StringType.Text d r (p + 1) (omega (arith, room))
         (rest-bytes b (127 ∷ []) r e bytes) (omega (arith, lb, fuel)))
     opened-meets (suc (suc (suc (suc zero)))) r e lt a0 a1 a6 room =
         let lb : length b ≡ suc (length r) = ap length e in

@@ -151,7 +151,8 @@ impl Levels {
 
     // Takes the first token of the first item of an array, or its end.
     fn take_array_part(&mut self, token: Token, place: usize) -> Result<Due, NotationError>
-        ensures taken { IfOk result (λ next. Leads (around_in self.old) array_part (token_read token)
+        ensures taken { IfOk result
+            (λ next. Leads (around_in self.old) array_part (token_read token)
             (around_in self.new) (await_of next)) }
         ensures refused { IfErr result
             (IsMisplaced (around_in self.old) array_part (token_read token) self.old.limit) }
@@ -230,7 +231,8 @@ impl Levels {
         ensures taken { IfOk result (λ next. Leads (in_keys (map pair_trees pairs.items) ∷ around_in
             self.old)
             (behind (tree_of value)) (token_read token) (around_in self.new) (await_of next)) }
-        ensures refused { IfErr result (IsMisplaced (in_keys (map pair_trees pairs.items) ∷ around_in
+        ensures refused { IfErr result
+            (IsMisplaced (in_keys (map pair_trees pairs.items) ∷ around_in
             self.old)
             (behind (tree_of value)) (token_read token) self.old.limit) }
         ensures limit { self.new.limit ≡ self.old.limit }

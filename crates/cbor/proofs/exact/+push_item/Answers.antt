@@ -27,12 +27,14 @@ push_item-returns-in_ok-push_negative-in-Negative-clause-shown t c =
 pub push_item-returns-in_ok-push_string-in-Bytes-Some-clause-shown :
     goal.push_item-returns-in_ok-push_string-in-Bytes-Some-clause-shown
 push_item-returns-in_ok-push_string-in-Bytes-Some-clause-shown t c =
-    as-string StringType.Bytes c.args.head.now c.args.heads.now _ _ c.requires.read c.in_ok-push_string-in-Bytes-Some.ensures
+    as-string StringType.Bytes c.args.head.now c.args.heads.now _ _ c.requires.read
+    c.in_ok-push_string-in-Bytes-Some.ensures
 
 pub push_item-returns-in_ok-push_string-in-Text-Some-clause-shown :
     goal.push_item-returns-in_ok-push_string-in-Text-Some-clause-shown
 push_item-returns-in_ok-push_string-in-Text-Some-clause-shown t c =
-    as-string StringType.Text c.args.head.now c.args.heads.now _ _ c.requires.read c.in_ok-push_string-in-Text-Some.ensures
+    as-string StringType.Text c.args.head.now c.args.heads.now _ _ c.requires.read
+    c.in_ok-push_string-in-Text-Some.ensures
 
 pub push_item-returns-in_ok-push_chunks-in-Bytes-None-clause-shown :
     goal.push_item-returns-in_ok-push_chunks-in-Bytes-None-clause-shown

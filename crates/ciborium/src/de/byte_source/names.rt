@@ -123,7 +123,8 @@ impl<'a, R, A: Access<R>> ByteSource<'a, R, A> {
         ensures pending { self.new.pending ≡ None }
         ensures fewer { OnOk result (bytes_weight self.new ≤ bytes_weight self.old) }
         ensures ok { IfOk result (λ place. TakesPlace (IsUnread A.remaining self.old)
-            (IsUnread A.remaining self.new) StringType.Text (Some n) (name_place (N.place_of names.now))
+            (IsUnread A.remaining self.new) StringType.Text (Some n)
+            (name_place (N.place_of names.now))
             place) }
         ensures denied { IfErr result
             (λ e. DeniesContent (IsUnread A.remaining self.old) (end_at A.remaining self.old)
@@ -155,7 +156,8 @@ impl<'a, R, A: Access<R>> ByteSource<'a, R, A> {
         ensures pending { self.new.pending ≡ None }
         ensures fewer { OnOk result (bytes_weight self.new ≤ bytes_weight self.old) }
         ensures ok { IfOk result (λ place. TakesPlace (IsUnread A.remaining self.old)
-            (IsUnread A.remaining self.new) StringType.Text (Some n) (name_place (N.place_of names.now))
+            (IsUnread A.remaining self.new) StringType.Text (Some n)
+            (name_place (N.place_of names.now))
             place) }
         ensures denied { IfErr result
             (λ e. DeniesContent (IsUnread A.remaining self.old) (end_at A.remaining self.old)
@@ -186,7 +188,8 @@ impl<'a, R, A: Access<R>> ByteSource<'a, R, A> {
         ensures pending { self.new.pending ≡ None }
         ensures fewer { OnOk result (bytes_weight self.new ≤ bytes_weight self.old) }
         ensures ok { IfOk result (λ place. TakesPlace (IsUnread A.remaining self.old)
-            (IsUnread A.remaining self.new) StringType.Text len (name_place (N.place_of names.now)) place) }
+            (IsUnread A.remaining self.new) StringType.Text len (name_place (N.place_of names.now))
+            place) }
         ensures denied { IfErr result
             (λ e. DeniesContent (IsUnread A.remaining self.old) (end_at A.remaining self.old)
             StringType.Text len (fault_at A.can_fail A.remaining self.new e)) }

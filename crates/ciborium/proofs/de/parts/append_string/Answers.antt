@@ -9,7 +9,8 @@ pub returns-then-is_text-clause-content : goal.returns-then-is_text-clause-conte
 returns-then-is_text-clause-content g c =
     let out = c.text_into_keeping.new.out in
     rw c.if-is_text.true (string-taken (Unit {0}) g.A.Access.remaining c.args.decoder.now c.text_into_keeping.new.self
-    StringType.Text c.args.len (string_bytes c.new-text.result) (string_bytes out) (value.Text out) c.new-text.ensures.bytes
+    StringType.Text c.args.len (string_bytes c.new-text.result) (string_bytes out) (value.Text out)
+    c.new-text.ensures.bytes
     (tree_of-Text out) c.in_ok-text_into_keeping.ensures.taken)
 
 pub returns-in_err-text_into_keeping-clause-content : goal.returns-in_err-text_into_keeping-clause-content

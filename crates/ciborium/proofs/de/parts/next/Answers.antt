@@ -66,8 +66,10 @@ returns-in_ok-value-in-Bytes-clause-part g c =
     c.in_ok-header.ensures.measured
     (sym (c.find_head_fault.ensures ∙ ap (head_fault g.S.Rules.spelling c.in_ok-header.header) c.head_len.ensures) ∙
     c.in_default.is) c.in_ok-header.ensures.head c.read_string.new.decoder _
-    (λ d e. StringSo {E = Unit} StringType.Bytes c.in-Bytes.len c.pull.new.decoder.last d e (Ok c.in_ok-value-in-Bytes.value))
-    c.in_ok-value-in-Bytes.ensures.content (λ m z xs p a read. got-string StringType.Bytes Some (with_left c.pull.new.decoder m)
+    (λ d e. StringSo {E = Unit} StringType.Bytes c.in-Bytes.len c.pull.new.decoder.last d e
+    (Ok c.in_ok-value-in-Bytes.value))
+    c.in_ok-value-in-Bytes.ensures.content (λ m z xs p a read. got-string StringType.Bytes Some
+    (with_left c.pull.new.decoder m)
     (with_left c.read_string.new.decoder z) c.args.levels xs p c.in_ok-header.header g.S.Rules.spelling Unit
     c.in-Bytes.len c.in_ok-value-in-Bytes.value c.read_string.ensures.pushed c.in-Bytes.is read a)
 
@@ -91,8 +93,10 @@ returns-in_ok-value-in-Text-clause-part g c =
     c.in_ok-header.ensures.measured
     (sym (c.find_head_fault.ensures ∙ ap (head_fault g.S.Rules.spelling c.in_ok-header.header) c.head_len.ensures) ∙
     c.in_default.is) c.in_ok-header.ensures.head c.read_string-in-Text.new.decoder _
-    (λ d e. StringSo {E = Unit} StringType.Text c.in-Text.len c.pull.new.decoder.last d e (Ok c.in_ok-value-in-Text.value))
-    c.in_ok-value-in-Text.ensures.content (λ m z xs p a read. got-string StringType.Text Some (with_left c.pull.new.decoder m)
+    (λ d e. StringSo {E = Unit} StringType.Text c.in-Text.len c.pull.new.decoder.last d e
+    (Ok c.in_ok-value-in-Text.value))
+    c.in_ok-value-in-Text.ensures.content (λ m z xs p a read. got-string StringType.Text Some
+    (with_left c.pull.new.decoder m)
     (with_left c.read_string-in-Text.new.decoder z) c.args.levels xs p c.in_ok-header.header g.S.Rules.spelling Unit
     c.in-Text.len c.in_ok-value-in-Text.value c.read_string-in-Text.ensures.pushed c.in-Text.is read a)
 

@@ -15,12 +15,14 @@ returns-in_err-bytes_into_keeping-clause-denied g c =
 pub returns-clause-ok : goal.returns-clause-ok
 returns-clause-ok g c = content-taken Unit g.A.Access.remaining c.args.self.now.decoder c.bytes_into_keeping.new.self
     c.args.self.now.pending
-    StringType.Bytes c.args.len c.new-out.result.items c.bytes_into_keeping.new.out.items c.requires c.new-out.ensures.items
+    StringType.Bytes c.args.len c.new-out.result.items c.bytes_into_keeping.new.out.items c.requires
+    c.new-out.ensures.items
     c.in_ok-bytes_into_keeping.ensures.taken
 
 pub returns-clause-fewer : goal.returns-clause-fewer
 returns-clause-fewer g c =
-    content-fewer Unit g.A.Access.remaining c.args.self.now.decoder c.bytes_into_keeping.new.self StringType.Bytes c.args.len
+    content-fewer Unit g.A.Access.remaining c.args.self.now.decoder c.bytes_into_keeping.new.self StringType.Bytes
+    c.args.len
     c.new-out.result.items c.bytes_into_keeping.new.out.items c.new-out.ensures.items
     c.in_ok-bytes_into_keeping.ensures.taken
 

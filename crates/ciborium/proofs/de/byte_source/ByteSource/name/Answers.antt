@@ -50,7 +50,8 @@ returns-in-Ok-clause-answer g c =
     let same : string_bytes c.in-Ok.name ≡ payload = ap (λ v. v.items) c.in-Ok.ensures.ok in
     let utf8 : IsUtf8 payload = subst IsUtf8 same (IsUtf8-string_bytes c.in-Ok.name) in
     string-read g.A.Access.remaining c.args.self.now given_name c.bare_head.new.self c.in_ok-header.header
-    c.in_ok-header.ensures.head StringType.Bytes c.in-Bytes.len c.in-Bytes.is c.bytes_content.new.self payload (string_bytes
+    c.in_ok-header.ensures.head StringType.Bytes c.in-Bytes.len c.in-Bytes.is c.bytes_content.new.self payload
+    (string_bytes
     c.in-Ok.name) c.in_ok-bytes-in-Bytes.ensures.ok (λ ts all. subst (λ b. outcome l
     (given_name (Rattle.ciborium.specs.inner.Skips.under ts (string_item StringType.Bytes c.in-Bytes.len payload))) ≡
     Rattle.ciborium_value.specs.Given.gives b) (sym same) (bytes-name ts l (is_open c.in-Bytes.len) payload utf8))

@@ -26,7 +26,8 @@ returns-in_err-header-in-None-clause-denied g c =
     let P = IsUnread g.A.Access.remaining c.args.self.now in
     let fault = fault_at g.A.Access.can_fail g.A.Access.remaining c.next_head.new.self c.in_err-header-in-None.field-0.0
     in
-    rw (exit.1, exit.2) (subst (λ l. DeniesContent P (end_at g.A.Access.remaining c.args.self.now) StringType.Bytes l fault)
+    rw (exit.1, exit.2) (subst (λ l. DeniesContent P (end_at g.A.Access.remaining c.args.self.now) StringType.Bytes l
+    fault)
     (sym c.in-None.is) (parts-no-head P (IsUnread g.A.Access.remaining c.parts.self) c.parts.number
     c.parts.invariant.took (end_at g.A.Access.remaining c.parts.self) (end_at g.A.Access.remaining c.args.self.now)
     fault (same-end g.A.Access.remaining c.args.self.now c.parts.self c.parts.invariant.only)
@@ -70,7 +71,8 @@ pub returns-in-None-part-clause-denied : goal.returns-in-None-part-clause-denied
 returns-in-None-part-clause-denied g c =
     let P = IsUnread g.A.Access.remaining c.args.self.now in
     let h = c.in_ok-header-in-None.header in
-    subst (λ l. DeniesContent P (end_at g.A.Access.remaining c.args.self.now) StringType.Bytes l of_syntax) (sym c.in-None.is)
+    subst (λ l. DeniesContent P (end_at g.A.Access.remaining c.args.self.now) StringType.Bytes l of_syntax)
+    (sym c.in-None.is)
     (parts-other P (IsUnread g.A.Access.remaining c.parts.self) c.parts.number c.parts.invariant.took
     (end_at g.A.Access.remaining c.args.self.now) of_syntax h
     (λ y u. let (x, r, hd, e, un) = c.in_ok-header-in-None.ensures.head y u in (x, r, hd, e))
@@ -81,7 +83,8 @@ pub returns-in_default-clause-denied : goal.returns-in_default-clause-denied
 returns-in_default-clause-denied g c =
     let P = IsUnread g.A.Access.remaining c.args.self.now in
     let h = c.in_ok-header-in-None.header in
-    subst (λ l. DeniesContent P (end_at g.A.Access.remaining c.args.self.now) StringType.Bytes l of_syntax) (sym c.in-None.is)
+    subst (λ l. DeniesContent P (end_at g.A.Access.remaining c.args.self.now) StringType.Bytes l of_syntax)
+    (sym c.in-None.is)
     (parts-other P (IsUnread g.A.Access.remaining c.parts.self) c.parts.number c.parts.invariant.took
     (end_at g.A.Access.remaining c.args.self.now) of_syntax h
     (λ y u. let (x, r, hd, e, un) = c.in_ok-header-in-None.ensures.head y u in (x, r, hd, e)) c.in_default.not-Break

@@ -14,5 +14,6 @@ returns-in_err-place-clause-denied g c =
 
 pub returns-in-Some-clause-ok : goal.returns-in-Some-clause-ok
 returns-in-Some-clause-ok g c = subst (λ n. TakesPlace (IsUnread g.A.Access.remaining c.args.self.now)
-    (IsUnread g.A.Access.remaining c.short_place.new.self) StringType.Text n (name_place (g.N.Labels.place_of c.args.names.now))
+    (IsUnread g.A.Access.remaining c.short_place.new.self) StringType.Text n
+    (name_place (g.N.Labels.place_of c.args.names.now))
     c.in_ok-place.place) (sym c.in-Some.ensures.0) c.in_ok-place.ensures.ok

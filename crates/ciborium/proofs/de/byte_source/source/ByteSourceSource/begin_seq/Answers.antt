@@ -79,7 +79,8 @@ pub returns-in_err-seq-in-Bytes-clause-refused : goal.returns-in_err-seq-in-Byte
 returns-in_err-seq-in-Bytes-clause-refused g c =
     let exit = err_from_is_err_and c.from_residual-in_err-seq-in-Bytes.result
     c.from_residual-in_err-seq-in-Bytes.ensures.1 in
-    rw (exit.1, exit.2) (string-refuses given_seq c.in_ok-header.ensures.reads c.in_ok-header.ensures.head _ StringType.Bytes
+    rw (exit.1, exit.2) (string-refuses given_seq c.in_ok-header.ensures.reads c.in_ok-header.ensures.head _
+    StringType.Bytes
     c.in-Bytes.len c.in-Bytes.is c.in_err-seq-in-Bytes.ensures.denied)
 
 pub returns-in_default-clause-refused : goal.returns-in_default-clause-refused

@@ -48,7 +48,8 @@ returns-in_err-name-in-Text-clause-refused g c =
     rw (exit.1, exit.2) (refuses-denied g.A.Access.remaining c.args.self.now given_variant fault
     (denies-of-item U (end_at g.A.Access.remaining) (Some c.args.self.now.levels) given_variant
     c.args.self.now fault
-    (denies-content U (end_at g.A.Access.remaining) false c.args.self.now c.bare_head.new.self StringType.Text c.in-Text.len
+    (denies-content U (end_at g.A.Access.remaining) false c.args.self.now c.bare_head.new.self StringType.Text
+    c.in-Text.len
     fault
     (same-end g.A.Access.remaining c.args.self.now c.bare_head.new.self c.in_ok-header.ensures.reads.only)
     (subst (TakesBare U c.args.self.now c.bare_head.new.self false) c.in-Text.is c.in_ok-header.ensures.head)

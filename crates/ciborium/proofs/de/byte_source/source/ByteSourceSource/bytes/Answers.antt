@@ -34,7 +34,8 @@ returns-in_err-bytes-in-Bytes g c =
     let refusal = c.in_err-bytes-in-Bytes.ensures in
     rw (exit.1, exit.2) (record {
       takes = behind-refused c.in_ok-header.ensures.reads refusal.only refusal.no_more
-          (string-refuses given_bytes c.in_ok-header.ensures.reads c.in_ok-header.ensures.head _ StringType.Bytes c.in-Bytes.len
+          (string-refuses given_bytes c.in_ok-header.ensures.reads c.in_ok-header.ensures.head _ StringType.Bytes
+          c.in-Bytes.len
           c.in-Bytes.is refusal.denied);
     })
 

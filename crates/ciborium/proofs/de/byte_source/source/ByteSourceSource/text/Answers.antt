@@ -15,9 +15,11 @@ pub returns-in_ok-text-in-Text : goal.returns-in_ok-text-in-Text
 returns-in_ok-text-in-Text g c =
     let payload = string_bytes c.in_ok-text-in-Text.text in
     let content = c.in_ok-text-in-Text.ensures in record {
-      takes = string-given c.in_ok-header.ensures.reads c.in_ok-header.ensures.head StringType.Text c.in-Text.len c.in-Text.is
+      takes = string-given c.in_ok-header.ensures.reads c.in_ok-header.ensures.head StringType.Text c.in-Text.len
+          c.in-Text.is
           (content.same_reader, content.only) content.levels content.pending content.fewer payload content.ok
-          (λ ts all. ap (λ j. settled (bare_text j)) (untagged-under ts (string_item StringType.Text c.in-Text.len payload)));
+          (λ ts all. ap (λ j. settled (bare_text j))
+          (untagged-under ts (string_item StringType.Text c.in-Text.len payload)));
     }
 
 pub returns-in_err-text-in-Text : goal.returns-in_err-text-in-Text
@@ -27,7 +29,8 @@ returns-in_err-text-in-Text g c =
     let refusal = c.in_err-text-in-Text.ensures in
     rw (exit.1, exit.2) (record {
       takes = behind-refused c.in_ok-header.ensures.reads refusal.only refusal.no_more
-          (string-refuses given_text c.in_ok-header.ensures.reads c.in_ok-header.ensures.head _ StringType.Text c.in-Text.len
+          (string-refuses given_text c.in_ok-header.ensures.reads c.in_ok-header.ensures.head _ StringType.Text
+          c.in-Text.len
           c.in-Text.is refusal.denied);
     })
 
