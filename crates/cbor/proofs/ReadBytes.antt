@@ -1,8 +1,7 @@
 -- From what reading a value answers to what holds of the bytes.
 use Rattle.std.proofs.Common.{◌≡◌, ℕ, List, [], length, ◌==◌, Bool, true, IsTrue, Option, Some, None, IfSome, Err}
 use Rattle.std.proofs.lemmas.Bool.Decides.{nat_tests}
-use Rattle.ciborium_ll.specs.declared.kind.Kind.TheVariants.{TrailingData}
-use Rattle.ciborium_ll.specs.Refusal.{Refusal}
+use Rattle.ciborium_ll.specs.{Refusal.Refusal, declared.kind.Kind.TheVariants.TrailingData}
 use Rattle.ciborium.specs.SliceAnswers.{AreAllRead}
 use Rattle.cbor.specs.{declared.answer.LineRefusal.LineRefusal, Spellings.RefusesItem}
 use Rattle.std.proofs.{Common.{unwrap_or, inl, inr, refl, ◌≢◌, sym, subst, arith}, lemmas.List.nil_from_length}

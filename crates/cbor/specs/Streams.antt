@@ -2,9 +2,8 @@
 -- which is dumped.
 use Rattle.std.specs.Prelude.{◌≡◌, ◌⊎◌, ℕ, ◌+◌, ◌<◌, ◌≤◌, Bool, true, false, List, [], ◌++◌, length, take, drop, Option}
 use Rattle.std.specs.Prelude.{Some, Result, MatchResult}
-use Rattle.ciborium_ll.specs.{ItemLengths.IsNoItem, Levels.AreItem, declared.item_heads.NoItem.NoItem}
+use Rattle.ciborium_ll.specs.{ItemLengths.IsNoItem, Levels.AreItem, declared.{item_heads.NoItem.NoItem, kind.Kind.Kind}}
 use Rattle.ciborium_value.specs.{Given.{gives, refuses}, Tree.Tree, View.tree_of}
-use Rattle.ciborium_ll.specs.declared.kind.Kind.{Kind}
 use Rattle.ciborium_value.specs.declared.tree.Value.{Value}
 use Rattle.cbor.specs.{declared.answer.LineRefusal.LineRefusal, declared.reading.Showing.Showing}
 use Rattle.cbor.specs.{declared.reading.Spelling.Spelling, declared.streams.Next.Next, Answer.IsFrontRefused}

@@ -1,9 +1,8 @@
 -- Writing a sequence of values (RFC 8742, section 2): what a call that writes one after the other
 -- puts out and answers.
 use Rattle.std.specs.Prelude.{ℕ, List, Option, Result, Ok, Err, IsErr}
-use Rattle.ciborium_ll.specs.{Item.Item, Writing.Writes}
+use Rattle.ciborium_ll.specs.{Item.Item, Writing.Writes, declared.kind.Kind.Kind}
 use Rattle.ciborium_value.specs.{Encoding.items_bytes, Places.items_from, WrittenItems.AreWritten}
-use Rattle.ciborium_ll.specs.declared.kind.Kind.{Kind}
 
 -- what the values of a list name: the items that they write, or the kind of the first that has none
 abbrev pub AllNamed : Type 0

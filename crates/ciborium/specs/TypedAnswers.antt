@@ -1,13 +1,12 @@
 -- What reading a value of any type answers, from bytes and from a tree.
 use Rattle.std.specs.Prelude.{◌≡◌, ℕ, ◌+◌, Bool, true, List, ◌++◌, length, Option, Some, None, Result, Ok, Err, IfOk}
 use Rattle.std.specs.{Prelude.{IfErr, IfSome}, Io.KnownBytes.Consumes, declared.io.Error.Error as IoError}
-use Rattle.ciborium_ll.specs.{Accesses.left_at_failure, Item.Item, Spells.Spells}
+use Rattle.ciborium_ll.specs.{Accesses.left_at_failure, Item.Item, Spells.Spells, declared.kind.Kind.Kind}
 use Rattle.ciborium_value.specs.{Encoding.{encoding, item_of}, Nesting.Limit, ProperTrees.IsProperTree}
 use Rattle.ciborium_value.specs.{Readings.Reading, Sources.{Fault, of_kind, of_nesting, of_syntax, of_memory}}
 use Rattle.ciborium_value.specs.{Sources.{of_device, of_end, of_length, IsFaultOf, IsGrantedFault}, View.read_as}
 use Rattle.ciborium_value.specs.{Given.{Given, gives, outcome}, Tree.Tree, TreeAnswers.IsErrorOf}
 use Rattle.ciborium_value.specs.declared.error.Error.Error as TreeError
-use Rattle.ciborium_ll.specs.declared.kind.Kind.{Kind}
 use Rattle.ciborium.specs.{Errors.fault_of, declared.de.error.Error.Error}
 use Rattle.ciborium_value.specs.declared.error.Error.TheVariants as of_tree
 

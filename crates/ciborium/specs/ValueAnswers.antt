@@ -2,9 +2,8 @@
 -- so, whatever follows it; and an item at the front is read.
 use Rattle.std.specs.Prelude.{◌≡◌, ℕ, ◌+◌, ◌≤◌, List, [], ◌++◌, length, Option, Some, None, Result, Ok, Err}
 use Rattle.std.specs.Io.KnownBytes.{Consumes}
-use Rattle.ciborium_ll.specs.{Bytes.{AreBytes, greatest_offset}, Refusal.Refusal}
+use Rattle.ciborium_ll.specs.{Bytes.{AreBytes, greatest_offset}, Refusal.Refusal, declared.kind.Kind.Kind}
 use Rattle.ciborium_value.specs.{Refuses.Refuses, Spelling.{Spelling, IsReadAs}, Tree.Tree}
-use Rattle.ciborium_ll.specs.declared.kind.Kind.{Kind}
 use Rattle.ciborium.specs.{declared.de.error.Error.Error, declared.de.error.Error.TheVariants.{Io, Syntax, Semantic}}
 use Rattle.ciborium.specs.declared.de.error.Error.TheVariants.{Memory, RecursionLimitExceeded, TooLong}
 use Rattle.ciborium_ll.specs.Refusal as refusal

@@ -4,16 +4,15 @@ use Rattle.std.proofs.Common.{Some, None, option_map, refl, sym, ap, ◌∙◌, 
 use Rattle.std.proofs.{Common.{append_assoc, length-append, div-add-mod'}, lemmas.Bool.Decides.nat_tests}
 use Rattle.std.proofs.{lemmas.List.Elements.All-append, lemmas.Nat.{be_bytes_2, be_bytes_4, be_bytes_8}, str.Laws.order}
 use Rattle.std.specs.Int.{from_be_bytes, w16, w32, w64}
-use Rattle.ciborium_ll.specs.{inner.Fronts.{IsCut, IsCutPayload}, declared.header.Header.Header}
-use Rattle.ciborium_ll.specs.{declared.levels.Level.Level, declared.levels.Level.TheVariants.{Items, OpenItems}}
-use Rattle.ciborium_ll.specs.declared.levels.Level.TheVariants.{OpenKeys, OpenValues, ByteChunks, TextChunks}
+use Rattle.ciborium_ll.proofs.{Advancing.single, BegunTexts.{zeros, length-zeros, bytes-zeros, text-zeros}}
+use Rattle.ciborium_ll.proofs.{HeadAnswers.head-some, LevelEnds.can-end, LevelFronts.{AreUnfinished, are-unfinished}}
+use Rattle.ciborium_ll.proofs.{LevelFronts.{front-of-end, ends-behind}, UsableHeads.{EachIsByte, byte_at}}
 use Rattle.ciborium_ll.specs.{Bytes.AreBytes, Head.{IsHead, one_byte, two_bytes, four_bytes, eight_bytes, break_byte}}
 use Rattle.ciborium_ll.specs.{Header.SpellsHeader, ItemLengths.chunk_major, Levels.{EndAll, behind_item, behind_bytes}}
 use Rattle.ciborium_ll.specs.{Levels.{behind_text, behind_head, IsPayloadOf, incomplete}, Refusal.argument_length}
-use Rattle.ciborium_ll.proofs.{BegunTexts.{zeros, length-zeros, bytes-zeros, text-zeros}, LevelEnds.can-end}
-use Rattle.ciborium_ll.proofs.LevelFronts.{AreUnfinished, are-unfinished, front-of-end, ends-behind}
-use Rattle.ciborium_ll.proofs.UsableHeads.{EachIsByte}
-use Rattle.ciborium_ll.proofs.{UsableHeads.byte_at, Advancing.single, HeadAnswers.head-some}
+use Rattle.ciborium_ll.specs.declared.{header.Header.Header, levels.Level.{Level, TheVariants.{Items, OpenItems}}}
+use Rattle.ciborium_ll.specs.declared.levels.Level.TheVariants.{OpenKeys, OpenValues, ByteChunks, TextChunks}
+use Rattle.ciborium_ll.specs.inner.Fronts.{IsCut, IsCutPayload}
 use Rattle.ciborium_ll.specs.declared.header.Header.TheVariants as header
 
 -- ---- a head with its argument filled

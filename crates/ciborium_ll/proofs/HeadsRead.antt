@@ -3,19 +3,17 @@ use Rattle.std.proofs.Common.{◌≡◌, ℕ, ◌+◌, ◌-◌, ◌<◌, ◌≤�
 use Rattle.std.proofs.Common.{Bool, true, false, IsTrue, refl, sym, ap, subst, eqb, ◌∙◌, ◌%◌, inl, inr, arith}
 use Rattle.std.proofs.{Common.{append_assoc, drop-drop, take-append-drop, length-take-le}, Math.Seq.take-add}
 use Rattle.std.proofs.lemmas.{Bool.eqb-false, List.{length-drop, take_rest}}
-use Rattle.ciborium_ll.proofs.CutHeads.{cut-head, cut-string, long-no-break}
-use Rattle.ciborium_ll.proofs.LevelEnds.{incomplete-again, unfinished-end}
-use Rattle.ciborium_ll.proofs.{LevelEnds.{unfinished-incomplete, unfinished-start}, LevelFronts.left-behind}
-use Rattle.ciborium_ll.proofs.LevelMisfits.{no-item}
-use Rattle.ciborium_ll.{proofs.UniqueSpelling.none_begins_another, specs.{Bytes.AreBytes, Head.break_byte}}
-use Rattle.ciborium_ll.specs.{Header.SpellsHeader, ItemHeads.{HasRead, levels_of, unread, was_read}}
-use Rattle.ciborium_ll.specs.ItemLengths.{BeginNoItem, BeginText, EndInside, IsNoItem, Misfits, EntersTooMany}
-use Rattle.ciborium_ll.specs.ItemLengths.{StandsInside}
-use Rattle.ciborium_ll.specs.Levels.{AreItem, EndAll, AreLeftBehind, IsPayloadOf, behind_head}
-use Rattle.ciborium_ll.specs.{Levels.incomplete, Refusal.argument_length, Spells.Spells, declared.header.Header.Header}
-use Rattle.ciborium_ll.specs.declared.{header.Header.TheVariants.{Bytes, Text}, item_heads.ItemHeads.ItemHeads}
-use Rattle.ciborium_ll.specs.declared.item_heads.NoItem.{NoItem, TheVariants.{Incomplete, Malformed, TooDeep}}
-use Rattle.ciborium_ll.specs.declared.levels.{Level.{Level, TheVariants.Items}, Levels.Levels, Misfit.Misfit}
+use Rattle.ciborium_ll.proofs.{CutHeads.{cut-head, cut-string, long-no-break}, LevelEnds.incomplete-again}
+use Rattle.ciborium_ll.proofs.LevelEnds.{unfinished-end, unfinished-incomplete, unfinished-start}
+use Rattle.ciborium_ll.proofs.{LevelFronts.left-behind, LevelMisfits.no-item, UniqueSpelling.none_begins_another}
+use Rattle.ciborium_ll.specs.{Bytes.AreBytes, Head.break_byte, Header.SpellsHeader, ItemHeads.{HasRead, levels_of}}
+use Rattle.ciborium_ll.specs.{ItemHeads.{unread, was_read}, ItemLengths.{BeginNoItem, BeginText, EndInside, IsNoItem}}
+use Rattle.ciborium_ll.specs.{ItemLengths.{Misfits, EntersTooMany, StandsInside}, Levels.{AreItem, EndAll}}
+use Rattle.ciborium_ll.specs.{Levels.{AreLeftBehind, IsPayloadOf, behind_head, incomplete}, Refusal.argument_length}
+use Rattle.ciborium_ll.specs.{Spells.Spells, declared.header.Header.{Header, TheVariants.{Bytes, Text}}}
+use Rattle.ciborium_ll.specs.declared.item_heads.{ItemHeads.ItemHeads, NoItem.{NoItem, TheVariants.Incomplete}}
+use Rattle.ciborium_ll.specs.declared.{item_heads.NoItem.TheVariants.{Malformed, TooDeep}, levels.Level.Level}
+use Rattle.ciborium_ll.specs.declared.levels.{Level.TheVariants.Items, Levels.Levels, Misfit.Misfit}
 use Rattle.ciborium_ll.specs.inner.{Fronts.{IsCut, IsCutPayload, IsNoChunk, MayBeChunk}, KeptLevels.IsPassed}
 use Rattle.ciborium_ll.specs.inner.KeptLevels.{levels_in}
 use Rattle.ciborium_ll.specs.declared.levels.Misfit.TheVariants as misfit

@@ -1,10 +1,9 @@
 -- How far a container is written, part by part, whatever the sink.
 use Rattle.std.specs.Prelude.{◌≡◌, ℕ, List, [], ◌∷◌, ◌++◌, length, Option, Some, None, Ok, Err, nat_le, if◌then◌else◌}
-use Rattle.ciborium_ll.specs.{Bytes.greatest_offset, Item.Item}
+use Rattle.ciborium_ll.specs.{Bytes.greatest_offset, Item.Item, declared.kind.Kind.TheVariants.Other}
 use Rattle.ciborium_value.specs.{Places.{Shape, size_of, Place, within, HasRoom, is_open, IsWhole, Out}, Sinks.Named}
 use Rattle.ciborium_value.specs.Sinks.{all_named, contained, container_of, Cause, value, memory, device, IsReady}
 use Rattle.ciborium_value.specs.Sinks.{BreaksNamed}
-use Rattle.ciborium_ll.specs.declared.kind.Kind.TheVariants.{Other}
 
 -- each of the first parts names an item
 abbrev pub oks : List Item → List Named

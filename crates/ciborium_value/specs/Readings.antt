@@ -2,12 +2,11 @@
 use Rattle.std.specs.Prelude.{ℕ, ℤ, pos, negsuc, ◌<◌, Bool, true, false, List, map, Option, Some, None}
 use Rattle.std.specs.{Ordering.{nat_cmp, int_cmp, ordering_then}, Cmp.Lexicographic.slice_cmp, Option.option_cmp}
 use Rattle.std.specs.{Option.option_map, declared.cmp.Ordering.Ordering, declared.cmp.Ordering.TheVariants.Equal}
-use Rattle.ciborium_ll.specs.Item.{Item}
+use Rattle.ciborium_ll.specs.{Item.Item, declared.kind.Kind.Kind}
 use Rattle.ciborium_value.specs.Given.{Steps, Given, chosen, give, number_below, number_within, refuse, given_integer}
 use Rattle.ciborium_value.specs.{Given.given_value, GivenParts.{after_seq, no_part_given, part_given, given_list}}
 use Rattle.ciborium_value.specs.{GivenParts.{given_made, given_map, given_option, given_then}, Order.tree_cmp}
 use Rattle.ciborium_value.specs.Tree.{Tree}
-use Rattle.ciborium_ll.specs.declared.kind.Kind.{Kind}
 
 -- how values of the type T are read, of which C is what counts: capacities do not
 pub record Reading (T C : Type 0) : Type 1 where

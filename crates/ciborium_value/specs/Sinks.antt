@@ -1,11 +1,10 @@
 -- The words of the contracts of `Sink` and `Serialize`.
 use Rattle.std.specs.Prelude.{Bool, true, ◌≡◌, ℕ, ℤ, pos, negsuc, ◌^◌, List, [], ◌∷◌, if◌then◌else◌, nat_lt, Option}
 use Rattle.std.specs.Prelude.{Some, None, Result, Ok, Err, false}
-use Rattle.ciborium_ll.specs.Item.{Item}
+use Rattle.ciborium_ll.specs.{Item.Item, declared.kind.Kind.Kind}
 use Rattle.ciborium_value.specs.{Encoding.item_of, Number.shortest_bytes, Places.{Shape, Place, within, tagged}}
 use Rattle.ciborium_value.specs.{Places.{HasRoom, added, ended, IsComplete, IsCutBetween, Out, container}, View.tree_of}
 use Rattle.ciborium_value.specs.declared.tree.Value.{Value}
-use Rattle.ciborium_ll.specs.declared.kind.Kind.{Kind}
 use Rattle.ciborium_ll.specs.Item as item
 
 -- ---- what values name

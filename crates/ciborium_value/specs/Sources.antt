@@ -1,10 +1,9 @@
 -- The words of the contracts of `Source` and `Deserialize`.
 use Rattle.std.specs.Prelude.{◌≡◌, ℕ, ◌<◌, ◌≤◌, Bool, List, [], ◌∷◌, ◌++◌, IsTrue, Result, IfErr, IfOk, OnErr, OnOk}
-use Rattle.ciborium_ll.specs.{Bytes.greatest_offset, Item.Item, Spells.Spells}
+use Rattle.ciborium_ll.specs.{Bytes.greatest_offset, Item.Item, Spells.Spells, declared.kind.Kind.Kind}
 use Rattle.ciborium_value.specs.Ahead.{Ahead, Rest, Span, item, after, parts, pairs, entry, level_due, past, inside}
 use Rattle.ciborium_value.specs.{Ahead.{takes_level, end_of}, Nesting.Limit, Places.{Shape, sequence, dictionary}}
 use Rattle.ciborium_value.specs.Given.{Outcome, gives, refuses, nests, Given, given_seq, given_pairs, deeper, outcome}
-use Rattle.ciborium_ll.specs.declared.kind.Kind.{Kind}
 
 -- ---- why a source refused
 

@@ -1,11 +1,10 @@
 -- How a struct is read from a map by the labels of its fields.
 use Rattle.std.specs.{Option.{is_some, unwrap_or}, Prelude.{Bool, false, List, [], ◌∷◌, Option, Some, None, Result, Ok}}
 use Rattle.std.specs.Prelude.{Err, ◌&&◌, if◌then◌else◌}
-use Rattle.ciborium_ll.specs.Item.{Item}
+use Rattle.ciborium_ll.specs.{Item.Item, declared.kind.Kind.Kind}
 use Rattle.ciborium_value.specs.Given.{Steps, Given, chosen, decided, give, mapped, refuse, given_skip, then_read}
 use Rattle.ciborium_value.specs.{GivenParts.{after_pairs, given_then}, Labels.{Label, is_label, given_label}}
 use Rattle.ciborium_value.specs.Readings.{Reading, option_of, spacious, unordered}
-use Rattle.ciborium_ll.specs.declared.kind.Kind.{Kind}
 use Rattle.ciborium_value.specs.declared.wanted.FieldPlace.{FieldPlace, TheVariants.{First, Behind}}
 use Rattle.ciborium_ll.specs.declared.kind.Kind.TheVariants as kinds
 

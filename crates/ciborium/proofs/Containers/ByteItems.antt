@@ -2,7 +2,7 @@
 use Rattle.std.proofs.Common.{◌≡◌, ◌≢◌, ℕ, ◌<◌, ◌≤◌, Bool, false, List, [], ◌∷◌, ◌++◌, Option, Some, None, Result}
 use Rattle.std.proofs.Common.{arith, Ok, Err, refl, sym, ap, ◌∙◌, subst, append_assoc, append-nil}
 use Rattle.ciborium_ll.{proofs.UniqueSpelling.one_at_front, specs.{Header.SpellsHeader, Item.Item, Spells.Spells}}
-use Rattle.ciborium_ll.specs.{StringRefusal.StringType, declared.header.Header.Header}
+use Rattle.ciborium_ll.specs.{StringRefusal.StringType, declared.{header.Header.Header, kind.Kind.Kind}}
 use Rattle.ciborium.proofs.Containers.EnteredContainers.{HasItems, IsEntered, array-entered, entered-kept, items-stand}
 use Rattle.ciborium.proofs.Containers.{EnteredContainers.within-is, NextParts.{fits-past, none-past}}
 use Rattle.ciborium.proofs.Items.BareHeads.{head-denied, nested-denied, other-denied, string-denied, string-read}
@@ -24,7 +24,6 @@ use Rattle.ciborium_value.specs.{Given.{given_integer, given_byte, given_bytes, 
 use Rattle.ciborium_value.specs.{Places.sequence, Sources.{Fault, of_kind, IsFaultOf, TakesAhead, RefusesAhead}}
 use Rattle.ciborium_value.specs.Sources.{TakesItem, TakesTo, GoesOn, Leaves, RefusesNext, OwesLess, OwesNothing}
 use Rattle.ciborium_value.specs.Sources.{HasItem, TakesOneItem, TakesOnly}
-use Rattle.ciborium_ll.specs.declared.kind.Kind.{Kind}
 use Rattle.ciborium_value.specs.lemmas.GivenOutcomes.{and_take}
 use Rattle.ciborium_ll.specs.declared.header.Header.TheVariants as header
 use Rattle.ciborium_ll.specs.declared.kind.Kind.TheVariants as kinds

@@ -1,12 +1,11 @@
 -- The keys of a map by ordered values rise in the order of their encodings.
 use Rattle.std.proofs.Common.{false, Less, ◌≡◌, List, [], ◌∷◌, map, Result, Ok, Err, refl, sym, ◌∙◌, ap, subst}
 use Rattle.std.specs.{List.Sorted.IsStrictlySortedBy, List.AllByRecursion, Map.keys_of}
-use Rattle.ciborium_ll.specs.Item.{Item}
+use Rattle.ciborium_ll.specs.{Item.Item, declared.kind.Kind.Kind}
 use Rattle.ciborium_value.specs.{Canonical.key_order, OrderedValues.ordered_value_cmp, Encoding.item_of}
 use Rattle.ciborium_value.specs.{Places.{dictionary, pairs_from}, ProperTrees.IsProperTree, Sinks.{Named, and_then}}
 use Rattle.ciborium_value.specs.{Sinks.{all_named, contained, container_of, in_turn, named_value}, View.tree_of}
 use Rattle.ciborium_value.specs.WrittenItems.{IsWritten, PairsAreWritten}
-use Rattle.ciborium_ll.specs.declared.kind.Kind.{Kind}
 use Rattle.ciborium_value.specs.{declared.key_order.KeyOrder.KeyOrder, declared.tree.Value.Value}
 use Rattle.ciborium_value.proofs.{Writing.Progress.and_then_is, Writing.ReadBack.written_tree_is_proper}
 use Rattle.ciborium.proofs.Encodings.OrderedValues.{is_order_of_trees}

@@ -1,12 +1,11 @@
 -- A tree and its encoding give one answer.
 use Rattle.std.proofs.Common.{◌≡◌, ℕ, [], Some, None, Result, Ok, Err, refl, sym, ap, ◌∙◌, append-nil, ◌⊎◌, inl, inr}
 use Rattle.std.specs.declared.io.Error.{Error as IoError}
-use Rattle.ciborium_ll.proofs.UniqueSpelling.{one_at_front}
+use Rattle.ciborium_ll.{proofs.UniqueSpelling.one_at_front, specs.declared.kind.Kind.Kind}
 use Rattle.ciborium_value.proofs.{Orders.TreeEncodings.encoding-spells, Sources.Limits.same-within}
 use Rattle.ciborium_value.specs.{Encoding.{encoding, item_of}, Given.{Outcome, Given, gives, nests, outcome, refuses}}
 use Rattle.ciborium_value.specs.Sources.{Fault, of_kind, of_nesting, of_syntax, of_memory, of_device, of_end, of_length}
 use Rattle.ciborium_value.specs.{Sources.IsFaultOf, declared.error.Error.Error as TreeError}
-use Rattle.ciborium_ll.specs.declared.kind.Kind.{Kind}
 use Rattle.ciborium.specs.{Errors.fault_of, TypedAnswers.{AnswersTree, AnswersBytes, AreOneAnswer, IsExcused}}
 use Rattle.ciborium.specs.{TypedAnswers.{IsSameKind, SourcesAgree}, declared.de.error.Error.Error}
 use Rattle.ciborium_value.specs.declared.error.Error.TheVariants as of_tree

@@ -2,11 +2,10 @@
 use Rattle.std.proofs.Common.{◌≡◌, ◌≢◌, ℕ, ◌+◌, ◌-◌, ◌≤◌, inl, inr, false, List, [], ◌++◌, length, Option, Some, None}
 use Rattle.std.proofs.Common.{Ok, Err, IfSome, refl, sym, ap, ◌∙◌, subst, arith, append-nil, length-append}
 use Rattle.std.proofs.lemmas.List.{nil_from_length}
-use Rattle.ciborium_ll.specs.{Bytes.greatest_offset, Refusal.Refusal, Spells.Spells}
-use Rattle.ciborium_ll.proofs.UniqueSpelling.{one_at_front, one_item}
+use Rattle.ciborium_ll.{proofs.UniqueSpelling.{one_at_front, one_item}, specs.{Bytes.greatest_offset, Refusal.Refusal}}
+use Rattle.ciborium_ll.specs.{Spells.Spells, declared.kind.Kind.TheVariants.TrailingData}
 use Rattle.ciborium_value.specs.{Readings.Reading, Sources.{IsFaultOf, IsOutsideFault}, Given.outcome}
 use Rattle.ciborium_value.specs.Spelling.{any, IsReadAs}
-use Rattle.ciborium_ll.specs.declared.kind.Kind.TheVariants.{TrailingData}
 use Rattle.ciborium_value.specs.lemmas.GivenOutcomes.{one_given}
 use Rattle.ciborium.specs.{Errors.{HasEndedBy, fault_of}, ValueAnswers.{IsRefusedBy, IsFailed}, SliceAnswers.ReadsAll}
 use Rattle.ciborium.specs.{TypedAnswers.{IsFaultAhead, ReadsAsTypeFrom, TakesGiving}, ValueClauses.ReadsWhole}

@@ -1,14 +1,13 @@
 -- What stands behind the head of a tag, in each spelling.
 use Rattle.std.proofs.Common.{◌≡◌, ℕ, suc, ◌+◌, ◌-◌, ◌≤◌, List, ◌++◌, length, Option, Some, None, MatchOption, Result}
 use Rattle.std.proofs.Common.{Ok, Err, refl, sym, ap, ◌∙◌, subst, arith, inl, inr}
-use Rattle.ciborium_ll.specs.{declared.decoder.Decoder.Decoder, declared.header.Header.Header, Bytes.AreBytes}
-use Rattle.ciborium_ll.specs.{Bytes.greatest_offset, Decoding.{IsAhead, IsAheadBy, IsMeasured, ReadsNothing, offset_of}}
-use Rattle.ciborium_ll.specs.{Decoding.left_of, Header.SpellsHeader, Refusal.{Refusal, semantic}}
-use Rattle.ciborium_ll.specs.Refusal.{recursion_limit_exceeded, HeadRefuses, IsUsable}
-use Rattle.ciborium_ll.specs.StringRefusal.{StringType, PayloadRefuses}
 use Rattle.ciborium_ll.proofs.{Decoders.{unread-left, unread-count}, OneHeader.one_header_at_front}
+use Rattle.ciborium_ll.specs.{Bytes.{AreBytes, greatest_offset}, Decoding.{IsAhead, IsAheadBy, IsMeasured}}
+use Rattle.ciborium_ll.specs.{Decoding.{ReadsNothing, offset_of, left_of}, Header.SpellsHeader, Refusal.Refusal}
+use Rattle.ciborium_ll.specs.Refusal.{semantic, recursion_limit_exceeded, HeadRefuses, IsUsable}
+use Rattle.ciborium_ll.specs.{StringRefusal.{StringType, PayloadRefuses}, declared.decoder.Decoder.Decoder}
+use Rattle.ciborium_ll.specs.declared.{header.Header.Header, kind.Kind.Kind}
 use Rattle.ciborium_value.specs.{declared.tree.Value.Value, Refuses.{HasGoodHead, IsTagAt}}
-use Rattle.ciborium_ll.specs.declared.kind.Kind.{Kind}
 use Rattle.ciborium_value.specs.{Refuses.{IsFoldingAt, Refuses}, Spelling.{Spelling, any, deterministic, IsUnwanted}}
 use Rattle.ciborium_value.specs.{View.tree_of, inner.ReadItems.ReadsItem, inner.Stack.begun_frame}
 use Rattle.ciborium_value.proofs.{GoodItems.Bignums.none-large, GoodItems.Introduced.{reads-string, reads-folded}}

@@ -5,12 +5,11 @@ use Rattle.std.proofs.lemmas.Bool.{eqb-false}
 use Rattle.ciborium_ll.{proofs.ShortestHead.none_is_shorter, specs.Decoding.{IsAhead, IsMeasured, Takes}}
 use Rattle.ciborium_ll.specs.{Decoding.{TakesBeforeAny, offset_of, with_left}, Head.{IsHead, IsSimple, shortest_head}}
 use Rattle.ciborium_ll.specs.{Header.{SpellsHeader, IsCounted}, Refusal.{HeadRefuses, IsUsable}}
-use Rattle.ciborium_ll.specs.declared.{decoder.Decoder.Decoder, header.Header.Header}
+use Rattle.ciborium_ll.specs.declared.{decoder.Decoder.Decoder, header.Header.Header, kind.Kind.Kind}
 use Rattle.ciborium_value.proofs.GoodItems.Faults.{short-fault, fault-head, fault-open, fault-break, fault-float}
 use Rattle.ciborium_value.{proofs.GoodItems.Faults.{fault-simple, fault-undefined}, specs.Refuses.HasGoodHead}
 use Rattle.ciborium_value.specs.{Refuses.Refuses, Spelling.{Spelling, any, deterministic, spelling_fault}, Tree.Tree}
 use Rattle.ciborium_value.specs.{declared.key_order.KeyOrder.KeyOrder, inner.ReadItems.ReadsItem}
-use Rattle.ciborium_ll.specs.declared.kind.Kind.{Kind}
 use Rattle.ciborium.proofs.{Readers.WhateverFollows.so-both, Turns.Fronts.{front-of, IsNoBreak, no-break}}
 use Rattle.ciborium.proofs.Turns.{Fronts.{head-no-break, ahead-at, offset-at, PullsSo}, Pulled.refused-map}
 use Rattle.ciborium.specs.{ValueAnswers.IsRefusedBy, declared.de.error.Error.Error}

@@ -1,9 +1,8 @@
 -- What a reader in a spelling asks of a head that was pulled, and of a key that waits.
 use Rattle.std.specs.Prelude.{◌≡◌, ℕ, ◌-◌, length, if◌then◌else◌, ◌==◌, Option, Some, None, List, MatchOption}
 use Rattle.std.specs.declared.cmp.Ordering.TheVariants.{Less}
-use Rattle.ciborium_ll.specs.{declared.header.Header.Header, Head.shortest_head}
+use Rattle.ciborium_ll.specs.{Head.shortest_head, declared.{header.Header.Header, kind.Kind.Kind}}
 use Rattle.ciborium_value.specs.{declared.key_order.KeyOrder.KeyOrder, Canonical.key_order}
-use Rattle.ciborium_ll.specs.declared.kind.Kind.{Kind}
 use Rattle.ciborium_value.specs.{Encoding.encoded_size, Spelling.{Spelling, any, deterministic}, Tree.Tree}
 use Rattle.ciborium_value.specs.inner.Frames.{TreeFrame, waiting_keys}
 use Rattle.ciborium_ll.specs.declared.header.Header.TheVariants as header

@@ -2,9 +2,8 @@
 -- reader gives them, and the call.
 use Rattle.std.specs.Prelude.{◌≡◌, ℕ, ◌⊎◌, List, Option, Some, None, option_map, Result, Ok, Err}
 use Rattle.std.specs.declared.io.Error.{Error as IoError}
-use Rattle.ciborium_ll.specs.{Bytes.AreBytes, Refusal.Refusal}
+use Rattle.ciborium_ll.specs.{Bytes.AreBytes, Refusal.Refusal, declared.kind.Kind.Kind}
 use Rattle.ciborium_value.specs.{declared.tree.Value.Value, Refuses.Refuses, View.tree_of}
-use Rattle.ciborium_ll.specs.declared.kind.Kind.{Kind}
 use Rattle.ciborium_value.specs.Spelling.{any}
 use Rattle.ciborium.specs.{declared.de.error.Error.Error, declared.de.error.Error.TheVariants.{Io, Syntax, Semantic}}
 use Rattle.ciborium.specs.declared.de.error.Error.TheVariants.{RecursionLimitExceeded, Memory, TooLong}

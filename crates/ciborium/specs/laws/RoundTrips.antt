@@ -1,11 +1,10 @@
 -- What is written is read back, from bytes and from a tree.
 use Rattle.std.specs.Prelude.{◌≡◌, ℕ, ◌≤◌, List, [], ◌++◌, length, Option, Some, None, Result, Ok, Err}
 use Rattle.std.specs.declared.io.Error.{Error as IoError}
-use Rattle.ciborium_ll.specs.Item.{Item}
+use Rattle.ciborium_ll.specs.{Item.Item, declared.kind.Kind.Kind}
 use Rattle.ciborium_value.specs.{Encoding.written_bytes, Nesting.IsWithin, Readings.Reading, Sinks.Named}
 use Rattle.ciborium_value.specs.{Sources.IsOutsideFault, Given.{gives, outcome}, TreeAnswers.{IsTreeOf, value_item}}
 use Rattle.ciborium_value.specs.WrittenItems.{IsWritten}
-use Rattle.ciborium_ll.specs.declared.kind.Kind.{Kind}
 use Rattle.ciborium_value.specs.{declared.error.Error.Error as TreeError, declared.tree.Value.Value}
 use Rattle.ciborium.specs.{declared.de.error.Error.Error, Errors.fault_of, declared.ser.error.Error.Error as WriteError}
 use Rattle.ciborium.specs.{TypedAnswers.{AnswersBytes, AnswersTree, TakesGiven, TakesGiving}, Writes.IsNamedWritten}

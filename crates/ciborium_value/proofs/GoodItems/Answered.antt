@@ -7,11 +7,10 @@ use Rattle.std.proofs.lemmas.Str.{IsUtf8-from_is_utf8}
 use Rattle.ciborium_ll.proofs.FrontHeads.{Front, nothing, counted, opened, plain, raw, front, front_open}
 use Rattle.ciborium_ll.proofs.{ReadHeads.{Face, faces}, UsableHeads.{EachIsByte, bytes_after, take_bytes, stands-front}}
 use Rattle.ciborium_ll.{proofs.UsableHeads.{stands-length, IsStringMajor}, specs.{Bytes.greatest_offset, Head.IsHead}}
-use Rattle.ciborium_ll.specs.Refusal.{Kind, Refusal, syntax, semantic, recursion_limit_exceeded, Float, Simple}
-use Rattle.ciborium_ll.specs.Refusal.{Break, TooLarge, IsUsable, HasHead, head_refusal, IsAtFront}
-use Rattle.ciborium_ll.specs.{Spells.{IsDefiniteString, AreChunks, joined}, StringRefusal.StringType}
-use Rattle.ciborium_ll.specs.StringRefusal.{string_major, IsAllowed, PayloadRefuses, StringRefuses}
-use Rattle.ciborium_ll.specs.StringRefusal.{ChunkRefuses, HasStringHead}
+use Rattle.ciborium_ll.specs.Refusal.{Kind, Refusal, syntax, semantic, recursion_limit_exceeded, Float, Simple, Break}
+use Rattle.ciborium_ll.specs.{Refusal.{TooLarge, IsUsable, HasHead, head_refusal, IsAtFront}, Spells.IsDefiniteString}
+use Rattle.ciborium_ll.specs.{Spells.{AreChunks, joined}, StringRefusal.{StringType, string_major, IsAllowed}}
+use Rattle.ciborium_ll.specs.StringRefusal.{PayloadRefuses, StringRefuses, ChunkRefuses, HasStringHead}
 use Rattle.ciborium_value.proofs.GoodItems.{Accepted.anyway, Bignums.{foldable-is, is-foldable, none-large}}
 use Rattle.ciborium_value.proofs.GoodItems.{Found.{kind_allowed, kind_major}, Introduced.reads-positive}
 use Rattle.ciborium_value.proofs.GoodItems.Introduced.{reads-negative, reads-string, kind-below, reads-open_string}

@@ -4,8 +4,7 @@ use Rattle.std.proofs.Common.{◌++◌, length, Option, Some, None, option_map, 
 use Rattle.std.proofs.Common.{arith, inl, inr, length-append, append_assoc, eqb-true}
 use Rattle.ciborium_ll.specs.{Bytes.{AreBytes, greatest_offset}, Head.{IsHead, IsSimple, shortest_head, open_byte}}
 use Rattle.ciborium_ll.specs.{Head.break_byte, Item.Item, Refusal.{NotShortest, HasHead, Open}, Spells.AreChunks}
-use Rattle.ciborium_ll.specs.{Spells.{joined, Spells}, StringRefusal.{StringType, string_major}}
-use Rattle.ciborium_ll.specs.StringRefusal.{IsAllowed}
+use Rattle.ciborium_ll.specs.{Spells.{joined, Spells}, StringRefusal.{StringType, string_major, IsAllowed}}
 use Rattle.ciborium_value.proofs.GoodItems.{Bignums.whole-kept, Faults.{fault-short, fault-open, fault-undefined}}
 use Rattle.ciborium_value.proofs.GoodItems.Parts.{within-zero, raise, due-more, counted-items, open-pairs}
 use Rattle.ciborium_value.proofs.GoodItems.Parts.{counted-pairs, keys-paired, keys-value, read-more, items-read}

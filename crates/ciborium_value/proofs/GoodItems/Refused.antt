@@ -6,11 +6,10 @@ use Rattle.std.proofs.lemmas.Bool.{cond-true}
 use Rattle.ciborium_ll.proofs.{CutHeads.each-byte, FrontHeads.{Front, nothing, counted, opened, plain, raw, front}}
 use Rattle.ciborium_ll.proofs.{ReadHeads.{Face, faces}, UsableHeads.{EachIsByte, bytes_after, stands-front}}
 use Rattle.ciborium_ll.{proofs.UsableHeads.{stands-length, pass}, specs.Bytes.{AreBytes, greatest_offset}}
-use Rattle.ciborium_ll.specs.{Head.IsSimple, Refusal.{Kind, Refusal, syntax, semantic, Float, Simple, Break}}
-use Rattle.ciborium_ll.specs.Refusal.{TooLarge, NotFolded, recursion_limit_exceeded, IsUsable, HeadRefuses, HasHead}
-use Rattle.ciborium_ll.specs.{Refusal.IsAtFront, StringRefusal.{StringType, string_major, IsAllowed}}
-use Rattle.ciborium_ll.specs.StringRefusal.{PayloadRefuses, StringRefuses, ChunkRefuses, OpenStringRefuses}
-use Rattle.ciborium_ll.specs.StringRefusal.{HasStringHead}
+use Rattle.ciborium_ll.specs.{Head.IsSimple, Refusal.{Kind, Refusal, syntax, semantic, Float, Simple, Break, TooLarge}}
+use Rattle.ciborium_ll.specs.Refusal.{NotFolded, recursion_limit_exceeded, IsUsable, HeadRefuses, HasHead, IsAtFront}
+use Rattle.ciborium_ll.specs.StringRefusal.{StringType, string_major, IsAllowed, PayloadRefuses, StringRefuses}
+use Rattle.ciborium_ll.specs.StringRefusal.{ChunkRefuses, OpenStringRefuses, HasStringHead}
 use Rattle.ciborium_value.proofs.GoodItems.{Answered.{kind_ok, rest-bytes}, Bignums.{foldable-small, foldable-is}}
 use Rattle.ciborium_value.proofs.GoodItems.{Bignums.{is-foldable, large-none}, Faults.{fault-break, fault-float}}
 use Rattle.ciborium_value.proofs.GoodItems.{Faults.fault-simple, Found.{kind_allowed, simple-front, read-good}}

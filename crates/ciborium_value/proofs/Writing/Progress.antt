@@ -3,7 +3,7 @@ use Rattle.std.proofs.Common.{Bool, true, cond, nat_le, ◌≡◌, ℕ, ◌+◌,
 use Rattle.std.proofs.Common.{length, Option, Some, None, Result, Ok, Err, OnErr, IfErr, IsErrAnd, refl, sym, ◌∙◌, ap}
 use Rattle.std.proofs.Common.{subst, append_assoc, append-nil, arith, length-append, drop, drop-cons, get_or}
 use Rattle.std.proofs.lemmas.List.{drop_all}
-use Rattle.ciborium_ll.specs.{Bytes.greatest_offset, Item.Item}
+use Rattle.ciborium_ll.specs.{Bytes.greatest_offset, Item.Item, declared.kind.Kind.{Kind, TheVariants.Other}}
 use Rattle.ciborium_value.proofs.Writing.Standing.{IsBefore, before_itself, before_within, before_full, before_tagged}
 use Rattle.ciborium_value.{proofs.Writing.Standing.{tagged_before, cut_nothing, cut_wider}, specs.Places.Shape}
 use Rattle.ciborium_value.specs.Places.{sequence, dictionary, size_of, container, Place, within, tagged, HasRoom, added}
@@ -12,7 +12,6 @@ use Rattle.ciborium_value.specs.{Progress.{Owes, TakesAll, counted, counted_of},
 use Rattle.ciborium_value.specs.Sinks.{contained, container_of, in_turn, tag_of, Cause, value, IsOwed, IsReady, Begins}
 use Rattle.ciborium_value.specs.Sinks.{Tags, CanEnd, Ends, Breaks, BreaksBegin, BreaksTag, BreaksEnd, AddsNamed}
 use Rattle.ciborium_value.specs.Sinks.{BreaksNamed}
-use Rattle.ciborium_ll.specs.declared.kind.Kind.{Kind, TheVariants.Other}
 use Rattle.ciborium_ll.specs.Item as item
 
 -- ---- results

@@ -1,11 +1,10 @@
 -- What holds of deterministic forms (RFC 8949, section 4.2).
 use Rattle.std.specs.Prelude.{◌≡◌, ◌↔◌, ◌⊎◌, ℕ, ◌+◌, ◌≤◌, length, Some}
-use Rattle.ciborium_ll.specs.Bytes.{greatest_offset}
+use Rattle.ciborium_ll.specs.{Bytes.greatest_offset, declared.kind.Kind.Kind}
 use Rattle.ciborium_value.specs.{DeterministicForms.deterministic_form, Encoding.{encoding, item_of}, Folded.folded}
 use Rattle.ciborium_value.specs.{Nesting.nesting, ProperTrees.IsProperTree, SameContents.IsAlike}
 use Rattle.ciborium_value.specs.{Spelling.{deterministic, IsReadAs}, Given.{gives, refuses}, Tree.Tree}
 use Rattle.ciborium_value.specs.declared.key_order.KeyOrder.{KeyOrder}
-use Rattle.ciborium_ll.specs.declared.kind.Kind.{Kind}
 use Rattle.ciborium_ll.specs.declared.kind.Kind.TheVariants as kinds
 
 -- the form of a form is itself

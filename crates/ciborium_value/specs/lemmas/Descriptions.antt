@@ -3,7 +3,7 @@ use Rattle.std.{proofs.Common.{ap, arith, subst, sym, ◌∙◌}, specs.{List.Al
 use Rattle.std.specs.Prelude.{◌≡◌, ◌<◌, ◌^◌, ◌+◌, ℕ, ℤ, suc, pos, max, Bool, true, false, List, [], ◌∷◌, Option, Some}
 use Rattle.std.specs.Prelude.{None, Ok, Err, IfSome, length, map, nat_le, ◌&&◌, if◌then◌else◌, refl}
 use Rattle.std.specs.declared.cmp.Ordering.{Ordering}
-use Rattle.ciborium_ll.specs.Bytes.{greatest_offset}
+use Rattle.ciborium_ll.specs.{Bytes.greatest_offset, declared.kind.Kind.{Kind, TheVariants.Other}}
 use Rattle.ciborium_value.specs.Described.{Description, FieldsDescription, IsDescribed, is_lawful, labeled_map}
 use Rattle.ciborium_value.specs.{Described.{labeled_parts, maybe_before, maybe_levels}, Given.Given, Labels.Label}
 use Rattle.ciborium_value.specs.{Labels.{is_label, is_proper, label_item, number_or, parts_or}, NeverWritten.Avoided}
@@ -17,9 +17,7 @@ use Rattle.ciborium_value.specs.StructReadings.{no_field_given, no_other_given, 
 use Rattle.ciborium_value.specs.WrittenContents.{AreFieldsAlike, IsWrittenByContent, field_alike, list-alike}
 use Rattle.ciborium_value.specs.WrittenContents.{no_field_alike, option-alike, signed-alike, tuple1-alike, tuple2-alike}
 use Rattle.ciborium_value.specs.WrittenContents.{tuple3-alike, tuple4-alike, unsigned-alike}
-use Rattle.ciborium_ll.specs.declared.kind.Kind.{Kind}
 use Rattle.ciborium_value.specs.lemmas.ReadsBackNumbers.{signed-back}
-use Rattle.ciborium_ll.specs.declared.kind.Kind.TheVariants.{Other}
 use Rattle.ciborium_value.specs.lemmas.{ReadsBackNumbers.unsigned-back, ReadsBackOptions.{option-back, option_levels}}
 use Rattle.ciborium_value.specs.lemmas.ReadsBackParts.{greatest, list-back, such_that_back, tuple1-back, tuple2-back}
 use Rattle.ciborium_value.specs.lemmas.{ReadsBackParts.{tuple3-back, tuple4-back}, ReadsBackStructs.FieldsReadBack}

@@ -3,13 +3,12 @@
 use Rattle.std.{proofs.{Common.{ap, subst, ◌∙◌}, lemmas.List.Elements.{All-head, All-tail}}, specs.BTreeMap.BTreeMap}
 use Rattle.std.specs.{BTreeMap.IsOrdered, Cmp.IsTotalOrder, List.All, Prelude.{◌≡◌, ℕ, suc, max, Bool, true, false}}
 use Rattle.std.specs.{Prelude.{List, [], ◌∷◌, Result, Ok, Err, IfOk, refl}, declared.cmp.Ordering.Ordering}
-use Rattle.ciborium_ll.specs.Item.{Item}
+use Rattle.ciborium_ll.specs.{Item.Item, declared.kind.Kind.Kind}
 use Rattle.ciborium_value.specs.Given.{Given, gives, outcome, take_each, then_take, unpack_pairs}
 use Rattle.ciborium_value.specs.{GivenParts.{given_map, put_all, put_each, take_entry}, Nesting.{Limit, IsWithin}}
 use Rattle.ciborium_value.specs.{Places.{dictionary, pairs_from}, ReadsBack.{IsItemRead, IsNameRead, IsReadBack, Way}}
 use Rattle.ciborium_value.specs.{ReadsBack.{at, name-back}, Sinks.{Named, and_then, all_named, contained, container_of}}
 use Rattle.ciborium_value.specs.{Sinks.in_turn, WrittenContents.contents}
-use Rattle.ciborium_ll.specs.declared.kind.Kind.{Kind}
 use Rattle.ciborium_value.specs.lemmas.{GivenOutcomes.and_take, MetItems.{ArePairsMet, inside, map-met}}
 use Rattle.ciborium_value.specs.lemmas.PutEntries.{AreNew, apart-reordered, contents-apart, put-new, reordered-contents}
 use Rattle.ciborium_value.specs.lemmas.{PutEntries.sorted-apart, ReadsBackParts.{greatest, within-left, within-right}}

@@ -3,7 +3,7 @@
 use Rattle.std.proofs.{Common.{ap, ◌∙◌, arith, lit<}, Math.Nat.pow-le-pow_right, lemmas.Bool.Decides.nat_tests}
 use Rattle.std.specs.{Int.complement_if, Prelude.{◌≡◌, ℕ, ◌^◌, ◌<◌, ◌≤◌, ℤ, pos, negsuc, Bool, true, false, List, Ok}}
 use Rattle.std.specs.Prelude.{Result, Some, None, if◌then◌else◌, length, nat_le, nat_lt, refl}
-use Rattle.ciborium_ll.specs.Item.{Item}
+use Rattle.ciborium_ll.specs.{Item.Item, declared.kind.Kind.Kind}
 use Rattle.ciborium_value.specs.{DeterministicForms.tag_form, Meaning.{bignum_meaning, negative_bignum}}
 use Rattle.ciborium_value.specs.{Meaning.{unsigned_bignum, without_zeros}, Nesting.Limit, Number.shortest_bytes}
 use Rattle.ciborium_value.specs.{Readings.{below, bounded}, ReadsBack.{IsDefinite, IsItsOwnForm, IsReadBack, Way}}
@@ -12,7 +12,6 @@ use Rattle.ciborium_value.specs.lemmas.ReadsBackBignums.{length-shortest, magnit
 use Rattle.ciborium_value.specs.{Sinks.{bignum_item, number_item}, Given.{gives, number_below, number_of}}
 use Rattle.ciborium_value.specs.Given.{number_within, of_meaning, outcome, settled, then_take, with_sign}
 use Rattle.ciborium_value.specs.declared.key_order.KeyOrder.{KeyOrder}
-use Rattle.ciborium_ll.specs.declared.kind.Kind.{Kind}
 use Rattle.ciborium_ll.specs.Item as items
 use Rattle.ciborium_value.specs.Readings as readings
 use Rattle.ciborium_value.specs.Tree as trees

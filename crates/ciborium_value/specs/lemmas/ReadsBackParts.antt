@@ -2,14 +2,13 @@
 use Rattle.std.proofs.{Common.{ap, ◌∙◌, arith, subst}, Math.Nat.{le-max_left, le-max_right, max-zero}}
 use Rattle.std.{proofs.lemmas.List.Elements.{All-head, All-tail}, specs.{List.All, Prelude.{◌≡◌, ℕ, suc, max, Bool}}}
 use Rattle.std.specs.Prelude.{true, false, List, [], ◌∷◌, map, Some, None, Result, Ok, Err, IfOk, if◌then◌else◌, refl}
-use Rattle.ciborium_ll.specs.Item.{Item}
+use Rattle.ciborium_ll.specs.{Item.Item, declared.kind.Kind.Kind}
 use Rattle.ciborium_value.specs.Given.{Steps, Given, chosen, give, gives, outcome, outcome_map, refuse, refuses}
 use Rattle.ciborium_value.specs.{Given.{take_each, then_take, unpack}, GivenParts.{after_seq, given_then, given_list}}
 use Rattle.ciborium_value.specs.GivenParts.{no_part_given, part_given, given_tuple1, given_tuple2, given_tuple3}
 use Rattle.ciborium_value.specs.{GivenParts.given_tuple4, Nesting.{Limit, IsWithin}, Places.sequence}
 use Rattle.ciborium_value.specs.{ReadsBack.{IsItemRead, IsNameRead, IsReadBack, Way, at, name-back}, Sinks.Named}
 use Rattle.ciborium_value.specs.Sinks.{and_then, all_named, contained, container_of}
-use Rattle.ciborium_ll.specs.declared.kind.Kind.{Kind}
 use Rattle.ciborium_value.specs.lemmas.MetItems.{AreMet, array-met, inside}
 
 -- the greatest of these levels, or 0

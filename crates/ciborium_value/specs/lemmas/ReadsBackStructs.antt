@@ -4,7 +4,7 @@ use Rattle.std.proofs.{Common.{ap, sym, subst, ◌∙◌}, lemmas.{Bool.Decides.
 use Rattle.std.specs.{List.AllByRecursion, Option.{is_some, unwrap_or}, Prelude.{◌≡◌, ℕ, suc, max, Bool, true, false}}
 use Rattle.std.specs.Prelude.{List, [], ◌∷◌, Option, Some, None, Result, Ok, Err, IfOk, if◌then◌else◌, ◌&&◌, pos}
 use Rattle.std.specs.Prelude.{negsuc, refl}
-use Rattle.ciborium_ll.specs.Item.{Item}
+use Rattle.ciborium_ll.specs.{Item.Item, declared.kind.Kind.Kind}
 use Rattle.ciborium_value.specs.Given.{Outcome, gives, outcome, outcome_map, refuses, settled, then_take, unpack_pairs}
 use Rattle.ciborium_value.specs.Labels.{Label, fields_of, is_label, is_proper, label_item, named, numbered, other}
 use Rattle.ciborium_value.specs.{Labels.given_label, Nesting.{Limit, IsWithin}, Places.{dictionary, pairs_from}}
@@ -13,7 +13,6 @@ use Rattle.ciborium_value.specs.{ReadsBack.{met-text, name-back}, Sinks.{Named, 
 use Rattle.ciborium_value.specs.{Sinks.{contained, in_turn}, StructReadings.{Fields, FieldsGiven, end_of_fields, field}}
 use Rattle.ciborium_value.specs.StructReadings.{field_filled, field_or, field_given, given_struct, no_field}
 use Rattle.ciborium_value.specs.StructReadings.{no_field_given, required, take_fields}
-use Rattle.ciborium_ll.specs.declared.kind.Kind.{Kind}
 use Rattle.ciborium_value.specs.lemmas.{GivenOutcomes.one_given, MetItems.{ArePairsMet, inside, map-met}}
 use Rattle.ciborium_value.specs.lemmas.{ReadsBackParts.{within-left, within-right}, Reordered.{AreEach, AreReordered}}
 use Rattle.ciborium_value.specs.lemmas.Reordered.{all-reordered, as_they_are, each-reordered, first_stays, neighbours}

@@ -2,10 +2,9 @@ use Rattle.std.proofs.Common.{ap, refl, subst, ◌-◌, ◌≡◌, ◌≤◌, tr
 use Rattle.ciborium_ll.proofs.HeadsRead.{behind-bytes, cut-inside-head, cut-inside-payload, ends-in-head}
 use Rattle.ciborium_ll.proofs.HeadsRead.{ends-in-payload, front-behind, head-read, malformed, misplaced, no-chunk}
 use Rattle.ciborium_ll.proofs.HeadsRead.{no-text, enters-too-many, some-unfinished, too-deep, was-misplaced}
-use Rattle.ciborium_ll.proofs.HeadsRead.{was-too-deep}
-use Rattle.ciborium_ll.{proofs.HeadsRead.whole-read, specs.{Bytes.AreBytes, Header.SpellsHeader, ItemHeads.levels_of}}
-use Rattle.ciborium_ll.specs.{ItemLengths.Misfits, Levels.IsPayloadOf, Refusal.is_ill_formed, inner.Fronts.IsCut}
-use Rattle.ciborium_ll.specs.inner.Fronts.{IsCutPayload, IsNoChunk, IsNoText, MayBeChunk}
+use Rattle.ciborium_ll.{proofs.HeadsRead.{was-too-deep, whole-read}, specs.{Bytes.AreBytes, Header.SpellsHeader}}
+use Rattle.ciborium_ll.specs.{ItemHeads.levels_of, ItemLengths.Misfits, Levels.IsPayloadOf, Refusal.is_ill_formed}
+use Rattle.ciborium_ll.specs.inner.Fronts.{IsCut, IsCutPayload, IsNoChunk, IsNoText, MayBeChunk}
 use Rattle.ciborium_ll.proofs.item_heads.ItemHeads.next.Goals as goal
 
 pub returns-then-is_empty : goal.returns-then-is_empty
