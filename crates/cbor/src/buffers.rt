@@ -30,6 +30,6 @@ impl Buffers {
     pub fn into_answer(self) -> Result<String, AllocError>
         ensures { IfOk result (λ text. string_bytes text ≡ self.text.items) }
     {
-        String::from_utf8(self.text).map_err(|_| AllocError)
+        String::from_utf8(self.text).or(Err(AllocError))
     }
 }

@@ -52,7 +52,7 @@ pub malformed : (heads : ItemHeads) → HasRead heads → ¬ (levels_of heads �
     IsNoItem heads.bytes.now (Malformed heads.offset)
 malformed heads h some m = (
   subst BeginNoItem (both heads) (no-item (was_read heads) (unread heads) (levels_of heads) h.incomplete some h.levels
-  m),
+      m),
   (levels_of heads, unread heads, stands heads h, m),
 )
 

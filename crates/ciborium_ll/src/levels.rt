@@ -7,7 +7,7 @@ ghost use Rattle.ciborium_ll.specs.Levels.{behind_head, entered, behind_break, l
 use crate::header::Header;
 
 /// A level around a place inside an item: what is still to come of it (RFC 8949, section 3).
-#[derive(Clone, Copy, Debug, PartialEq, Eq)]
+#[derive(Clone, Copy)]
 pub enum Level {
     /// So many items.
     Items(u128),
@@ -27,7 +27,7 @@ pub enum Level {
 const MOST_LEVELS: usize = 257;
 
 /// What a head does to the innermost level.
-#[derive(Clone, Copy, Debug)]
+#[derive(Clone, Copy)]
 pub enum Step {
     /// It becomes this one.
     Within(Level),

@@ -4,7 +4,7 @@ use Rattle.std.specs.Prelude.{Option, Some, None, Ok, Err, nat_lt, bytes_eq, cod
 use Rattle.ciborium_ll.specs.Item.{Item, unsigned, negative, bytes, text, tag}
 use Rattle.ciborium_value.specs.{Given.{Given, mapped, given_integer, given_place, given_skip}, Meaning.is_bignum_tag}
 use Rattle.ciborium_value.specs.{Places.dictionary, Sinks.{Named, container_of, in_turn, named_text, number_item}}
-use Rattle.ciborium_value.specs.declared.labels.LabelKind.{LabelKind, TheVariants.{Name, Number, Other}}
+use Rattle.ciborium_value.specs.declared.labels.LabelType.{LabelType, TheVariants.{Name, Number, Other}}
 use Prim.Native.String.{String}
 use Rattle.ciborium_ll.specs.declared.kind.Kind.TheVariants as kinds
 
@@ -52,26 +52,26 @@ number_or (Some v) n m = n
 -- ---- what is read of a key
 
 -- how a key is read: as a number, or as a name, tags before it skipped, or else it is passed over
-abbrev pub label_kind : Item → LabelKind
-label_kind (unsigned n) = Number
-label_kind (negative n) = Number
-label_kind (bytes open_ b) = Name
-label_kind (text open_ b) = Name
-label_kind (tag t i) = if is_bignum_tag t then Number else Name
-label_kind _ = Other
+abbrev pub label_type : Item → LabelType
+label_type (unsigned n) = Number
+label_type (negative n) = Number
+label_type (bytes open_ b) = Name
+label_type (text open_ b) = Name
+label_type (tag t i) = if is_bignum_tag t then Number else Name
+label_type _ = Other
 
 abbrev pub name_place : {P : Type 0} → (Label → P) → List ℕ → P
 name_place place name = place (named name)
 
 -- the place among labels of a key that is read so
-abbrev pub placed : {P : Type 0} → (Label → P) → LabelKind → Given P
+abbrev pub placed : {P : Type 0} → (Label → P) → LabelType → Given P
 placed place Name i = given_place (name_place place) i
 placed place Number i = mapped (λ n. place (numbered (complement_if n.0 n.1))) (given_integer i)
 placed place Other i = mapped (λ _. place other) (given_skip i)
 
 -- the place among labels of a key
 abbrev pub label_place : {P : Type 0} → (Label → P) → Given P
-label_place place i = placed place (label_kind i) i
+label_place place i = placed place (label_type i) i
 
 -- the label that a key is
 abbrev pub given_label : Given Label

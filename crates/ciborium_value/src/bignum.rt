@@ -12,17 +12,16 @@ ghost use Rattle.ciborium_value.specs.View.{tree_of};
 ghost use Rattle.ciborium_ll.specs.declared.kind.Kind.TheVariants as kinds;
 ghost use Rattle.ciborium_value.specs.declared.bignum.FoldError.TheVariants.{TooLarge};
 
-use ciborium_ll::Kind;
 use crate::tree::Value;
-use ciborium_ll::Integer;
 use ciborium_ll::tag::{BIGNEG, BIGPOS};
+use ciborium_ll::{Integer, Kind};
 use std::alloc::{AllocError, Global};
 
 /// A bignum's tag folds over a definite byte string of at most this many bytes.
 pub const GREATEST_FOLDED_SIZE: usize = 16;
 
 /// Why a bignum's tag folds to no value.
-#[derive(Clone, Copy, Debug, PartialEq, Eq)]
+#[derive(Clone, Copy)]
 pub enum FoldError {
     /// The number is negative, and no `i128` holds it.
     TooLarge,

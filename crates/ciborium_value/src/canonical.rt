@@ -119,8 +119,8 @@ struct Visits {
     ghost in_range: { count < 2 ^ 64 },
 }
 
-// The shortest head of a value. Heads are ordered as their bytes are.
-#[derive(Clone, Copy, PartialEq, Eq, PartialOrd, Ord)]
+// The shortest head of a value.
+#[derive(Clone, Copy)]
 struct Head {
     major: u8,
     argument: u64,
@@ -195,7 +195,7 @@ fn integer_head(number: Integer) -> Head
     }
 }
 
-// The order of the heads of two values, both of which it visits.
+// The order of the heads of two values, both of which it visits: that of their bytes.
 #[inline(always)]
 fn compare_heads(left: &Value, right: &Value, visits: &mut Visits) -> Ordering
     ensures order { result ≡ head_order (tree_of left.now) (tree_of right.now) }
@@ -203,7 +203,11 @@ fn compare_heads(left: &Value, right: &Value, visits: &mut Visits) -> Ordering
     ensures right_fits { argument_of (tree_of right.now) < 2 ^ 64 }
     ensures visits { AddsVisits 2 visits.old.count visits.new.count }
 {
-    visit(left, visits).cmp(&visit(right, visits))
+    let left = visit(left, visits);
+    let right = visit(right, visits);
+    left.major
+        .cmp(&right.major)
+        .then(left.argument.cmp(&right.argument))
 }
 
 // ---- sizes
@@ -273,7 +277,10 @@ fn payload_size(payload: &[u8]) -> u64
 fn cmp_payloads(left: &[u8], right: &[u8]) -> Ordering
     ensures { result ≡ payload_order left.now right.now }
 {
-    left.len().cmp(&right.len()).then_with(|| left.cmp(right))
+    match left.len().cmp(&right.len()) {
+        Ordering::Equal => left.cmp(right),
+        order => order,
+    }
 }
 
 // The canonical order of two texts, or of two byte strings.

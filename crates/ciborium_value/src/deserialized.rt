@@ -10,11 +10,10 @@ ghost use Rattle.ciborium_value.specs.TreeAnswers.{IsErrorOf, tree_fault, value_
 
 use crate::deserialize::Deserialize;
 use crate::error::Error;
-use ciborium_ll::Kind;
 use crate::labels::Labels;
 use crate::source::Source;
 use crate::tree::Value;
-use ciborium_ll::Integer;
+use ciborium_ll::{Integer, Kind};
 use std::alloc::Global;
 use std::mem;
 

@@ -17,8 +17,8 @@ ghost use Rattle.ciborium_ll.specs.declared.kind.Kind.TheVariants.{DuplicateKey,
 use crate::bignum::{find_folding, fold_number, without_leading_zeros};
 use crate::canonical::{cmp_bytewise, cmp_keys};
 use crate::key_order::KeyOrder;
-use ciborium_ll::Kind;
 use crate::tree::Value;
+use ciborium_ll::Kind;
 use std::cmp::Ordering;
 
 impl Value {

@@ -9,11 +9,11 @@ ghost use Rattle.ciborium_value.specs.Readings.{part};
 ghost use Rattle.ciborium_value.specs.Sources.{TakesOnly};
 
 use crate::deserialize::Deserialize;
-use ciborium_ll::Kind;
 use crate::parts::{OfArray, Parts, serialize_parts};
 use crate::serialize::Serialize;
 use crate::sink::Sink;
 use crate::source::Source;
+use ciborium_ll::Kind;
 use std::alloc::Global;
 
 /// An item and the items after it.

@@ -9,8 +9,8 @@ use crate::serialize::Serialize;
 use ciborium_ll::Integer;
 
 /// How the key of a map is read as a label.
-#[derive(Clone, Copy, Debug, Drop, PartialEq, Eq)]
-pub enum LabelKind {
+#[derive(Clone, Copy)]
+pub enum LabelType {
     /// A text, or a byte string that is UTF-8, or what stands under a tag, which is skipped.
     Name,
     /// An integer, or what stands under the tag of a bignum.

@@ -36,7 +36,7 @@ pub use fields::{Field, MaybeField, NoField};
 pub use from_notation::{NotationError, NotationFault};
 pub use items::{Array, Item, NoItem, WantedItems};
 pub use key_order::KeyOrder;
-pub use labels::{Label, LabelKind, Labels, SoughtLabel};
+pub use labels::{Label, LabelType, Labels, SoughtLabel};
 pub use parts::{Container, OfArray, OfMap, Parts, serialize_parts};
 pub use reads_back::{
     Avoidable, ByteString, FormReadsBack, NeverWrites, Null, ReadsBack, WritesContent,

@@ -7,8 +7,8 @@ ghost use Rattle.ciborium_value.specs.Progress.{counted_of};
 ghost use Rattle.ciborium_value.specs.Sinks.{AddsNamed, Begins, BreaksBegin, BreaksNamed};
 ghost use Rattle.ciborium_value.specs.Sinks.{IsGranted, IsOutside, IsOwed, IsReady, Named};
 
-use ciborium_ll::Kind;
 use crate::sink::Sink;
+use ciborium_ll::Kind;
 
 /// What parts stand in: `OfArray` or `OfMap`.
 pub trait Container {

@@ -9,11 +9,11 @@ ghost use Rattle.ciborium_value.specs.TreeAnswers.{IsTreeOf, tree_cause};
 ghost use Rattle.ciborium_value.specs.View.{tree_of};
 
 use crate::error::Error;
-use ciborium_ll::Kind;
 use crate::serialize::Serialize;
 use crate::sink::Sink;
 use crate::stack::{NewFrame, Stack};
 use crate::tree::Value;
+use ciborium_ll::Kind;
 use std::alloc::Global;
 
 impl Value {

@@ -18,9 +18,9 @@ ghost use Rattle.ciborium_value.specs.Given.{is_null, given_pairs, given_seq, gi
 ghost use Rattle.ciborium_value.specs.Given.{given_text, given_unit, given_value, given_variant};
 ghost use Rattle.ciborium_value.specs.Tree.{Tree};
 
-use ciborium_ll::Kind;
 use crate::labels::Labels;
 use crate::tree::Value;
+use ciborium_ll::Kind;
 use std::alloc::Global;
 
 /// Where an item is read from, part by part: from bytes, or from a tree.

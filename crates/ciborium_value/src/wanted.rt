@@ -15,9 +15,9 @@ ghost use Rattle.ciborium_ll.specs.declared.kind.Kind.TheVariants.{Other};
 
 use crate::deserialize::Deserialize;
 use crate::fields::NoField;
-use ciborium_ll::Kind;
 use crate::labels::{Labels, SoughtLabel};
 use crate::source::Source;
+use ciborium_ll::Kind;
 use std::alloc::Global;
 
 /// A field by its label, a text or a number, what has been read of it so far, which at first is

@@ -904,6 +904,7 @@ fn answers_a_line_longer_than_its_buffer(rt: HostRuntime) -> Result<(), Fail> {
 
 // Arrays around one another: each but the innermost, that one, and what ends the others.
 const HEX: [&str; 3] = ["81", "80", ""];
+
 const NOTATION: [&str; 3] = ["[", "[]", "]"];
 
 // The words, so many nested arrays, how what is written for them begins, and the status.

@@ -4,22 +4,22 @@ use Rattle.std.proofs.Common.{sym, subst, ℕ}
 use Rattle.ciborium_ll.specs.{Header.SpellsHeader, Item.{Item, array, bytes, float, negative, simple, tag, text}}
 use Rattle.ciborium_ll.specs.{Item.unsigned, Spells.Spells, StringRefusal.StringType, declared.header.Header.Header}
 use Rattle.ciborium_value.{proofs.Sources.Sequences.fault_map, specs.Given.{Given, gives, mapped, outcome}}
-use Rattle.ciborium_value.specs.{Labels.{Label, label_kind, label_place, name_place, placed}, Nesting.Limit}
+use Rattle.ciborium_value.specs.{Labels.{Label, label_type, label_place, name_place, placed}, Nesting.Limit}
 use Rattle.ciborium_value.specs.{Places.is_open, Sources.{Fault, IsFaultOf, TakesOnly}}
 use Rattle.ciborium.proofs.{Containers.NextParts.aside-unread, Items.ItemHeads.{header_of, same-head}}
 use Rattle.ciborium.proofs.Items.{SkippedTags.{bare-head, denies-item, denies-of-item, skips-none}, TakenOnly.same-end}
 use Rattle.ciborium.{proofs.Payloads.StringPayloads.denies-string, specs.declared.de.byte_source.ByteSource.ByteSource}
-use Rattle.ciborium.specs.inner.ByteSources.{CountsHead, HasTaken, IsUnread, end_at, head_label_kind}
+use Rattle.ciborium.specs.inner.ByteSources.{CountsHead, HasTaken, IsUnread, end_at, head_label_type}
 use Rattle.ciborium.specs.inner.{FrontItems.{Denies, DeniesHead, Reads, TakesHead}, StringContents.DeniesContent}
 use Rattle.ciborium.specs.inner.StringContents.{TakesPlace}
 use Rattle.ciborium_ll.specs.declared.header.Header.TheVariants as header
 use Rattle.ciborium_ll.specs.Item as items
 
 -- the head tells how the key is read
-label-head : (h : Header) (i : Item) → header_of i ≡ h → head_label_kind h ≡ label_kind i
-label-head h i e = subst (λ k. head_label_kind k ≡ label_kind i) e (by i)
+label-head : (h : Header) (i : Item) → header_of i ≡ h → head_label_type h ≡ label_type i
+label-head h i e = subst (λ k. head_label_type k ≡ label_type i) e (by i)
   where
-    by : (i : Item) → head_label_kind (header_of i) ≡ label_kind i
+    by : (i : Item) → head_label_type (header_of i) ≡ label_type i
     by (unsigned n) = refl
     by i = refl
 
@@ -83,7 +83,7 @@ module _ {S W P : Type 0} (remaining : S → Option (List ℕ)) (old : ByteSourc
       aside = record mid { pending = Some (h, p) }
 
       told : (b : List ℕ) → IsUnread remaining old b → IsUnread remaining aside b ×
-          ((i : Item) (s z : List ℕ) → Spells s i → b ≡ s ++ z → head_label_kind h ≡ label_kind i)
+          ((i : Item) (s z : List ℕ) → Spells s i → b ≡ s ++ z → head_label_type h ≡ label_type i)
       told b u =
           let (x, y, hd, e, un) = head b u in (
             aside-unread remaining mid.decoder mid.pending h p b x y none hd e (counted b x y u hd e) un,
@@ -91,7 +91,7 @@ module _ {S W P : Type 0} (remaining : S → Option (List ℕ)) (old : ByteSourc
           )
 
       pub key-of-kind : (new : ByteSource S W) (v : P) → Reads (IsUnread remaining) aside new (Some mid.levels)
-          (placed place (head_label_kind h)) v → IsKey new v
+          (placed place (head_label_type h)) v → IsKey new v
       key-of-kind new v read b u =
           let (un, tells) = told b u in
           let (i, s, z, sp, f, give, un') = read b un in (
@@ -106,7 +106,7 @@ module _ {S W P : Type 0} (remaining : S → Option (List ℕ)) (old : ByteSourc
           )
 
       pub no-key-of-kind : TakesOnly (HasTaken remaining) old.decoder mid.decoder → (fault : Fault) →
-          Denies (IsUnread remaining) (end_at remaining) aside (Some mid.levels) (placed place (head_label_kind h))
+          Denies (IsUnread remaining) (end_at remaining) aside (Some mid.levels) (placed place (head_label_type h))
           fault → IsNoKey fault
       no-key-of-kind only fault denied b s z i end u sp f fits =
           let (un, tells) = told b u in

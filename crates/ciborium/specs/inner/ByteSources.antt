@@ -10,8 +10,8 @@ use Rattle.ciborium_value.specs.Ahead.{Ahead, Rest, Span, bottom, parts, pairs, 
 use Rattle.ciborium_value.specs.{Ahead.{past, inside, end_of}, Meaning.{meaning, is_bignum_tag}, Nesting.Limit}
 use Rattle.ciborium_value.specs.{Nesting.nesting, Places.{Shape, sequence, dictionary}, Sources.{Fault, HasItem}}
 use Rattle.ciborium_value.specs.{Sources.{IsFaultOf, IsGrantedFault, TakesOnly}, Given.{Steps, Given, gives}}
-use Rattle.ciborium_value.specs.{Given.{is_null_simple, outcome}, Tree.Tree, declared.labels.LabelKind.LabelKind}
-use Rattle.ciborium_value.specs.{declared.labels.LabelKind.TheVariants.{Name, Number, Other}, Spelling.any}
+use Rattle.ciborium_value.specs.{Given.{is_null_simple, outcome}, Tree.Tree, declared.labels.LabelType.LabelType}
+use Rattle.ciborium_value.specs.{declared.labels.LabelType.TheVariants.{Name, Number, Other}, Spelling.any}
 use Rattle.ciborium.specs.{declared.de.error.Error.Error, declared.de.byte_source.ByteSource.ByteSource}
 use Rattle.ciborium.specs.{declared.de.byte_source.ByteLevel.ByteLevel, declared.de.byte_source.ByteSeq.ByteSeq}
 use Rattle.ciborium.specs.{declared.de.byte_source.Left.Left, inner.Turns.IsTreeRead, inner.ValuesInBytes.HasEndedAfter}
@@ -34,13 +34,13 @@ tells_null (header.Simple n) = is_null_simple n
 tells_null _ = false
 
 -- how the item that a head begins is read as a label
-abbrev pub head_label_kind : Header → LabelKind
-head_label_kind (header.Positive n) = Number
-head_label_kind (header.Negative n) = Number
-head_label_kind (header.Bytes n) = Name
-head_label_kind (header.Text n) = Name
-head_label_kind (header.Tag t) = if is_bignum_tag t then Number else Name
-head_label_kind _ = Other
+abbrev pub head_label_type : Header → LabelType
+head_label_type (header.Positive n) = Number
+head_label_type (header.Negative n) = Number
+head_label_type (header.Bytes n) = Name
+head_label_type (header.Text n) = Name
+head_label_type (header.Tag t) = if is_bignum_tag t then Number else Name
+head_label_type _ = Other
 
 -- the head with this spelling, at the front of b, was pulled: it is usable, and its bytes are
 -- counted

@@ -169,7 +169,7 @@ impl TryFrom<Integer> for u8 {
     ghost try_from_gives = { λ z r. OkIff r (FitsUnsigned w8 z) (unsigned_abs z) };
 
     fn try_from(number: Integer) -> Result<u8, OutOfRange> {
-        u8::try_from(number.number).map_err(|_| OutOfRange)
+        u8::try_from(number.number).or(Err(OutOfRange))
     }
 }
 
@@ -180,7 +180,7 @@ impl TryFrom<Integer> for u16 {
     ghost try_from_gives = { λ z r. OkIff r (FitsUnsigned w16 z) (unsigned_abs z) };
 
     fn try_from(number: Integer) -> Result<u16, OutOfRange> {
-        u16::try_from(number.number).map_err(|_| OutOfRange)
+        u16::try_from(number.number).or(Err(OutOfRange))
     }
 }
 
@@ -191,7 +191,7 @@ impl TryFrom<Integer> for u32 {
     ghost try_from_gives = { λ z r. OkIff r (FitsUnsigned w32 z) (unsigned_abs z) };
 
     fn try_from(number: Integer) -> Result<u32, OutOfRange> {
-        u32::try_from(number.number).map_err(|_| OutOfRange)
+        u32::try_from(number.number).or(Err(OutOfRange))
     }
 }
 
@@ -202,7 +202,7 @@ impl TryFrom<Integer> for u64 {
     ghost try_from_gives = { λ z r. OkIff r (FitsUnsigned w64 z) (unsigned_abs z) };
 
     fn try_from(number: Integer) -> Result<u64, OutOfRange> {
-        u64::try_from(number.number).map_err(|_| OutOfRange)
+        u64::try_from(number.number).or(Err(OutOfRange))
     }
 }
 
@@ -213,7 +213,7 @@ impl TryFrom<Integer> for usize {
     ghost try_from_gives = { λ z r. OkIff r (FitsUnsigned w64 z) (unsigned_abs z) };
 
     fn try_from(number: Integer) -> Result<usize, OutOfRange> {
-        usize::try_from(number.number).map_err(|_| OutOfRange)
+        usize::try_from(number.number).or(Err(OutOfRange))
     }
 }
 
@@ -224,7 +224,7 @@ impl TryFrom<Integer> for u128 {
     ghost try_from_gives = { λ z r. OkIff r (pos 0 ≤ℤ z) (unsigned_abs z) };
 
     fn try_from(number: Integer) -> Result<u128, OutOfRange> {
-        u128::try_from(number.number).map_err(|_| OutOfRange)
+        u128::try_from(number.number).or(Err(OutOfRange))
     }
 }
 
@@ -235,7 +235,7 @@ impl TryFrom<Integer> for i8 {
     ghost try_from_gives = { λ z r. OkIff r (FitsSigned w8 z) z };
 
     fn try_from(number: Integer) -> Result<i8, OutOfRange> {
-        i8::try_from(number.number).map_err(|_| OutOfRange)
+        i8::try_from(number.number).or(Err(OutOfRange))
     }
 }
 
@@ -246,7 +246,7 @@ impl TryFrom<Integer> for i16 {
     ghost try_from_gives = { λ z r. OkIff r (FitsSigned w16 z) z };
 
     fn try_from(number: Integer) -> Result<i16, OutOfRange> {
-        i16::try_from(number.number).map_err(|_| OutOfRange)
+        i16::try_from(number.number).or(Err(OutOfRange))
     }
 }
 
@@ -257,7 +257,7 @@ impl TryFrom<Integer> for i32 {
     ghost try_from_gives = { λ z r. OkIff r (FitsSigned w32 z) z };
 
     fn try_from(number: Integer) -> Result<i32, OutOfRange> {
-        i32::try_from(number.number).map_err(|_| OutOfRange)
+        i32::try_from(number.number).or(Err(OutOfRange))
     }
 }
 
@@ -268,7 +268,7 @@ impl TryFrom<Integer> for i64 {
     ghost try_from_gives = { λ z r. OkIff r (FitsSigned w64 z) z };
 
     fn try_from(number: Integer) -> Result<i64, OutOfRange> {
-        i64::try_from(number.number).map_err(|_| OutOfRange)
+        i64::try_from(number.number).or(Err(OutOfRange))
     }
 }
 
@@ -279,6 +279,6 @@ impl TryFrom<Integer> for isize {
     ghost try_from_gives = { λ z r. OkIff r (FitsSigned w64 z) z };
 
     fn try_from(number: Integer) -> Result<isize, OutOfRange> {
-        isize::try_from(number.number).map_err(|_| OutOfRange)
+        isize::try_from(number.number).or(Err(OutOfRange))
     }
 }

@@ -3,13 +3,13 @@ use Rattle.std.proofs.Common.{◌≡◌, ℕ, Bool, true, false, if◌then◌els
 use Rattle.ciborium_ll.specs.Item.{Item}
 use Rattle.ciborium_value.specs.{Ahead.{Ahead, Rest, Span, item, after, pairs, entry, inside, end_of}, Nesting.Limit}
 use Rattle.ciborium_value.specs.Sources.{Fault, IsFaultOf, TakesAhead, RefusesAhead, GoesOn, Leaves, RefusesNext}
-use Rattle.ciborium_value.specs.{StructReadings.{FieldsGiven, take_fields, take_named}, Labels.{Label, label_kind}}
+use Rattle.ciborium_value.specs.{StructReadings.{FieldsGiven, take_fields, take_named}, Labels.{Label, label_type}}
 use Rattle.ciborium_value.specs.{Labels.{label_place, placed, given_label}, Given.{Outcome, gives, nests, outcome}}
 use Rattle.ciborium_value.specs.Given.{outcome_map, refuses, given_integer, given_name, given_skip, then_read}
-use Rattle.ciborium_value.specs.{Given.then_take, declared.labels.LabelKind.LabelKind}
+use Rattle.ciborium_value.specs.{Given.then_take, declared.labels.LabelType.LabelType}
 use Rattle.ciborium_value.specs.declared.wanted.FieldPlace.TheVariants.{First, Behind}
 use Rattle.ciborium_value.proofs.Sources.Sequences.{fault_then, fault_outside, Follows, so, IsBlamed, IsPast}
-use Rattle.ciborium_value.specs.declared.labels.LabelKind.TheVariants as kind
+use Rattle.ciborium_value.specs.declared.labels.LabelType.TheVariants as kind
 
 -- ---- a label by its place
 
@@ -22,9 +22,9 @@ map-twice f g nests = refl
 -- the place of a key is that of its label
 label-placed : {P : Type 0} (place : Label → P) (l : Limit) (i : Item) →
     outcome l (label_place place i) ≡ outcome_map place (outcome l (given_label i))
-label-placed place l i = by (label_kind i)
+label-placed place l i = by (label_type i)
   where
-    by : (k : LabelKind) → outcome l (placed place k i) ≡ outcome_map place (outcome l (placed (λ x. x) k i))
+    by : (k : LabelType) → outcome l (placed place k i) ≡ outcome_map place (outcome l (placed (λ x. x) k i))
     by kind.Name = map-twice _ place (outcome l (given_name i))
     by kind.Number = map-twice _ place (outcome l (given_integer i))
     by kind.Other = map-twice _ place (outcome l (given_skip i))

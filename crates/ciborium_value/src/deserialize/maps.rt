@@ -8,8 +8,8 @@ ghost use Rattle.ciborium_value.specs.Sources.{TakesOneItem};
 ghost use Rattle.ciborium_value.specs.GivenParts.{has_key, given_map};
 
 use super::{Deserialize, Key};
-use ciborium_ll::Kind;
 use crate::source::Source;
+use ciborium_ll::Kind;
 use std::alloc::Global;
 use std::collections::BTreeMap;
 

@@ -6,8 +6,8 @@ ghost use Rattle.ciborium_value.specs.Readings.{IsBounded, below, bounded};
 ghost use Rattle.ciborium_value.specs.Sources.{IsGrantedFault, TakesOneItem};
 
 use super::{Deserialize, Key};
-use ciborium_ll::Kind;
 use crate::source::Source;
+use ciborium_ll::Kind;
 use std::alloc::Global;
 
 // A number from 0 to the greatest.

@@ -10,9 +10,9 @@ ghost use Rattle.ciborium_value.specs.View.{tree_of};
 
 use crate::bignum::{FoldError, find_folding, fold};
 use crate::error::Error;
-use ciborium_ll::Kind;
 use crate::stack::{NewFrame, Stack};
 use crate::tree::Value;
+use ciborium_ll::Kind;
 use std::alloc::{AllocError, Global};
 
 // What is still to be copied of a value that is unfinished.

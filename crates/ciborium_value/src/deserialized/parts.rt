@@ -4,7 +4,7 @@ ghost use Rattle.std.specs.Prelude.{◌≡◌, ◌+◌, ◌<◌, ◌≤◌, IfEr
 ghost use Rattle.std.specs.Prelude.{Err, None, Ok, chars, false, map, string_bytes};
 ghost use Rattle.ciborium_value.specs.Counts.{tree_pairs_node_count, tree_pairs_payload_size};
 ghost use Rattle.ciborium_value.specs.Encoding.{pairs_of};
-ghost use Rattle.ciborium_value.specs.Labels.{label_kind, label_place};
+ghost use Rattle.ciborium_value.specs.Labels.{label_type, label_place};
 ghost use Rattle.ciborium_value.specs.Sources.{IsGrantedFault};
 ghost use Rattle.ciborium_value.specs.Given as given;
 ghost use Rattle.ciborium_value.specs.Given.{bignum_of, gives, outcome, outcome_map, refuses};
@@ -18,9 +18,9 @@ ghost use Rattle.ciborium_ll.specs.declared.kind.Kind.TheVariants as kinds;
 
 use crate::bignum::find_magnitude;
 use crate::error::Error;
-use ciborium_ll::Kind;
-use crate::labels::{LabelKind, Labels};
+use crate::labels::{LabelType, Labels};
 use crate::tree::Value;
+use ciborium_ll::Kind;
 use ciborium_ll::tag::{BIGNEG, BIGPOS};
 use std::alloc::Global;
 
@@ -79,20 +79,20 @@ pub(super) fn find_number(value: &Value) -> Result<(bool, u128), Error>
 }
 
 // How a value is read as a label.
-fn find_label_kind(value: &Value) -> LabelKind
-    ensures { result ≡ label_kind (value_item value.now) }
+fn find_label_type(value: &Value) -> LabelType
+    ensures { result ≡ label_type (value_item value.now) }
 {
     match value {
-        Value::Integer(_) => LabelKind::Number,
-        Value::Bytes(_) | Value::Text(_) => LabelKind::Name,
+        Value::Integer(_) => LabelType::Number,
+        Value::Bytes(_) | Value::Text(_) => LabelType::Name,
         Value::Tag(tag, _) => {
             if *tag == BIGPOS || *tag == BIGNEG {
-                LabelKind::Number
+                LabelType::Number
             } else {
-                LabelKind::Name
+                LabelType::Name
             }
         }
-        _ => LabelKind::Other,
+        _ => LabelType::Other,
     }
 }
 
@@ -103,13 +103,13 @@ pub(super) fn find_place<N: Labels>(value: &Value, labels: &N) -> Result<N::Plac
     ensures refused { IfErr result (λ e. IsErrorOf e
         (outcome None (label_place (N.place_of labels.now) (value_item value.now)))) }
 {
-    match find_label_kind(value) {
-        LabelKind::Name => Ok(labels.find_name(find_name(value)?)),
-        LabelKind::Number => {
+    match find_label_type(value) {
+        LabelType::Name => Ok(labels.find_name(find_name(value)?)),
+        LabelType::Number => {
             let (negative, n) = find_number(value)?;
             Ok(labels.find_number(negative, n))
         }
-        LabelKind::Other => Ok(labels.find_other()),
+        LabelType::Other => Ok(labels.find_other()),
     }
 }
 

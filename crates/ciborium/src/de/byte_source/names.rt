@@ -7,9 +7,9 @@ ghost use Rattle.ciborium_ll.specs.StringRefusal.{StringType};
 ghost use Rattle.ciborium_value.specs.Sources.{TakesOnly};
 ghost use Rattle.ciborium_value.specs.Labels.{name_place, placed};
 ghost use Rattle.ciborium_value.specs.Given.{given_name};
-ghost use Rattle.ciborium_value.specs.declared.labels.LabelKind.TheVariants.{Name};
+ghost use Rattle.ciborium_value.specs.declared.labels.LabelType.TheVariants.{Name};
 ghost use Rattle.ciborium.specs.inner.ByteSources.{AnswersItem, HasTaken, IsUnread, PassesItem};
-ghost use Rattle.ciborium.specs.inner.ByteSources.{bytes_weight, end_at, fault_at, head_label_kind};
+ghost use Rattle.ciborium.specs.inner.ByteSources.{bytes_weight, end_at, fault_at, head_label_type};
 ghost use Rattle.ciborium.specs.inner.ByteSources.{weight_left};
 ghost use Rattle.ciborium.specs.inner.StringContents.{DeniesContent, TakesPlace};
 
@@ -17,7 +17,7 @@ use crate::de::byte_source::ByteSource;
 use crate::de::error::{BareReadError, Error};
 use ciborium_ll::tag::{BIGNEG, BIGPOS};
 use ciborium_ll::{Access, Header, Visitor};
-use ciborium_value::{Kind, LabelKind, Labels};
+use ciborium_value::{Kind, LabelType, Labels};
 use std::alloc::Global;
 use std::str;
 
@@ -42,20 +42,20 @@ fn short_len(len: Option<usize>) -> Option<usize>
 
 /// How the item that this head begins is read as a label.
 #[inline(always)]
-pub(crate) fn label_kind(header: Header) -> LabelKind
-    ensures { result ≡ head_label_kind header }
+pub(crate) fn label_type(header: Header) -> LabelType
+    ensures { result ≡ head_label_type header }
 {
     match header {
-        Header::Positive(_) | Header::Negative(_) => LabelKind::Number,
-        Header::Bytes(_) | Header::Text(_) => LabelKind::Name,
+        Header::Positive(_) | Header::Negative(_) => LabelType::Number,
+        Header::Bytes(_) | Header::Text(_) => LabelType::Name,
         Header::Tag(tag) => {
             if tag == BIGPOS || tag == BIGNEG {
-                LabelKind::Number
+                LabelType::Number
             } else {
-                LabelKind::Name
+                LabelType::Name
             }
         }
-        _ => LabelKind::Other,
+        _ => LabelType::Other,
     }
 }
 
@@ -234,7 +234,7 @@ impl<'a, R, A: Access<R>> ByteSource<'a, R, A> {
     pub(crate) fn place_of_kind<N: Labels>(
         &mut self,
         alloc: Global,
-        kind: LabelKind,
+        kind: LabelType,
         labels: &N,
     ) -> Result<N::Place, BareReadError>
         ensures keeps { PassesItem A.remaining self.old self.new result }
@@ -242,15 +242,15 @@ impl<'a, R, A: Access<R>> ByteSource<'a, R, A> {
             (placed (N.place_of labels.now) kind) (λ v. v) result }
     {
         match kind {
-            LabelKind::Name => {
+            LabelType::Name => {
                 let place = self.named_place(alloc, labels)?;
                 Ok(place)
             }
-            LabelKind::Number => {
+            LabelType::Number => {
                 let ((negative, n), _) = self.read_integer()?;
                 Ok(labels.find_number(negative, n))
             }
-            LabelKind::Other => {
+            LabelType::Other => {
                 self.skip(alloc)?;
                 Ok(labels.find_other())
             }

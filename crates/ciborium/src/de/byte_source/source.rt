@@ -8,7 +8,7 @@ ghost use Rattle.ciborium.specs.inner.ByteSources.{offset_of_next, seq_left, wei
 use crate::de::building::read_value;
 use crate::de::byte_source::characters::{GREATEST_CHARACTER_SIZE, only_character};
 use crate::de::byte_source::levels::is_one;
-use crate::de::byte_source::names::label_kind;
+use crate::de::byte_source::names::label_type;
 use crate::de::byte_source::scalars::{is_null, is_null_head, portable_value};
 use crate::de::byte_source::{ByteLevel, ByteSeq, ByteSource, Left};
 use crate::de::error::{BareReadError, Error};
@@ -152,7 +152,7 @@ impl<'a, R, A: Access<R>> Source for ByteSource<'a, R, A> {
             Header::Negative(n) => Ok(labels.find_number(true, u128::from(n))),
             _ => {
                 self.pending = Some((header, offset));
-                let place = self.place_of_kind(alloc, label_kind(header), labels)?;
+                let place = self.place_of_kind(alloc, label_type(header), labels)?;
                 Ok(place)
             }
         }

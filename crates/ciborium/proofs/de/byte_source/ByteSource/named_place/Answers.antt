@@ -3,7 +3,7 @@ use Rattle.std.specs.Str.{IsUtf8}
 use Rattle.ciborium_ll.specs.StringRefusal.{StringType}
 use Rattle.ciborium_value.{proofs.Sources.Sequences.fault_map, specs.Given.{bare_name, gives, outcome_map, given_name}}
 use Rattle.ciborium_value.specs.{Given.{outcome, settled}, Labels.{name_place, placed}, Places.is_open, Sources.of_kind}
-use Rattle.ciborium_value.specs.declared.labels.LabelKind.TheVariants.{Name}
+use Rattle.ciborium_value.specs.declared.labels.LabelType.TheVariants.{Name}
 use Rattle.ciborium.proofs.Containers.NamedVariants.{bytes-name, bytes-no-name, name-other}
 use Rattle.ciborium.proofs.Items.BareHeads.{head-denied, other-denied, string-denied, string-read}
 use Rattle.ciborium.{proofs.Items.SkippedTags.untagged-under, specs.inner.ByteSources.{IsUnread, end_at, fault_at}}

@@ -108,7 +108,7 @@ returns-in_ok-place-in_default g c =
           (rest.levels ∙ head.levels) rest.pending (omega (arith, head.fewer, rest.fewer))
           (key-of-kind g.A.Access.remaining old place mid h head.head p head.pending head.counted head.levels new found
           (subst (λ k. Reads (IsUnread g.A.Access.remaining) (record mid { pending = Some (h, p) }) new
-          (Some mid.levels) (placed place k) found) c.label_kind.ensures c.in_ok-place-in_default.ensures.answer));
+          (Some mid.levels) (placed place k) found) c.label_type.ensures c.in_ok-place-in_default.ensures.answer));
     }
 
 pub returns-in_err-place-in_default : goal.returns-in_err-place-in_default
@@ -131,6 +131,6 @@ returns-in_err-place-in_default g c =
           (no-key-of-kind g.A.Access.remaining old place mid h head.head p head.pending head.counted head.levels
           head.only fault
           (subst (λ k. Denies (IsUnread g.A.Access.remaining) (end_at g.A.Access.remaining)
-          (record mid { pending = Some (h, p) }) (Some mid.levels) (placed place k) fault) c.label_kind.ensures
+          (record mid { pending = Some (h, p) }) (Some mid.levels) (placed place k) fault) c.label_type.ensures
           c.in_err-place-in_default.ensures.answer));
     })
