@@ -3,9 +3,9 @@ use Rattle.std.proofs.Common.{◌≡◌, ◌≢◌, ℕ, suc, ◌+◌, ◌-◌, 
 use Rattle.std.proofs.Common.{Some, None, option_map, if◌then◌else◌, refl, sym, ap, ◌∙◌, subst, arith, inl, inr}
 use Rattle.std.proofs.lemmas.Bool.Decides.{eqb_tells}
 use Rattle.ciborium_ll.specs.{ItemHeads.{HasRead, IsHeadRead, levels_of}, Levels.{behind_break, behind_bytes}}
-use Rattle.ciborium_ll.specs.{Levels.{behind_head, behind_item, behind_text, incomplete}, declared.header.Header.Header}
-use Rattle.ciborium_ll.specs.declared.{item_heads.{ItemHead.ItemHead, ItemHeads.ItemHeads}, levels.Level.Level}
-use Rattle.ciborium_ll.specs.{StringRefusal.StringType, Strings.string_header}
+use Rattle.ciborium_ll.specs.{Levels.{behind_head, behind_item, behind_text, incomplete}, Strings.string_header}
+use Rattle.ciborium_ll.specs.declared.{header.Header.Header, item_heads.{ItemHead.ItemHead, ItemHeads.ItemHeads}}
+use Rattle.ciborium_ll.specs.declared.{levels.Level.Level, strings.StringType.StringType}
 use Rattle.cbor.specs.Exact.{IsBegun, behind_begun, chunk_level, open_level}
 use Rattle.ciborium_ll.specs.declared.header.Header.TheVariants as header
 use Rattle.ciborium_ll.specs.declared.levels.Level.TheVariants as level

@@ -6,7 +6,8 @@ use Rattle.std.proofs.lemmas.{Bool.{eqb-true, Decides.eqb_tells}, List.append_ca
 use Rattle.hex.specs.Hex.{encode_lower}
 use Rattle.ciborium_ll.specs.{Head.{IsFloat, IsHead, break_byte, open_byte}, Header.{IsFloatOf, SpellsHeader}}
 use Rattle.ciborium_ll.specs.{ItemHeads.{HasRead, IsHeadRead, levels_of, unread, was_read}, Levels.{AreItem, EndAll}}
-use Rattle.ciborium_ll.specs.{Levels.IsPayloadOf, StringRefusal.{StringType, IsAllowed, string_major}}
+use Rattle.ciborium_ll.specs.{Levels.IsPayloadOf, StringRefusal.{IsAllowed, string_major}}
+use Rattle.ciborium_ll.specs.declared.strings.StringType.{StringType}
 use Rattle.ciborium_ll.specs.{Strings.string_header, declared.item_heads.{ItemHead.ItemHead, ItemHeads.ItemHeads}}
 use Rattle.cbor.{proofs.DumpedHeads.less-unread, specs.Exact.{AreChunksExactly, AreExactly, AreOpenChunks}}
 use Rattle.cbor.specs.Exact.{AreOpenParts, HasPassed, IsExactly, IsItemPushed, IsPushed, IsStringExactly, empty_text}

@@ -6,7 +6,8 @@ use Rattle.std.specs.{Prelude.{length, if◌then◌else◌, nat_lt, MatchResult,
 use Rattle.hex.specs.Hex.{decode_of, encode_lower}
 use Rattle.ciborium_ll.specs.{Head.{IsFloat, IsHead, IsSimple, break_byte, open_byte}, ItemHeads.{HasRead, levels_of}}
 use Rattle.ciborium_ll.specs.{ItemHeads.unread, ItemLengths.IsNoItem, Levels.{AreItem, incomplete}}
-use Rattle.ciborium_ll.specs.{StringRefusal.{StringType, IsAllowed, string_major}, declared.header.Header.Header}
+use Rattle.ciborium_ll.specs.{StringRefusal.{IsAllowed, string_major}, declared.header.Header.Header}
+use Rattle.ciborium_ll.specs.declared.strings.StringType.{StringType}
 use Rattle.ciborium_ll.specs.declared.{item_heads.{ItemHead.ItemHead, ItemHeads.ItemHeads}, levels.Level.Level}
 use Rattle.ciborium_value.specs.Notation.{quoted}
 use Rattle.cbor.specs.{declared.exact.Unshown.Unshown, declared.exact.Unshown.TheVariants.{NoItem, Memory}}

@@ -7,9 +7,9 @@ use Rattle.ciborium_ll.{proofs.OneHeader.one_header_at_front, specs.{Head.{IsHea
 use Rattle.ciborium_ll.specs.Item.{Item, unsigned, negative, bytes, text, array, map, tag, simple, float, items_count}
 use Rattle.ciborium_ll.specs.{Item.pairs_count, Levels.{EndAll, IsPayloadOf, AreLeftBehind, AreItem, entered}}
 use Rattle.ciborium_ll.specs.Levels.{behind_item, behind_bytes, behind_text, behind_break, behind_head, incomplete}
-use Rattle.ciborium_ll.specs.{Spells.Spells, StringRefusal.{StringType, IsAllowed, string_major}}
-use Rattle.ciborium_ll.specs.declared.{header.Header.Header, levels.Level.{Level, TheVariants.{Items, OpenItems}}}
-use Rattle.ciborium_ll.specs.declared.levels.Level.TheVariants.{OpenKeys, OpenValues, ByteChunks, TextChunks}
+use Rattle.ciborium_ll.specs.{Spells.Spells, StringRefusal.{IsAllowed, string_major}, declared.header.Header.Header}
+use Rattle.ciborium_ll.specs.declared.levels.Level.{Level, TheVariants.{Items, OpenItems, OpenKeys, OpenValues}}
+use Rattle.ciborium_ll.specs.declared.{levels.Level.TheVariants.{ByteChunks, TextChunks}, strings.StringType.StringType}
 use Rattle.ciborium_ll.specs.declared.header.Header.TheVariants as heads
 
 -- ---- levels of which something is still to come

@@ -1,14 +1,14 @@
 -- What ends the levels behind a head, with the head and its payload before it, ends the levels where it stands.
 use Rattle.std.proofs.Common.{◌≡◌, ℕ, suc, ◌+◌, List, [], ◌∷◌, ◌++◌, length, Option, Some, None, true, false, refl, sym}
 use Rattle.std.proofs.Common.{ap, ◌∙◌, subst, append_assoc, option_map}
-use Rattle.ciborium_ll.specs.{declared.header.Header.Header, declared.levels.Level.Level}
-use Rattle.ciborium_ll.specs.declared.levels.Level.TheVariants.{Items, OpenItems, OpenKeys, ByteChunks, TextChunks}
-use Rattle.ciborium_ll.specs.{Head.{IsHead, open_byte}, Header.SpellsHeader, Item.{Item, unsigned, negative, bytes}}
-use Rattle.ciborium_ll.specs.{Item.{text, array, map, tag, simple, float}, Levels.{IsPayloadOf, entered, behind_item}}
-use Rattle.ciborium_ll.specs.{Levels.{behind_bytes, behind_text, behind_break, behind_head}, Spells.{Spells, joined}}
-use Rattle.ciborium_ll.specs.StringRefusal.{StringType, IsAllowed, string_major}
 use Rattle.ciborium_ll.proofs.LevelsTo.{Standing, IsFlat, ItemTo, ItemsTo, LevelTo, LevelsTo, ChunksTo, around}
-use Rattle.ciborium_ll.proofs.LevelsTo.{behind-around, item-to, to-items, to-pairs}
+use Rattle.ciborium_ll.{proofs.LevelsTo.{behind-around, item-to, to-items, to-pairs}, specs.Head.{IsHead, open_byte}}
+use Rattle.ciborium_ll.specs.{Header.SpellsHeader, Item.{Item, unsigned, negative, bytes, text, array, map, tag}}
+use Rattle.ciborium_ll.specs.{Item.{simple, float}, Levels.{IsPayloadOf, entered, behind_item, behind_bytes}}
+use Rattle.ciborium_ll.specs.{Levels.{behind_text, behind_break, behind_head}, Spells.{Spells, joined}}
+use Rattle.ciborium_ll.specs.{StringRefusal.{IsAllowed, string_major}, declared.header.Header.Header}
+use Rattle.ciborium_ll.specs.declared.levels.Level.{Level, TheVariants.{Items, OpenItems, OpenKeys, ByteChunks}}
+use Rattle.ciborium_ll.specs.declared.{levels.Level.TheVariants.TextChunks, strings.StringType.StringType}
 use Rattle.ciborium_ll.specs.declared.header.Header.TheVariants as heads
 
 -- a head that takes a level: that of an array, of a map or of a tag

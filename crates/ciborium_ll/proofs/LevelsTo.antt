@@ -1,11 +1,11 @@
 -- Bytes at whose front stands what ends levels, of items that may stand there.
 use Rattle.std.proofs.Common.{◌≡◌, ℕ, zero, suc, ◌+◌, ◌≤◌, Bool, List, [], ◌∷◌, ◌++◌, length, Some, refl, sym, ap, ◌∙◌}
 use Rattle.std.proofs.Common.{subst, arith, append_assoc, length-append, ◌↔◌}
-use Rattle.ciborium_ll.specs.{declared.levels.Level.Level, declared.levels.Level.TheVariants.{Items, OpenItems}}
-use Rattle.ciborium_ll.specs.declared.levels.Level.TheVariants.{OpenKeys, OpenValues, ByteChunks, TextChunks}
 use Rattle.ciborium_ll.specs.Item.{Item, array, map, tag, no_items, item, no_pairs, pair, items_count, pairs_count}
 use Rattle.ciborium_ll.specs.{Levels.{behind_item, incomplete}, Spells.{AreChunks, Spells, SpellsItems, SpellsPairs}}
-use Rattle.ciborium_ll.specs.StringRefusal.{StringType, IsAllowed, string_major}
+use Rattle.ciborium_ll.specs.{StringRefusal.{IsAllowed, string_major}, declared.levels.Level.{Level, TheVariants.Items}}
+use Rattle.ciborium_ll.specs.declared.levels.Level.TheVariants.{OpenItems, OpenKeys, OpenValues, ByteChunks, TextChunks}
+use Rattle.ciborium_ll.specs.declared.strings.StringType.{StringType}
 use Rattle.ciborium_ll.specs.Item as items
 
 -- no array, no map and no tag

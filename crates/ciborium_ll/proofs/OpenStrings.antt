@@ -5,10 +5,10 @@ use Rattle.std.proofs.KnownBytes.{Consumes-nil}
 use Rattle.ciborium_ll.proofs.{Advancing.Advances-then, HeadAnswers.header-fits, UsableHeads.usable-fits}
 use Rattle.ciborium_ll.specs.{Bytes.greatest_offset, Head.{IsHead, break_byte}, Header.{SpellsHeader, announced_length}}
 use Rattle.ciborium_ll.specs.{ReaderSteps.{Advances, IsHeadTaken}, Spells.{IsDefiniteString, AreChunks, joined}}
-use Rattle.ciborium_ll.specs.StringRefusal.{StringType, string_major, IsAllowed}
-use Rattle.ciborium_ll.specs.Strings.{string_header, IsChunk, IsPayloadTaken, IsChunkTaken, AreChunksTaken}
-use Rattle.ciborium_ll.specs.declared.header.{Error.{Error, TheVariants.{Syntax, TooLong}}, Header.Header}
-use Rattle.ciborium_ll.specs.declared.strings.Chunk.TheVariants.{Other}
+use Rattle.ciborium_ll.specs.{StringRefusal.{string_major, IsAllowed}, Strings.{string_header, IsChunk, IsPayloadTaken}}
+use Rattle.ciborium_ll.specs.{Strings.{IsChunkTaken, AreChunksTaken}, declared.header.Error.{Error, TheVariants.Syntax}}
+use Rattle.ciborium_ll.specs.declared.header.{Error.TheVariants.TooLong, Header.Header}
+use Rattle.ciborium_ll.specs.declared.strings.{Chunk.TheVariants.Other, StringType.StringType}
 use Rattle.ciborium_ll.specs.declared.header.Header.TheVariants as header
 
 -- ---- one part more at the end

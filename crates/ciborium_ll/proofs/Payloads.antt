@@ -3,9 +3,9 @@ use Rattle.std.proofs.Common.{◌≡◌, ℕ, ◌+◌, ◌-◌, List, [], ◌++�
 use Rattle.std.proofs.{Common.{refl, sym, ap, ◌∙◌, arith, append_assoc, length-append}, Math.Seq.take-append_seam}
 use Rattle.std.proofs.{Math.Seq.drop-append_seam, lemmas.List.take_all}
 use Rattle.ciborium_ll.{proofs.Advancing.{Advances-map, Advances-then}, specs.ReaderSteps.Advances}
-use Rattle.ciborium_ll.specs.{StringRefusal.{StringType, IsAllowed}, Strings.{Extends, Grows, IsPayloadTaken}}
-use Rattle.ciborium_ll.specs.{Strings.{IsPiecesTaken, IsSomeTaken}, declared.header.Error.{Error, TheVariants.Io}}
-use Rattle.ciborium_ll.specs.declared.header.Error.TheVariants.{Syntax, TooLong, Memory}
+use Rattle.ciborium_ll.specs.{StringRefusal.IsAllowed, Strings.{Extends, Grows, IsPayloadTaken, IsPiecesTaken}}
+use Rattle.ciborium_ll.specs.{Strings.IsSomeTaken, declared.header.Error.{Error, TheVariants.{Io, Syntax, TooLong}}}
+use Rattle.ciborium_ll.specs.declared.{header.Error.TheVariants.Memory, strings.StringType.StringType}
 
 -- ---- piece after piece
 

@@ -2,12 +2,12 @@
 -- call and for its twin that keeps the reader's error.
 use Rattle.std.specs.Prelude.{◌≡◌, ℕ, ◌+◌, ◌<◌, ◌≤◌, Bool, List, [], length, Option, Some, None, IfErr, IfNone, IfSome}
 use Rattle.std.specs.Prelude.{Result, Ok, Err}
-use Rattle.ciborium_ll.specs.{declared.header.Header.Header, declared.header.Error.Error}
-use Rattle.ciborium_ll.specs.{declared.header.Error.TheVariants.{Io, Syntax, TooLong, Memory}, Bytes.greatest_offset}
-use Rattle.ciborium_ll.specs.{declared.decoder.Decoder.Decoder, Decoding.{HasEndedFor, HasSameReader, IsAhead}}
-use Rattle.ciborium_ll.specs.Decoding.{ReadsNothing, MeasuresHead, Pulls, Takes, count_of, head_len_of, last_of}
-use Rattle.ciborium_ll.specs.{Decoding.{left_of, pushed_of}, ReaderSteps.{IsFillTaken, IsHeadTaken, IsRefusalOf}}
-use Rattle.ciborium_ll.specs.{StringRefusal.{StringType, ContentRefuses}, Strings.{Grows, IsStringTaken}}
+use Rattle.ciborium_ll.specs.{Bytes.greatest_offset, Decoding.{HasEndedFor, HasSameReader, IsAhead, ReadsNothing}}
+use Rattle.ciborium_ll.specs.Decoding.{MeasuresHead, Pulls, Takes, count_of, head_len_of, last_of, left_of, pushed_of}
+use Rattle.ciborium_ll.specs.{ReaderSteps.{IsFillTaken, IsHeadTaken, IsRefusalOf}, StringRefusal.ContentRefuses}
+use Rattle.ciborium_ll.specs.{Strings.{Grows, IsStringTaken}, declared.{decoder.Decoder.Decoder, header.Error.Error}}
+use Rattle.ciborium_ll.specs.declared.header.{Error.TheVariants.{Io, Syntax, TooLong, Memory}, Header.Header}
+use Rattle.ciborium_ll.specs.declared.strings.StringType.{StringType}
 
 -- a head was pulled, or refused
 pub record HasPulled {S W E : Type 0} (can_fail : Bool) (remaining : S → Option (List ℕ))

@@ -1,11 +1,11 @@
 -- What is still to come of an item that is read head by head, and how each head changes it (RFC
 -- 8949, sections 3.2 and 5.3.1, and appendix C).
 use Rattle.std.specs.Prelude.{◌≡◌, ℕ, zero, suc, ◌+◌, List, [], ◌∷◌, ◌++◌, length, Option, Some, None, option_map}
-use Rattle.ciborium_ll.specs.{declared.header.Header.Header, declared.levels.Level.Level}
-use Rattle.ciborium_ll.specs.declared.levels.Level.TheVariants.{Items, OpenItems, OpenKeys, OpenValues, ByteChunks}
-use Rattle.ciborium_ll.specs.{declared.levels.Level.TheVariants.TextChunks, declared.levels.Step.Step, Head.break_byte}
-use Rattle.ciborium_ll.specs.{Item.{Item, items_count}, Spells.{AreChunks, Spells, SpellsItems, SpellsPairs}}
-use Rattle.ciborium_ll.specs.StringRefusal.{StringType, IsAllowed, string_major}
+use Rattle.ciborium_ll.specs.{Head.break_byte, Item.{Item, items_count}, Spells.{AreChunks, Spells, SpellsItems}}
+use Rattle.ciborium_ll.specs.{Spells.SpellsPairs, StringRefusal.{IsAllowed, string_major}}
+use Rattle.ciborium_ll.specs.declared.{header.Header.Header, levels.Level.{Level, TheVariants.{Items, OpenItems}}}
+use Rattle.ciborium_ll.specs.declared.levels.Level.TheVariants.{OpenKeys, OpenValues, ByteChunks, TextChunks}
+use Rattle.ciborium_ll.specs.declared.{levels.Step.Step, strings.StringType.StringType}
 use Rattle.ciborium_ll.specs.declared.header.Header.TheVariants as header
 use Rattle.ciborium_ll.specs.declared.levels.Step.TheVariants as step
 use Rattle.ciborium_ll.specs.Item as item

@@ -3,10 +3,7 @@
 use Rattle.std.specs.Prelude.{◌≡◌, ℕ, ◌+◌, ◌/◌, ◌%◌, List, [], ◌∷◌, ◌++◌, length, Bool, false, if◌then◌else◌, ◌==◌}
 use Rattle.std.specs.{Prelude.{◌&&◌, ◌||◌, nat_lt, nat_le, slice_index, take, Option, Some, None}, Int.from_be_bytes}
 use Rattle.std.specs.Int.{w16, w32, w64}
-use Rattle.ciborium_ll.specs.{Bytes.greatest_offset, Head.IsHead}
-pub use Rattle.ciborium_ll.specs.declared.kind.Kind.{Kind}
-pub use Rattle.ciborium_ll.specs.declared.kind.Kind.TheVariants.{Float, Simple, Break, TooLarge, NotShortest, Open}
-pub use Rattle.ciborium_ll.specs.declared.kind.Kind.TheVariants.{NotFolded, KeyOrder}
+use Rattle.ciborium_ll.specs.{Bytes.greatest_offset, Head.IsHead, declared.kind.Kind.Kind}
 
 -- what reading answers in place of a value; numbers are offsets
 pub data Refusal : Type 0 where

@@ -1,7 +1,7 @@
 -- When a string is refused whose head is usable (RFC 8949, sections 3.1 and 3.2.3).
 use Rattle.std.specs.Prelude.{◌≡◌, ℕ, ◌+◌, ◌<◌, ◌≤◌, ◌⊎◌, List, ◌∷◌, ◌++◌, length, Option, Some, None, IsUtf8}
 use Rattle.ciborium_ll.specs.{Bytes.{AreBytes, greatest_offset}, Head.{open_byte, break_byte}, Spells.AreChunks}
-pub use Rattle.ciborium_ll.specs.declared.strings.StringType.{StringType}
+use Rattle.ciborium_ll.specs.declared.strings.StringType.{StringType}
 use Rattle.ciborium_ll.specs.Refusal.{Refusal, io, syntax, too_long, HeadRefuses, IsUsable, HasHead, IsAtFront}
 
 -- the major type of a string

@@ -3,9 +3,9 @@
 use Rattle.std.specs.Prelude.{◌≡◌, ◌≢◌, ℕ, ◌+◌, ◌<◌, ◌≤◌, ◌⊎◌, List, [], ◌∷◌, ◌++◌, length, Option, Some, None, Result}
 use Rattle.std.specs.Prelude.{Ok, Err}
 use Rattle.ciborium_ll.specs.{Bytes.greatest_offset, Head.break_byte, ReaderSteps.IsHeadTaken, Spells.AreChunks}
-use Rattle.ciborium_ll.specs.{Spells.joined, StringRefusal.{StringType, string_major, IsAllowed}}
-use Rattle.ciborium_ll.specs.declared.header.{Error.{Error, TheVariants.{Io, Syntax, TooLong, Memory}}, Header.Header}
-use Rattle.ciborium_ll.specs.declared.strings.Chunk.{Chunk, TheVariants.{End, Definite, Other}}
+use Rattle.ciborium_ll.specs.{Spells.joined, StringRefusal.{string_major, IsAllowed}, declared.header.Error.Error}
+use Rattle.ciborium_ll.specs.declared.header.{Error.TheVariants.{Io, Syntax, TooLong, Memory}, Header.Header}
+use Rattle.ciborium_ll.specs.declared.strings.{Chunk.{Chunk, TheVariants.{End, Definite, Other}}, StringType.StringType}
 use Rattle.ciborium_ll.specs.declared.header.Header.TheVariants as header
 
 -- the head of a definite string of a kind

@@ -61,7 +61,7 @@ impl<'a, R, A: Access<R>> Decoder<'a, R, A> {
     ghost use Rattle.ciborium_ll.specs.FirstHeads.{IsEndOrFault, IsFirstTaken, MeasuresFirst};
     ghost use Rattle.ciborium_ll.specs.FirstHeads.{PullsFirst};
     ghost use Rattle.ciborium_ll.specs.ReaderSteps.{IsHeadTaken};
-    ghost use Rattle.ciborium_ll.specs.StringRefusal.{StringType};
+    ghost use Rattle.ciborium_ll.specs.declared.strings.StringType.{StringType};
 
     /// A decoder that takes the bytes of its reader as `A` says, whose offsets begin at the given
     /// offset.

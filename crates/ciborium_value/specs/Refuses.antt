@@ -4,10 +4,11 @@
 -- there.
 use Rattle.std.specs.Prelude.{◌≡◌, ℕ, zero, suc, ◌+◌, ◌^◌, ◌<◌, ◌≤◌, List, [], ◌∷◌, ◌++◌, length, true, Option, Some}
 use Rattle.std.specs.Prelude.{None, option_and_then}
-use Rattle.ciborium_ll.specs.{Bytes.greatest_offset, Head.{open_byte, break_byte, IsSimple}, Refusal.Kind}
-use Rattle.ciborium_ll.specs.Refusal.{Float, Simple, Break, TooLarge, NotFolded, Refusal, semantic}
-use Rattle.ciborium_ll.specs.Refusal.{recursion_limit_exceeded, HeadRefuses, KeyOrder, IsUsable, HasHead, IsAtFront}
-use Rattle.ciborium_ll.specs.StringRefusal.{StringType, StringRefuses, OpenStringRefuses}
+use Rattle.ciborium_ll.specs.{Bytes.greatest_offset, Head.{open_byte, break_byte, IsSimple}, Refusal.Refusal}
+use Rattle.ciborium_ll.specs.Refusal.{semantic, recursion_limit_exceeded, HeadRefuses, IsUsable, HasHead, IsAtFront}
+use Rattle.ciborium_ll.specs.{StringRefusal.{StringRefuses, OpenStringRefuses}, declared.kind.Kind.Kind}
+use Rattle.ciborium_ll.specs.declared.kind.Kind.TheVariants.{Float, Simple, Break, TooLarge, NotFolded, KeyOrder}
+use Rattle.ciborium_ll.specs.declared.strings.StringType.{StringType}
 use Rattle.ciborium_value.specs.{Meaning.{simple_meaning, big_endian, is_bignum_tag}, Nesting.{Limit, IsOneLess}}
 use Rattle.ciborium_value.specs.{Spelling.{Spelling, IsReadAs, spelling_fault, IsUnwanted, AreInOrder}, Tree.Tree}
 use Rattle.ciborium_value.specs.Tree.{bytes}

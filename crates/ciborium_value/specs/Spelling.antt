@@ -2,8 +2,8 @@
 -- deterministic one by each order of keys (sections 4.1 and 4.2).
 use Rattle.std.specs.Prelude.{◌≡◌, ℕ, ◌+◌, ◌/◌, ◌%◌, ◌≤◌, ◌⊎◌, List, [], ◌∷◌, length, Bool, if◌then◌else◌, ◌==◌, ◌&&◌}
 use Rattle.std.specs.Prelude.{nat_lt, nat_le, Option, Some, None}
-use Rattle.ciborium_ll.specs.{Bytes.greatest_offset, Head.shortest_head, Item.Item, Refusal.{Kind, NotShortest}}
-use Rattle.ciborium_ll.specs.{Refusal.{Open, argument_length, argument}, Spells.Spells}
+use Rattle.ciborium_ll.specs.{Bytes.greatest_offset, Head.shortest_head, Item.Item, Refusal.{argument_length, argument}}
+use Rattle.ciborium_ll.specs.{Spells.Spells, declared.kind.Kind.{Kind, TheVariants.{NotShortest, Open}}}
 use Rattle.ciborium_value.specs.{Deterministic.{AreRising, HasRisingKeys}, Encoding.encoding, Meaning.meaning}
 use Rattle.ciborium_value.specs.{Nesting.{Limit, IsWithin, nesting}, Tree.Tree, declared.key_order.KeyOrder.KeyOrder}
 

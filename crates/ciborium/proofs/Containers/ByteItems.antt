@@ -2,7 +2,7 @@
 use Rattle.std.proofs.Common.{◌≡◌, ◌≢◌, ℕ, ◌<◌, ◌≤◌, Bool, false, List, [], ◌∷◌, ◌++◌, Option, Some, None, Result}
 use Rattle.std.proofs.Common.{arith, Ok, Err, refl, sym, ap, ◌∙◌, subst, append_assoc, append-nil}
 use Rattle.ciborium_ll.{proofs.UniqueSpelling.one_at_front, specs.{Header.SpellsHeader, Item.Item, Spells.Spells}}
-use Rattle.ciborium_ll.specs.{StringRefusal.StringType, declared.{header.Header.Header, kind.Kind.Kind}}
+use Rattle.ciborium_ll.specs.declared.{header.Header.Header, kind.Kind.Kind, strings.StringType.StringType}
 use Rattle.ciborium.proofs.Containers.EnteredContainers.{HasItems, IsEntered, array-entered, entered-kept, items-stand}
 use Rattle.ciborium.proofs.Containers.{EnteredContainers.within-is, NextParts.{fits-past, none-past}}
 use Rattle.ciborium.proofs.Items.BareHeads.{head-denied, nested-denied, other-denied, string-denied, string-read}

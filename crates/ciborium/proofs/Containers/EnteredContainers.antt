@@ -4,7 +4,7 @@ use Rattle.std.proofs.Common.{Option, Some, None, refl, sym, ap, ◌∙◌, subs
 use Rattle.std.specs.Vec.Iter.{into_iter_items}
 use Rattle.ciborium_ll.{proofs.UniqueSpelling.one_at_front, specs.{Head.{IsHead, break_byte}, Header.SpellsHeader}}
 use Rattle.ciborium_ll.specs.Item.{Item, Items, Pairs, unsigned, negative, bytes, text, array, tag, simple, float}
-use Rattle.ciborium_ll.specs.{Spells.Spells, StringRefusal.StringType, declared.header.Header.Header}
+use Rattle.ciborium_ll.specs.{Spells.Spells, declared.{header.Header.Header, strings.StringType.StringType}}
 use Rattle.ciborium_value.specs.Ahead.{Span, Rest, parts, after, item, inside, of_bytes, pairs, takes_level}
 use Rattle.ciborium_value.specs.Given.{Outcome, Steps, Given, deeper, give, gives, nests, outcome, refuses, untagged}
 use Rattle.ciborium_value.specs.Given.{bare_pairs, bare_seq, given_pairs, given_seq, unpack, unpack_pairs, within_level}

@@ -2,7 +2,8 @@
 use Rattle.std.proofs.Common.{◌≡◌, ◌≤◌, ◌+◌, ◌++◌, ◌∙◌, List, None, Option, Some, append_assoc, ap, false, length, refl}
 use Rattle.std.proofs.Common.{sym, subst, ℕ}
 use Rattle.ciborium_ll.specs.{Header.SpellsHeader, Item.{Item, array, bytes, float, negative, simple, tag, text}}
-use Rattle.ciborium_ll.specs.{Item.unsigned, Spells.Spells, StringRefusal.StringType, declared.header.Header.Header}
+use Rattle.ciborium_ll.specs.{Item.unsigned, Spells.Spells, declared.header.Header.Header}
+use Rattle.ciborium_ll.specs.declared.strings.StringType.{StringType}
 use Rattle.ciborium_value.{proofs.Sources.Sequences.fault_map, specs.Given.{Given, gives, mapped, outcome}}
 use Rattle.ciborium_value.specs.{Labels.{Label, label_type, label_place, name_place, placed}, Nesting.Limit}
 use Rattle.ciborium_value.specs.{Places.is_open, Sources.{Fault, IsFaultOf, TakesOnly}}

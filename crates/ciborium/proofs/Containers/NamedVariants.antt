@@ -4,8 +4,8 @@ use Rattle.std.proofs.Common.{subst, append_assoc, append-nil, arith, inl, lengt
 use Rattle.std.{proofs.lemmas.Str.is_utf8-from_IsUtf8, specs.Str.{is_utf8, IsUtf8}}
 use Rattle.ciborium_ll.{proofs.{OneHeader.one_header_at_front, UniqueSpelling.one_at_front}, specs.Header.SpellsHeader}
 use Rattle.ciborium_ll.specs.Item.{Item, unsigned, negative, bytes, text, array, tag, simple, float, Pairs, no_pairs}
-use Rattle.ciborium_ll.specs.{Item.{pair, pairs_count}, Spells.Spells, StringRefusal.StringType}
-use Rattle.ciborium_ll.specs.declared.{decoder.Decoder.Decoder, header.Header.Header}
+use Rattle.ciborium_ll.specs.{Item.{pair, pairs_count}, Spells.Spells, declared.decoder.Decoder.Decoder}
+use Rattle.ciborium_ll.specs.declared.{header.Header.Header, strings.StringType.StringType}
 use Rattle.ciborium_value.{proofs.Sources.{Sequences.fault_map, TreeLevels.utf8_not}, specs.Given.{gives, refuses}}
 use Rattle.ciborium_value.specs.Given.{nests, deeper, untagged, outcome_map, given_name, bare_name, given_variant}
 use Rattle.ciborium_value.specs.{Given.{bare_variant, outcome, settled}, Nesting.Limit, Places.is_open, Sources.Fault}

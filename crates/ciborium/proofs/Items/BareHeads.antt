@@ -1,6 +1,6 @@
 -- What an exit says behind the next head that is not a tag.
 use Rattle.std.proofs.Common.{Bool, ◌≡◌, ℕ, List, Option, Some, false, ap, subst}
-use Rattle.ciborium_ll.specs.{Item.Item, StringRefusal.StringType, declared.{header.Header.Header, kind.Kind.Kind}}
+use Rattle.ciborium_ll.specs.{Item.Item, declared.{header.Header.Header, kind.Kind.Kind, strings.StringType.StringType}}
 use Rattle.ciborium_value.specs.{Sources.{Fault, TakesOnly, of_kind}, Given.{Given, gives, nests, outcome, refuses}}
 use Rattle.ciborium.specs.{declared.de.byte_source.ByteSource.ByteSource, declared.de.error.Error.Error}
 use Rattle.ciborium.specs.{declared.de.error.Error.TheVariants.RecursionLimitExceeded, inner.ByteSources.HasTaken}

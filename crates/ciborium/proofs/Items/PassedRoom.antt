@@ -1,11 +1,11 @@
 -- Where no level is left, no head stands that takes one, but that of a tag that folds.
 use Rattle.std.proofs.Common.{◌≡◌, ℕ, suc, ◌≤◌, List, [], ◌∷◌, ◌++◌, length, Option, Some, None, true, false, refl, sym}
 use Rattle.std.proofs.Common.{ap, ◌∙◌, subst, append_assoc, arith, ◌-◌}
-use Rattle.ciborium_ll.specs.{declared.header.Header.Header, declared.levels.Level.Level, Header.SpellsHeader}
-use Rattle.ciborium_ll.specs.Item.{Item, unsigned, negative, bytes, text, array, tag, simple, float, items_count}
-use Rattle.ciborium_ll.specs.{Item.pairs_count, Spells.Spells, StringRefusal.StringType}
 use Rattle.ciborium_ll.proofs.LevelFronts.{AreUnfinished, FirstOf, of_item, of_part, of_break, first-of}
-use Rattle.ciborium_ll.proofs.OneHeader.{one_header_at_front}
+use Rattle.ciborium_ll.{proofs.OneHeader.one_header_at_front, specs.{Header.SpellsHeader, Item.{Item, unsigned}}}
+use Rattle.ciborium_ll.specs.Item.{negative, bytes, text, array, tag, simple, float, items_count, pairs_count}
+use Rattle.ciborium_ll.specs.{Spells.Spells, declared.{header.Header.Header, levels.Level.Level}}
+use Rattle.ciborium_ll.specs.declared.strings.StringType.{StringType}
 use Rattle.ciborium_value.specs.{Meaning.{folding_bytes, is_bignum_tag}, Nesting.{Limit, IsWithin, nesting}}
 use Rattle.ciborium_value.specs.Nesting.{items_nesting, pairs_nesting, tag_nesting}
 use Rattle.ciborium.specs.inner.PassedOver.{left_inside, takes_one, ItemTo, LevelsTo}

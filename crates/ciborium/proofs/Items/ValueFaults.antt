@@ -9,9 +9,9 @@ use Rattle.ciborium_ll.specs.{Head.{eight_bytes, open_byte, break_byte}, Header.
 use Rattle.ciborium_ll.specs.Item.{no_items, item, no_pairs, pair, unsigned, negative, bytes, text, array, tag, simple}
 use Rattle.ciborium_ll.specs.{Item.{float, items_count, pairs_count}, Refusal.{Refusal, io, syntax, too_long, semantic}}
 use Rattle.ciborium_ll.specs.Refusal.{recursion_limit_exceeded, HeadRefuses, IsUsable, HasHead, IsAtFront, head_refusal}
-use Rattle.ciborium_ll.specs.{Spells.{Spells, SpellsItems, SpellsPairs}, StringRefusal.StringType}
-use Rattle.ciborium_ll.specs.StringRefusal.{string_major, StringRefuses, ChunksRefuse, OpenStringRefuses}
-use Rattle.ciborium_ll.specs.declared.header.Header.{Header}
+use Rattle.ciborium_ll.specs.{Spells.{Spells, SpellsItems, SpellsPairs}, StringRefusal.{string_major, StringRefuses}}
+use Rattle.ciborium_ll.specs.{StringRefusal.{ChunksRefuse, OpenStringRefuses}, declared.header.Header.Header}
+use Rattle.ciborium_ll.specs.declared.strings.StringType.{StringType}
 use Rattle.ciborium_value.proofs.GoodItems.{Bignums.large-none, Spelled.{folding-over, folding-string, folds-none}}
 use Rattle.ciborium_value.{proofs.Sources.Sequences.{fault_map, fault_outside, fault_then}, specs.Given.Outcome}
 use Rattle.ciborium_value.specs.Given.{Steps, gives, leveled, mapped, nests, of_meaning, outcome, outcome_map, refuses}

@@ -4,8 +4,8 @@ use Rattle.std.proofs.Common.{None, Ok, Err, refl, sym, ap, ◌∙◌, subst, le
 use Rattle.std.proofs.{Math.{Seq.take-append_seam, Utf8.{encode, encodes}}, lemmas.List.nil_from_length}
 use Rattle.std.proofs.lemmas.Str.{cons_from_encodes, encodes-chars, length-encode, len_utf8_bounds, length-le-encodes}
 use Rattle.ciborium_ll.{proofs.Unread.rest-of, specs.{Decoding.{Takes, left_of}, Head.IsHead, Item.{Item, text}}}
-use Rattle.ciborium_ll.specs.{ReaderSteps.IsFillTaken, Spells.Spells, StringRefusal.StringType}
-use Rattle.ciborium_ll.specs.declared.{decoder.Decoder.Decoder, header.Header.Header}
+use Rattle.ciborium_ll.specs.{ReaderSteps.IsFillTaken, Spells.Spells, declared.decoder.Decoder.Decoder}
+use Rattle.ciborium_ll.specs.declared.{header.Header.Header, strings.StringType.StringType}
 use Rattle.ciborium_value.specs.Given.{bare_character, gives, lone_character, outcome, refuses, settled}
 use Rattle.ciborium_value.specs.{Given.{given_character, untagged}, Nesting.Limit, Sources.{Fault, IsFaultOf, of_kind}}
 use Rattle.ciborium.proofs.Items.ItemHeads.{header_of, same-head, by-shape, no-bare-tag, size_of}

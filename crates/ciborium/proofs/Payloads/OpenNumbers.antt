@@ -5,8 +5,8 @@ use Rattle.std.proofs.lemmas.List.Elements.{All-append}
 use Rattle.ciborium_ll.proofs.{OneHeader.one_header_at_front, OpenStrings.{AreParts-more, joined-more}}
 use Rattle.ciborium_ll.{proofs.UniqueSpelling.one_at_front, specs.{Bytes.AreBytes, Head.{IsHead, open_byte}}}
 use Rattle.ciborium_ll.specs.{Head.break_byte, Header.{SpellsHeader, announced_length}, Item.{Item, bytes}}
-use Rattle.ciborium_ll.specs.{Spells.{Spells, AreChunks, joined}, StringRefusal.StringType}
-use Rattle.ciborium_ll.specs.declared.header.Header.{Header}
+use Rattle.ciborium_ll.specs.{Spells.{Spells, AreChunks, joined}, declared.header.Header.Header}
+use Rattle.ciborium_ll.specs.declared.strings.StringType.{StringType}
 use Rattle.ciborium_value.{proofs.Sources.Sequences.fault_outside, specs.Given.{bignum_of, settled, given_bignum}}
 use Rattle.ciborium_value.specs.{Places.is_open, Sources.{Fault, IsOutsideFault, of_kind}}
 use Rattle.ciborium.proofs.Items.ItemHeads.{header_of, first-head, first-payload, same-head, no-break-head, by-shape}

@@ -1,7 +1,7 @@
 -- Names that are looked up in a buffer.
 use Rattle.std.proofs.Common.{◌≡◌, ℕ, ◌+◌, List, ◌++◌, length, take, IsUtf8, Some, sym, ap, ◌∙◌, subst, arith}
 use Rattle.std.proofs.{Common.length-append, Math.Seq.take-append_seam}
-use Rattle.ciborium_ll.specs.StringRefusal.{StringType}
+use Rattle.ciborium_ll.specs.declared.strings.StringType.{StringType}
 use Rattle.ciborium_value.specs.Sources.{Fault}
 use Rattle.ciborium.specs.inner.StringContents.{DeniesContent, DeniesJust, TakesJust}
 use Rattle.ciborium.proofs.Payloads.SpelledStrings.{definite-payload}

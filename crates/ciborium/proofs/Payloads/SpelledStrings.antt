@@ -6,7 +6,8 @@ use Rattle.ciborium_ll.specs.{declared.decoder.Decoder.Decoder, declared.header.
 use Rattle.ciborium_ll.specs.{declared.header.Error.Error as LlError, Accesses.{HasEnded, left_at_failure}}
 use Rattle.ciborium_ll.specs.{Bytes.greatest_offset, Head.{IsHead, open_byte, break_byte}, Header.SpellsHeader}
 use Rattle.ciborium_ll.specs.{Header.announced_length, Refusal.{Refusal, io, syntax, too_long, HeadRefuses}}
-use Rattle.ciborium_ll.specs.{Spells.{Spells, AreChunks}, StringRefusal.{StringType, string_major}}
+use Rattle.ciborium_ll.specs.{Spells.{Spells, AreChunks}, StringRefusal.string_major}
+use Rattle.ciborium_ll.specs.declared.strings.StringType.{StringType}
 use Rattle.ciborium_ll.specs.StringRefusal.{IsAllowed, PayloadRefuses, ChunkRefuses, ContentRefuses}
 use Rattle.ciborium_ll.proofs.OneHeader.{one_header_at_front}
 use Rattle.ciborium_value.specs.Sources.{IsOutsideFault}

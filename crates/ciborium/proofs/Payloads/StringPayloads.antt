@@ -3,8 +3,8 @@ use Rattle.std.proofs.Common.{◌≡◌, ℕ, ◌+◌, ◌-◌, ◌*◌, ◌≤�
 use Rattle.std.proofs.Common.{None, Ok, refl, sym, ap, ◌∙◌, subst, arith, inl, inr, length-append}
 use Rattle.ciborium_ll.{proofs.Unread.rest-of, specs.{Bytes.greatest_offset, Decoding.{Takes, left_of}, Head.IsHead}}
 use Rattle.ciborium_ll.specs.{Head.{open_byte, break_byte}, Item.{Item, bytes, text}, Spells.{Spells, AreChunks}}
-use Rattle.ciborium_ll.specs.{Spells.joined, StringRefusal.{StringType, string_major, IsAllowed}}
-use Rattle.ciborium_ll.specs.{Strings.IsStringTaken, declared.{decoder.Decoder.Decoder, header.Header.Header}}
+use Rattle.ciborium_ll.specs.{Spells.joined, StringRefusal.{string_major, IsAllowed}, Strings.IsStringTaken}
+use Rattle.ciborium_ll.specs.declared.{decoder.Decoder.Decoder, header.Header.Header, strings.StringType.StringType}
 use Rattle.ciborium_value.specs.Given.{Given, bare_text, gives, outcome, refuses, settled, given_text, untagged}
 use Rattle.ciborium_value.specs.{Nesting.Limit, Sources.Fault}
 use Rattle.ciborium.proofs.Items.{ItemHeads.{header_of, same-head, by-shape, no-bare-tag}, SkippedTags.ReadsBehind}

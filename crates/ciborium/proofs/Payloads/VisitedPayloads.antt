@@ -1,7 +1,7 @@
 -- Payloads that are visited where they are held.
 use Rattle.std.proofs.Common.{◌≡◌, ℕ, ◌+◌, ◌≤◌, List, ◌++◌, length, take, Option, IsUtf8, Some, ◌∙◌, sym, ap, arith}
 use Rattle.std.proofs.{Common.{length-append, subst, IfErr, Result, Ok, Err}, Math.Seq.take-append_seam}
-use Rattle.ciborium_ll.specs.{Levels.IsPayloadOf, StringRefusal.StringType, declared.header.Header.Header}
+use Rattle.ciborium_ll.specs.{Levels.IsPayloadOf, declared.{header.Header.Header, strings.StringType.StringType}}
 use Rattle.ciborium_value.specs.Sources.{Fault, TakesOnly}
 use Rattle.ciborium.{proofs.Items.TakenOnly.same-end, specs.declared.de.byte_source.ByteSource.ByteSource}
 use Rattle.ciborium.specs.inner.{ByteSources.{HasTaken, IsUnread, end_at}, PassedOver.DeniesPayload}

@@ -7,7 +7,8 @@ use Rattle.ciborium_ll.proofs.{Decoders.{unread-left, begun-left, unread-count},
 use Rattle.ciborium_ll.{proofs.Unread.rest-of, specs.{Bytes.{AreBytes, greatest_offset}, Decoded.IsVisited}}
 use Rattle.ciborium_ll.specs.Decoding.{HasBegun, IsAhead, IsAheadBy, ReadsNothing, Pulls, PullsTo, Takes}
 use Rattle.ciborium_ll.specs.{Decoding.{TakesBeforeAny, with_left, left_of}, ReaderSteps.IsHeadTaken}
-use Rattle.ciborium_ll.specs.{StringRefusal.{StringType, ContentRefuses, IsAllowed}, Strings.IsStringTaken}
+use Rattle.ciborium_ll.specs.{StringRefusal.{ContentRefuses, IsAllowed}, Strings.IsStringTaken}
+use Rattle.ciborium_ll.specs.declared.strings.StringType.{StringType}
 use Rattle.ciborium_ll.specs.declared.{decoder.Decoder.Decoder, header.Error.{Error as LlError, TheVariants.Io}}
 use Rattle.ciborium_ll.specs.declared.header.{Error.TheVariants.{Syntax, TooLong, Memory}, Header.Header}
 use Rattle.ciborium_value.specs.{Spelling.{Spelling, any, deterministic, IsReadAs}, Tree.Tree, View.tree_of}

@@ -5,8 +5,8 @@ use Rattle.ciborium_ll.proofs.{Decoders.{unread-left, unread-count}, OneHeader.o
 use Rattle.ciborium_ll.specs.{Bytes.{AreBytes, greatest_offset}, Decoding.{IsAhead, IsAheadBy, IsMeasured}}
 use Rattle.ciborium_ll.specs.{Decoding.{ReadsNothing, offset_of, left_of}, Header.SpellsHeader, Refusal.Refusal}
 use Rattle.ciborium_ll.specs.Refusal.{semantic, recursion_limit_exceeded, HeadRefuses, IsUsable}
-use Rattle.ciborium_ll.specs.{StringRefusal.{StringType, PayloadRefuses}, declared.decoder.Decoder.Decoder}
-use Rattle.ciborium_ll.specs.declared.{header.Header.Header, kind.Kind.Kind}
+use Rattle.ciborium_ll.specs.{StringRefusal.PayloadRefuses, declared.{decoder.Decoder.Decoder, header.Header.Header}}
+use Rattle.ciborium_ll.specs.declared.{kind.Kind.Kind, strings.StringType.StringType}
 use Rattle.ciborium_value.specs.{declared.tree.Value.Value, Refuses.{HasGoodHead, IsTagAt}}
 use Rattle.ciborium_value.specs.{Refuses.{IsFoldingAt, Refuses}, Spelling.{Spelling, any, deterministic, IsUnwanted}}
 use Rattle.ciborium_value.specs.{View.tree_of, inner.ReadItems.ReadsItem, inner.Stack.begun_frame}
@@ -19,6 +19,7 @@ use Rattle.ciborium.proofs.Turns.Fronts.{Front, front-of, string-room, no-break,
 use Rattle.ciborium.proofs.{Turns.Heads.{Got, got, good-head, good-at, bad-at, unpushed}, Turns.Pulled.refused-map}
 use Rattle.ciborium_ll.specs.declared.header.Header.TheVariants as header
 use Rattle.ciborium_ll.specs.Refusal as refusal
+use Rattle.ciborium_ll.specs.declared.kind.Kind.TheVariants as kinds
 use Rattle.ciborium_value.specs.declared.stack.NewFrame.TheVariants as new_frames
 use Rattle.ciborium_value.specs.Tree as trees
 
@@ -202,14 +203,14 @@ module _ {S W : Type 0} (remaining : S → Option (List ℕ)) (d : Decoder S W) 
           )))
       refuses here f same (inr (y, s, len, low, split, inl (can, is))) =
           let i = payload y s len low split in
-          subst (Refuses spelling xs p (Some l)) (sym (is ∙ ap (λ j. semantic j refusal.NotFolded) same))
+          subst (Refuses spelling xs p (Some l)) (sym (is ∙ ap (λ j. semantic j kinds.NotFolded) same))
           (Refuses.not_folded t (r spelling a) i.taken s y (q spelling a) (at spelling a) (folds spelling a) i.read
           i.split
           can)
       refuses here f same (inr (y, s, len, low, split, inr (none, is))) =
           let i = payload y s len low split in
           let large = none-large t y folding.1 none in
-          subst (Refuses spelling xs p (Some l)) (sym (is ∙ ap (λ j. semantic j refusal.TooLarge) same))
+          subst (Refuses spelling xs p (Some l)) (sym (is ∙ ap (λ j. semantic j kinds.TooLarge) same))
           (Refuses.too_large (r spelling a) i.taken s y (q spelling a)
           (subst (λ j. IsTagAt spelling xs p j (r spelling a) (q spelling a)) large.0 (at spelling a))
           (subst (λ j. IsFoldingAt j (r spelling a)) large.0 (folds spelling a)) i.read i.split large.1)
@@ -238,7 +239,7 @@ module _ {S W : Type 0} (remaining : S → Option (List ℕ)) (d : Decoder S W) 
 -- ---- the bytes of a bignum, as they were read
 
 pub bignum-unwanted : (spelling : Spelling) (t n at : ℕ) (x z xs : List ℕ) → length x ≡ n → AreBytes x →
-    IsUnwanted spelling x → Some (x ++ z) ≡ Some xs → BignumRefuses spelling t n at xs (semantic at refusal.NotFolded)
+    IsUnwanted spelling x → Some (x ++ z) ≡ Some xs → BignumRefuses spelling t n at xs (semantic at kinds.NotFolded)
 bignum-unwanted spelling t n at x z xs len low can is = inr (x, z, len, low, same (x ++ z) xs is, inl (can, refl))
   where
     same : (u v : List ℕ) → Some u ≡ Some v → v ≡ u

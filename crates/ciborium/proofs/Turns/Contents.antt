@@ -1,10 +1,10 @@
 -- Strings behind their heads, in each spelling.
 use Rattle.std.proofs.Common.{◌≡◌, ℕ, ◌+◌, ◌≤◌, ◌⊎◌, List, [], ◌∷◌, ◌++◌, length, Option, Some, None, Ok, refl, sym, ap}
 use Rattle.std.proofs.Common.{◌∙◌, subst, arith, length-append, append_assoc, inl, inr}
-use Rattle.ciborium_ll.specs.{declared.decoder.Decoder.Decoder, declared.header.Header.Header, Bytes.greatest_offset}
-use Rattle.ciborium_ll.specs.{Decoding.left_of, Head.{open_byte, break_byte}, Header.{SpellsHeader, IsCounted}}
-use Rattle.ciborium_ll.specs.{Refusal.Refusal, StringRefusal.{StringType, string_major}}
+use Rattle.ciborium_ll.specs.{Bytes.greatest_offset, Decoding.left_of, Head.{open_byte, break_byte}}
+use Rattle.ciborium_ll.specs.{Header.{SpellsHeader, IsCounted}, Refusal.Refusal, StringRefusal.string_major}
 use Rattle.ciborium_ll.specs.{StringRefusal.{ContentRefuses, PayloadRefuses, ChunksRefuse}, Strings.IsStringTaken}
+use Rattle.ciborium_ll.specs.declared.{decoder.Decoder.Decoder, header.Header.Header, strings.StringType.StringType}
 use Rattle.ciborium_value.specs.{declared.tree.Value.Value, Refuses.{HasGoodHead, Refuses}, Spelling.Spelling}
 use Rattle.ciborium_value.specs.{View.tree_of, inner.ReadItems.{ReadsItem, string_tree}}
 use Rattle.ciborium_value.proofs.GoodItems.Introduced.{reads-string, reads-open_string}

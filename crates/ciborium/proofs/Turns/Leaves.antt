@@ -16,6 +16,7 @@ use Rattle.ciborium.specs.inner.Parts.{IsBehind, container_header, empty_contain
 use Rattle.ciborium.specs.inner.ValuesInBytes.{StandsAt}
 use Rattle.ciborium_ll.specs.declared.header.Header.TheVariants as header
 use Rattle.ciborium_ll.specs.Refusal as refusal
+use Rattle.ciborium_ll.specs.declared.kind.Kind.TheVariants as kinds
 use Rattle.ciborium_value.specs.Tree as trees
 
 module _ {S W : Type 0} (remaining : S → Option (List ℕ)) (d : Decoder S W) (l : ℕ) (xs : List ℕ) (p : ℕ) (h : Header)
@@ -161,7 +162,7 @@ module _ {S W : Type 0} (remaining : S → Option (List ℕ)) (d : Decoder S W) 
 module _ {S W : Type 0} (remaining : S → Option (List ℕ)) (d : Decoder S W) (l : ℕ) (xs : List ℕ) (p : ℕ)
     (h : Header) where
   pub simple-refuses : (spelling : Spelling) (n : ℕ) → simple_meaning n ≡ None → h ≡ header.Simple n →
-      IsHeadAccepted spelling remaining d h xs p → RefusesPart spelling xs p l (semantic p refusal.Simple)
+      IsHeadAccepted spelling remaining d h xs p → RefusesPart spelling xs p l (semantic p kinds.Simple)
   simple-refuses spelling n none is a =
       let u : Front xs p (header.Simple n) a.pulled.0 a.pulled.1 =
       front-of remaining d h (header.Simple n) xs p is a.pulled in (
@@ -170,7 +171,7 @@ module _ {S W : Type 0} (remaining : S → Option (List ℕ)) (d : Decoder S W) 
       )
 
   pub float-refuses : (spelling : Spelling) (n : ℕ) → h ≡ header.Float n → IsHeadAccepted spelling remaining d h xs p →
-      RefusesPart spelling xs p l (semantic p refusal.Float)
+      RefusesPart spelling xs p l (semantic p kinds.Float)
   float-refuses spelling n is a =
       (by a.pulled.0 u.spelled u.split, no-break xs p (header.Float n) a.pulled.0 a.pulled.1 tt u)
     where
@@ -178,12 +179,12 @@ module _ {S W : Type 0} (remaining : S → Option (List ℕ)) (d : Decoder S W) 
       u = front-of remaining d h (header.Float n) xs p is a.pulled
 
       at : (x : ℕ) (raw : List ℕ) → xs ≡ (x ∷ raw) ++ a.pulled.1 → 0xf9 ≤ x → x ≤ 0xfb →
-          Refuses spelling xs p (Some l) (semantic p refusal.Float)
-      at x raw e low high = subst (λ z. Refuses spelling z p (Some l) (semantic p refusal.Float)) (sym e)
+          Refuses spelling xs p (Some l) (semantic p kinds.Float)
+      at x raw e low high = subst (λ z. Refuses spelling z p (Some l) (semantic p kinds.Float)) (sym e)
           (Refuses.float {x = x} {p = p} {b = raw ++ a.pulled.1} (subst (λ z. IsUsable z p) e u.usable) low high)
 
       by : (b : List ℕ) → SpellsHeader b (header.Float n) → xs ≡ b ++ a.pulled.1 →
-          Refuses spelling xs p (Some l) (semantic p refusal.Float)
+          Refuses spelling xs p (Some l) (semantic p kinds.Float)
       by b (raw, (inl s), k) e = at 0xf9 raw (e ∙ ap (λ (z : List ℕ). z ++ a.pulled.1) s.1) (omega arith) (omega arith)
       by b (raw, (inr (inl s)), k) e = at 0xfa raw (e ∙ ap (λ (z : List ℕ). z ++ a.pulled.1) s.1) (omega arith)
           (omega arith)

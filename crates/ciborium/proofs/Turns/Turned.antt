@@ -2,7 +2,7 @@
 use Rattle.std.proofs.Common.{◌≡◌, ℕ, zero, suc, ◌+◌, ◌-◌, ◌<◌, ◌≤◌, List, [], ◌∷◌, ◌++◌, length, Option, Some, None}
 use Rattle.std.proofs.Common.{Result, Ok, Err, IfOk, MatchOption, IsSome, refl, sym, ap, ◌∙◌, subst, arith, inl, inr}
 use Rattle.ciborium_ll.specs.{Bytes.greatest_offset, Decoding.{offset_of, left_of}, Head.break_byte, Refusal.semantic}
-use Rattle.ciborium_ll.specs.{Refusal.Break, declared.decoder.Decoder.Decoder}
+use Rattle.ciborium_ll.specs.declared.{decoder.Decoder.Decoder, kind.Kind.TheVariants.Break}
 use Rattle.ciborium_value.{proofs.GoodItems.Steps.opened-has, specs.{Refuses.Refuses, Spelling.Spelling, Tree.Tree}}
 use Rattle.ciborium_value.specs.{View.{tree_of, trees_from, tree_pairs_from}, declared.stack.NewFrame.NewFrame}
 use Rattle.ciborium_value.specs.{declared.tree.Value.Value, inner.Frames.{TreeFrame, array, map, tag, Placed, more}}

@@ -17,6 +17,7 @@ use Rattle.ciborium.specs.{inner.Around.{trees_in_turn, map_due, IsAround}, inne
 use Rattle.ciborium.specs.{inner.Rules.HasKeyOutOfOrder, inner.ValuesInBytes.IsBreakAt}
 use Rattle.ciborium.proofs.Turns.Paired.{in_turn-key, in_turn-value, turns-paired}
 use Rattle.ciborium_ll.specs.Refusal as refusal
+use Rattle.ciborium_ll.specs.declared.kind.Kind.TheVariants as kinds
 use Rattle.ciborium_value.specs.Tree as trees
 
 abbrev both : Tree → List TreeFrame → Tree × List TreeFrame
@@ -275,7 +276,7 @@ module _ (spelling : Spelling) where
 -- out of order, a key refuses
 pub disordered : (spelling : Spelling) (l : ℕ) (xs : List ℕ) (p : ℕ) (os : List TreeFrame) (zs : List ℕ) (r at : ℕ) →
     LandsIn spelling os l xs p zs r → HasKeyOutOfOrder spelling os r at →
-    Refuses spelling xs p (Some l) (semantic at refusal.KeyOrder)
+    Refuses spelling xs p (Some l) (semantic at kinds.KeyOrder)
 disordered any l xs p os zs r at a o = absurd o
 disordered (deterministic order) l xs p [] zs r at a o = absurd a
 disordered (deterministic order) l xs p (array vs b ∷ os) zs r at a (x, y, is, never, here) = absurd cc
@@ -288,8 +289,8 @@ disordered (deterministic order) l xs p (map ps behind (Some k) ∷ os) zs r at 
     let len : length i.taken ≡ length (encoding k) = ap length i.read.5.0 in
     let size : encoded_size y ≡ min (length (encoding k)) (2 ^ 64 - 1) = ap encoded_size (last-key ps k x y is) in
     let place : at ≡ q = omega (arith, here, size, end, fits, len) in
-    refused-turn (deterministic order) l xs p os (suc m) bs b (semantic at refusal.KeyOrder) around
-    (subst (λ j. Refuses (deterministic order) bs b (Some (suc m)) (semantic j refusal.KeyOrder)) (sym place)
+    refused-turn (deterministic order) l xs p os (suc m) bs b (semantic at kinds.KeyOrder) around
+    (subst (λ j. Refuses (deterministic order) bs b (Some (suc m)) (semantic j kinds.KeyOrder)) (sym place)
     (Refuses.key_order (trees_in_turn ps None) ys i.taken zs k q (keys (option_map suc behind)) (Some m) c
     (due behind c) i.read i.split wrong))
     (λ ends break. container-no-break bs c.size (c.good ++ ys) c.start c.begins break.1)

@@ -2,8 +2,8 @@
 use Rattle.std.specs.Prelude.{◌≡◌, ℕ, suc, ◌+◌, ◌<◌, ◌≤◌, ◌⊎◌, List, [], ◌∷◌, ◌++◌, length, Option, Some, None, Result}
 use Rattle.std.specs.Prelude.{Ok, Err, Bool, true, false}
 use Rattle.ciborium_ll.specs.{Bytes.{AreBytes, greatest_offset}, Decoding.left_of, Head.break_byte, Refusal.Refusal}
-use Rattle.ciborium_ll.specs.Refusal.{HeadRefuses, io, semantic, NotFolded, TooLarge}
-use Rattle.ciborium_ll.specs.declared.{decoder.Decoder.Decoder, header.Header.Header}
+use Rattle.ciborium_ll.specs.{Refusal.{HeadRefuses, io, semantic}, declared.decoder.Decoder.Decoder}
+use Rattle.ciborium_ll.specs.declared.{header.Header.Header, kind.Kind.TheVariants.{NotFolded, TooLarge}}
 use Rattle.ciborium_value.specs.{Meaning.{simple_meaning, bignum_meaning, is_bignum_tag}, Refuses.Refuses}
 use Rattle.ciborium_value.specs.{Spelling.{Spelling, any, deterministic, IsUnwanted}, Tree.Tree, View.tree_of}
 use Rattle.ciborium_value.specs.{declared.tree.Value.Value, inner.{Frames.{TreeFrame, array, map}, ReadItems.ReadsItem}}

@@ -2,9 +2,9 @@
 use Rattle.std.specs.Prelude.{◌≡◌, ℕ, zero, suc, ◌+◌, ◌-◌, ◌≤◌, Bool, true, false, List, [], ◌∷◌, ◌++◌, length, reverse}
 use Rattle.std.specs.Prelude.{Option, Some, None, ◌↔◌}
 use Rattle.ciborium_ll.specs.{Head.break_byte, Header.SpellsHeader, Item.Item, Levels.IsPayloadOf, Spells.AreChunks}
-use Rattle.ciborium_ll.specs.{Spells.Spells, StringRefusal.{StringType, IsAllowed, string_major}}
-use Rattle.ciborium_ll.specs.declared.{header.Header.Header, levels.Level.{Level, TheVariants.{Items, OpenItems}}}
-use Rattle.ciborium_ll.specs.declared.levels.Level.TheVariants.{OpenKeys, OpenValues, ByteChunks, TextChunks}
+use Rattle.ciborium_ll.specs.{Spells.Spells, StringRefusal.{IsAllowed, string_major}, declared.header.Header.Header}
+use Rattle.ciborium_ll.specs.declared.levels.Level.{Level, TheVariants.{Items, OpenItems, OpenKeys, OpenValues}}
+use Rattle.ciborium_ll.specs.declared.{levels.Level.TheVariants.{ByteChunks, TextChunks}, strings.StringType.StringType}
 use Rattle.ciborium_value.specs.{Meaning.is_bignum_tag, Nesting.{Limit, IsWithin, nesting}, Sources.Fault}
 use Rattle.ciborium_value.specs.Sources.{IsOutsideFault, of_nesting}
 use Rattle.ciborium.specs.declared.de.byte_source.skipping.Unfinished.{Unfinished}

@@ -1,8 +1,8 @@
 -- What reading the payload of a string answers.
 use Rattle.std.specs.Prelude.{◌≡◌, ℕ, ◌+◌, ◌≤◌, List, ◌++◌, length, Option, Result, Ok, Err, Bool, true, false, None}
 use Rattle.std.specs.Prelude.{Some}
-use Rattle.ciborium_ll.specs.{Bytes.greatest_offset, Decoding.left_of, StringRefusal.{StringType, ContentRefuses}}
-use Rattle.ciborium_ll.specs.{StringRefusal.IsAllowed, Strings.IsStringTaken, declared.decoder.Decoder.Decoder}
+use Rattle.ciborium_ll.specs.{Bytes.greatest_offset, Decoding.left_of, StringRefusal.{ContentRefuses, IsAllowed}}
+use Rattle.ciborium_ll.specs.{Strings.IsStringTaken, declared.{decoder.Decoder.Decoder, strings.StringType.StringType}}
 use Rattle.ciborium_value.specs.{View.tree_of, declared.tree.Value.Value, inner.ReadItems.string_tree}
 use Rattle.ciborium.specs.{ValueAnswers.IsRefusedBy, declared.de.{error.Error.Error, held.Copied.Copied}}
 use Rattle.ciborium.specs.{declared.de.held.Copied.TheVariants.{Whole, NoText, NoMemory}, inner.ValuesInBytes.IsAt}

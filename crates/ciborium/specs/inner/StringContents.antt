@@ -1,8 +1,8 @@
 -- What is read behind the head of a string: its payload, or the number that its bytes make.
 use Rattle.std.specs.Prelude.{◌≡◌, ℕ, ◌+◌, ◌≤◌, ◌*◌, ◌^◌, List, [], ◌∷◌, ◌++◌, length, Option, Some, None}
 use Rattle.std.specs.Prelude.{if◌then◌else◌, nat_lt}
-use Rattle.ciborium_ll.specs.{declared.header.Header.Header, Bytes.AreBytes, Header.SpellsHeader, Item.{Item, bytes}}
-use Rattle.ciborium_ll.specs.{Item.text, Spells.{Spells, AreChunks, joined}, StringRefusal.StringType}
+use Rattle.ciborium_ll.specs.{Bytes.AreBytes, Header.SpellsHeader, Item.{Item, bytes, text}, Spells.{Spells, AreChunks}}
+use Rattle.ciborium_ll.specs.{Spells.joined, declared.{header.Header.Header, strings.StringType.StringType}}
 use Rattle.ciborium_value.specs.{Sources.{Fault, IsOutsideFault}, Places.is_open}
 use Rattle.ciborium_ll.specs.declared.header.Header.TheVariants as header
 

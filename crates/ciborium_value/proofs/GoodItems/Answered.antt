@@ -7,10 +7,11 @@ use Rattle.std.proofs.lemmas.Str.{IsUtf8-from_is_utf8}
 use Rattle.ciborium_ll.proofs.FrontHeads.{Front, nothing, counted, opened, plain, raw, front, front_open}
 use Rattle.ciborium_ll.proofs.{ReadHeads.{Face, faces}, UsableHeads.{EachIsByte, bytes_after, take_bytes, stands-front}}
 use Rattle.ciborium_ll.{proofs.UsableHeads.{stands-length, IsStringMajor}, specs.{Bytes.greatest_offset, Head.IsHead}}
-use Rattle.ciborium_ll.specs.Refusal.{Kind, Refusal, syntax, semantic, recursion_limit_exceeded, Float, Simple, Break}
-use Rattle.ciborium_ll.specs.{Refusal.{TooLarge, IsUsable, HasHead, head_refusal, IsAtFront}, Spells.IsDefiniteString}
-use Rattle.ciborium_ll.specs.{Spells.{AreChunks, joined}, StringRefusal.{StringType, string_major, IsAllowed}}
-use Rattle.ciborium_ll.specs.StringRefusal.{PayloadRefuses, StringRefuses, ChunkRefuses, HasStringHead}
+use Rattle.ciborium_ll.specs.Refusal.{Refusal, syntax, semantic, recursion_limit_exceeded, IsUsable, HasHead}
+use Rattle.ciborium_ll.specs.{Refusal.{head_refusal, IsAtFront}, Spells.{IsDefiniteString, AreChunks, joined}}
+use Rattle.ciborium_ll.specs.StringRefusal.{string_major, IsAllowed, PayloadRefuses, StringRefuses, ChunkRefuses}
+use Rattle.ciborium_ll.specs.{StringRefusal.HasStringHead, declared.kind.Kind.{Kind, TheVariants.{Float, Simple}}}
+use Rattle.ciborium_ll.specs.declared.{kind.Kind.TheVariants.{Break, TooLarge}, strings.StringType.StringType}
 use Rattle.ciborium_value.proofs.GoodItems.{Accepted.anyway, Bignums.{foldable-is, is-foldable, none-large}}
 use Rattle.ciborium_value.proofs.GoodItems.{Found.{kind_allowed, kind_major}, Introduced.reads-positive}
 use Rattle.ciborium_value.proofs.GoodItems.Introduced.{reads-negative, reads-string, kind-below, reads-open_string}

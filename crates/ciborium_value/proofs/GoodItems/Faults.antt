@@ -3,10 +3,11 @@ use Rattle.std.proofs.Common.{◌≡◌, ℕ, suc, ◌+◌, ◌*◌, ◌%◌, �
 use Rattle.std.proofs.Common.{◌∷◌, ◌++◌, length, Option, Some, None, refl, sym, ap, ◌∙◌, arith, lt-ltb, le-ltb}
 use Rattle.std.proofs.{Common.{ltb-false, ne_eqb, inl, inr}, lemmas.Nat.{div-mul-add, mod-mul-add}}
 use Rattle.std.proofs.lemmas.Bool.Decides.{nat_tests}
-use Rattle.ciborium_ll.specs.{Head.{IsSimple, information, argument_bytes, shortest_head}, Refusal.Kind}
-use Rattle.ciborium_ll.specs.Refusal.{NotShortest, Open, argument, argument_length, HasHead}
 use Rattle.ciborium_ll.proofs.{ShortestHead.no_other_is_as_short, UsableHeads.argument-information}
 use Rattle.ciborium_ll.proofs.UsableHeads.{argument_length-information, information-below, pass, and_false}
+use Rattle.ciborium_ll.specs.{Head.{IsSimple, information, argument_bytes, shortest_head}, Refusal.argument}
+use Rattle.ciborium_ll.specs.{Refusal.{argument_length, HasHead}, declared.kind.Kind.{Kind, TheVariants.NotShortest}}
+use Rattle.ciborium_ll.specs.declared.kind.Kind.TheVariants.{Open}
 use Rattle.ciborium_value.specs.Spelling.{Spelling, any, deterministic, deterministic_fault, spelling_fault}
 use Rattle.ciborium_value.specs.declared.key_order.KeyOrder.{KeyOrder}
 

@@ -6,9 +6,9 @@ use Rattle.std.proofs.lemmas.{Bool.{cond-true, Decides.nat_tests}, Str.is_utf8-f
 use Rattle.ciborium_ll.proofs.{CutHeads.each-byte, FrontHeads.{plain, front, front-simple}}
 use Rattle.ciborium_ll.proofs.{ShortestHead.shortest_is_head, UsableHeads.{stands-usable, stands-length, IsStringMajor}}
 use Rattle.ciborium_ll.{proofs.UsableHeads.pass, specs.{Bytes.greatest_offset, Head.{IsHead, IsSimple, shortest_head}}}
-use Rattle.ciborium_ll.specs.{Item.Item, ProperItems.IsArgument, Refusal.{is_reserved, semantic, Break, Simple}}
-use Rattle.ciborium_ll.specs.{Refusal.{TooLarge, IsUsable, HasHead}, Spells.{AreChunks, joined, IsString, Spells}}
-use Rattle.ciborium_ll.specs.StringRefusal.{StringType, string_major, IsAllowed}
+use Rattle.ciborium_ll.specs.{Item.Item, ProperItems.IsArgument, Refusal.{is_reserved, semantic, IsUsable, HasHead}}
+use Rattle.ciborium_ll.specs.{Spells.{AreChunks, joined, IsString, Spells}, StringRefusal.{string_major, IsAllowed}}
+use Rattle.ciborium_ll.specs.declared.{kind.Kind.TheVariants.{Break, Simple, TooLarge}, strings.StringType.StringType}
 use Rattle.ciborium_value.proofs.GoodItems.{Accepted.{anyway, accepted, deterministic_tree}, Bignums.foldable-is}
 use Rattle.ciborium_value.proofs.GoodItems.{Bignums.kept-whole, Faults.{short-fault, fault-simple}}
 use Rattle.ciborium_value.proofs.GoodItems.{Introduced.kind-below, Parts.{within-zero, lower, levels-below, due-first}}

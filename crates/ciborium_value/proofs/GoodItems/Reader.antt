@@ -4,12 +4,14 @@ use Rattle.std.proofs.Common.{◌++◌, length, take, drop, Option, Some, None, 
 use Rattle.std.specs.{Str.is_utf8, declared.cmp.Ordering.{Ordering, TheVariants.{Less, Equal, Greater}}}
 use Rattle.ciborium_ll.proofs.FrontHeads.{Front, nothing, counted, opened, plain, raw, front}
 use Rattle.ciborium_ll.specs.{Bytes.greatest_offset, Refusal.{Refusal, io, syntax, semantic, recursion_limit_exceeded}}
-use Rattle.ciborium_ll.specs.Refusal.{Float, Simple, Break, TooLarge, NotFolded, head_refusal}
+use Rattle.ciborium_ll.specs.Refusal.{head_refusal}
+use Rattle.ciborium_ll.specs.declared.kind.Kind.TheVariants.{Float, Simple, Break, TooLarge, NotFolded}
 use Rattle.ciborium_value.specs.{Canonical.key_order, Meaning.{simple_meaning, bignum_meaning, is_bignum_tag}}
 use Rattle.ciborium_value.specs.{Nesting.Limit, Refuses.{Due, items, keys, values, next_due, keys_among}}
 use Rattle.ciborium_value.specs.{Spelling.{Spelling, any, deterministic, spelling_fault}, Tree.{Tree, integer, bytes}}
 use Rattle.ciborium_value.specs.{Tree.{text, tag}, declared.key_order.KeyOrder.KeyOrder, inner.ReadItems.container_of}
 use Rattle.ciborium_ll.specs.Refusal as refusal
+use Rattle.ciborium_ll.specs.declared.kind.Kind.TheVariants as kinds
 
 pub data Answer (A : Type 0) : Type 0 where
   -- what was read, what is left, and its offset
@@ -177,7 +179,7 @@ module _ (spelling : Spelling) where
   abbrev pub next_part : (Option Due → List Tree → Reader) → Due → Due → List Tree → ℕ → Limit → Tree → List ℕ → ℕ →
       Answer Tree
   next_part more start now vs p l v r q = cond (in_order spelling (keys_among start (vs ++ (v ∷ []))))
-      (more (next_due now) (vs ++ (v ∷ [])) r q l) (refused (semantic p refusal.KeyOrder))
+      (more (next_due now) (vs ++ (v ∷ [])) r q l) (refused (semantic p kinds.KeyOrder))
 
   -- its fuel bounds the nesting and the parts
   abbrev mutual

@@ -6,10 +6,12 @@ use Rattle.std.proofs.lemmas.Bool.{cond-true}
 use Rattle.ciborium_ll.proofs.{CutHeads.each-byte, FrontHeads.{Front, nothing, counted, opened, plain, raw, front}}
 use Rattle.ciborium_ll.proofs.{ReadHeads.{Face, faces}, UsableHeads.{EachIsByte, bytes_after, stands-front}}
 use Rattle.ciborium_ll.{proofs.UsableHeads.{stands-length, pass}, specs.Bytes.{AreBytes, greatest_offset}}
-use Rattle.ciborium_ll.specs.{Head.IsSimple, Refusal.{Kind, Refusal, syntax, semantic, Float, Simple, Break, TooLarge}}
-use Rattle.ciborium_ll.specs.Refusal.{NotFolded, recursion_limit_exceeded, IsUsable, HeadRefuses, HasHead, IsAtFront}
-use Rattle.ciborium_ll.specs.StringRefusal.{StringType, string_major, IsAllowed, PayloadRefuses, StringRefuses}
-use Rattle.ciborium_ll.specs.StringRefusal.{ChunkRefuses, OpenStringRefuses, HasStringHead}
+use Rattle.ciborium_ll.specs.{Head.IsSimple, Refusal.{Refusal, syntax, semantic, recursion_limit_exceeded, IsUsable}}
+use Rattle.ciborium_ll.specs.{Refusal.{HeadRefuses, HasHead, IsAtFront}, StringRefusal.{string_major, IsAllowed}}
+use Rattle.ciborium_ll.specs.StringRefusal.{PayloadRefuses, StringRefuses, ChunkRefuses, OpenStringRefuses}
+use Rattle.ciborium_ll.specs.{StringRefusal.HasStringHead, declared.kind.Kind.{Kind, TheVariants.{Float, Simple}}}
+use Rattle.ciborium_ll.specs.declared.kind.Kind.TheVariants.{Break, TooLarge, NotFolded}
+use Rattle.ciborium_ll.specs.declared.strings.StringType.{StringType}
 use Rattle.ciborium_value.proofs.GoodItems.{Answered.{kind_ok, rest-bytes}, Bignums.{foldable-small, foldable-is}}
 use Rattle.ciborium_value.proofs.GoodItems.{Bignums.{is-foldable, large-none}, Faults.{fault-break, fault-float}}
 use Rattle.ciborium_value.proofs.GoodItems.{Faults.fault-simple, Found.{kind_allowed, simple-front, read-good}}
@@ -26,6 +28,7 @@ use Rattle.ciborium_value.specs.{Refuses.{IsFoldingAt, Refuses}, Spelling.{Spell
 use Rattle.ciborium_value.specs.{Spelling.{spelling_fault, IsUnwanted}, Tree.Tree, inner.ReadItems.string_tree}
 use Rattle.ciborium_value.specs.inner.ReadItems.{container_of}
 use Rattle.ciborium_ll.specs.Refusal as refusal
+use Rattle.ciborium_ll.specs.declared.kind.Kind.TheVariants as kinds
 use Rattle.ciborium_value.specs.Tree as trees
 
 front_bytes : (s r : List ℕ) → EachIsByte (s ++ r) → EachIsByte s
@@ -242,7 +245,7 @@ module _ (spelling : Spelling) where
       (λ c lc. ap (and_then (next_part spelling (parts spelling c i.start) i.start w vs q below))
       (refusal-read c f (inside-bytes b p l below vs r q w i bytes) lc))
   refusal-read (suc d) {b} {p} {l} (Refuses.key_order vs r s t key q w below i due item at bad) bytes fuel =
-      part-run d b p l below vs r q w (refused (semantic q refusal.KeyOrder)) i due fuel
+      part-run d b p l below vs r q w (refused (semantic q kinds.KeyOrder)) i due fuel
       (λ c lc. ap (and_then (next_part spelling (parts spelling c i.start) i.start w vs q below))
       (read-good spelling c key s t r q (q + length s) below item at refl lc) ∙
       pass _ _ _ (not_so _ (λ z. bad (in_order-is spelling (keys_among i.start (vs ++ (key ∷ []))) z))))

@@ -4,11 +4,11 @@ use Rattle.std.proofs.Common.{[], ◌∷◌, ◌++◌, length, take, drop, Optio
 use Rattle.std.proofs.Common.{subst, arith, length-append, append_assoc, le-ltb, eq-eqb, ne_eqb}
 use Rattle.std.proofs.{Math.Seq.{take-append_seam, drop-append_seam}, lemmas.Nat.{div-mul-add, mod-mul-add}}
 use Rattle.std.proofs.{lemmas.Bool.Decides.nat_tests, lemmas.Bool.cond-true}
-use Rattle.ciborium_ll.specs.{Spells.{AreChunks, joined}, Refusal.{Kind, Refusal, semantic, head_refusal}}
-use Rattle.ciborium_ll.specs.Refusal.{IsUsable, HeadRefuses, HasHead, argument_length, is_reserved, is_low_simple}
-use Rattle.ciborium_ll.specs.{Refusal.payload_length, Bytes.greatest_offset}
 use Rattle.ciborium_ll.proofs.{FrontHeads.{Front, counted, opened, front, front_open}, UsableHeads.{HeadFits, low}}
 use Rattle.ciborium_ll.proofs.UsableHeads.{fits-usable, stands-usable, stands-front, stands-length, pass, and_false}
+use Rattle.ciborium_ll.specs.{Bytes.greatest_offset, Refusal.{Refusal, semantic, head_refusal, IsUsable, HeadRefuses}}
+use Rattle.ciborium_ll.specs.Refusal.{HasHead, argument_length, is_reserved, is_low_simple, payload_length}
+use Rattle.ciborium_ll.specs.{Spells.{AreChunks, joined}, declared.kind.Kind.Kind}
 use Rattle.ciborium_value.specs.{Nesting.Limit, Refuses.{HasGoodHead, Due, items, keys, BeginsContainer, IsTagAt}}
 use Rattle.ciborium_value.specs.{Spelling.{Spelling, spelling_fault}, Tree.Tree}
 use Rattle.ciborium_value.proofs.GoodItems.Reader.{Answer, ends, refused, checked, and_then, made, past, allowed}

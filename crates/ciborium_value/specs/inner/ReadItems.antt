@@ -1,6 +1,6 @@
 -- What is read at the front of bytes, and the end of a container.
 use Rattle.std.specs.Prelude.{◌≡◌, ℕ, ◌+◌, ◌≤◌, List, [], ◌∷◌, ◌++◌, length, Some, None}
-use Rattle.ciborium_ll.specs.{Bytes.greatest_offset, Head.break_byte, StringRefusal.StringType}
+use Rattle.ciborium_ll.specs.{Bytes.greatest_offset, Head.break_byte, declared.strings.StringType.StringType}
 use Rattle.ciborium_value.specs.{Nesting.Limit, Refuses.{Due, items, keys, values}, Spelling.{Spelling, IsReadAs}}
 use Rattle.ciborium_value.specs.{Tree.{Tree, TreePairs}, View.trees_from}
 use Rattle.ciborium_value.specs.Tree as trees

@@ -1,7 +1,7 @@
 use Rattle.std.proofs.Common.{◌≡◌, ◌+◌, ◌*◌, ◌++◌, ◌∙◌, List, ℕ, ap, arith, codes, decimal, false, length, true, refl}
 use Rattle.std.proofs.{Common.{subst, ◌-◌, ◌∷◌, suc}, lemmas.Result.on_ok_weaker}
-use Rattle.ciborium_ll.specs.{ItemHeads.levels_of, Levels.incomplete, StringRefusal.StringType}
-use Rattle.ciborium_ll.specs.declared.levels.Level.TheVariants.{Items}
+use Rattle.ciborium_ll.specs.{ItemHeads.levels_of, Levels.incomplete, declared.levels.Level.TheVariants.Items}
+use Rattle.ciborium_ll.specs.declared.strings.StringType.{StringType}
 use Rattle.cbor.specs.Exact.{AreExactly, AreOpenParts, IsBegun, IsExactly, mark, open_level, spaced}
 use Rattle.cbor.proofs.{DumpedHeads.less-unread, ExactLevels.{head-begun, no-break, part-due, parts-break, parts-due}}
 use Rattle.cbor.proofs.{ExactLevels.parts-open, ExactNotation.{all-parts, alone, as-float, as-open-string, as-string}}

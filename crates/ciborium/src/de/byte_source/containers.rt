@@ -3,7 +3,7 @@
 ghost use Rattle.std.specs.Prelude.{◌≡◌, ◌≢◌, ◌+◌, ◌-◌, ◌≤◌, IfErr, IfOk};
 ghost use Rattle.std.specs.Prelude.{None, OnErr, OnOk, Some};
 ghost use Rattle.ciborium_ll.specs.Decoding.{HasSameReader};
-ghost use Rattle.ciborium_ll.specs.StringRefusal.{StringType};
+ghost use Rattle.ciborium_ll.specs.declared.strings.StringType.{StringType};
 ghost use Rattle.ciborium_value.specs.Sources.{TakesOnly};
 ghost use Rattle.ciborium.specs.inner.ByteSources.{HasBytes};
 ghost use Rattle.ciborium.specs.inner.ByteSources.{HasTaken, IsUnread};

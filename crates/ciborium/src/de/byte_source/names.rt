@@ -3,7 +3,7 @@
 ghost use Rattle.std.specs.Prelude.{◌≡◌, ◌≤◌, IfErr, IfOk, IfSome, None, OnErr, OnOk, Some};
 ghost use Rattle.std.specs.Prelude.{IsUtf8, MatchOption, string_bytes};
 ghost use Rattle.ciborium_ll.specs.Decoding.{HasSameReader};
-ghost use Rattle.ciborium_ll.specs.StringRefusal.{StringType};
+ghost use Rattle.ciborium_ll.specs.declared.strings.StringType.{StringType};
 ghost use Rattle.ciborium_value.specs.Sources.{TakesOnly};
 ghost use Rattle.ciborium_value.specs.Labels.{name_place, placed};
 ghost use Rattle.ciborium_value.specs.Given.{given_name};

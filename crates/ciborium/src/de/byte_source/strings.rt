@@ -3,7 +3,7 @@
 ghost use Rattle.std.specs.Prelude.{◌≡◌, ◌+◌, ◌≤◌, IfErr, IfNone, IfOk, IfSome, List, None};
 ghost use Rattle.std.specs.Prelude.{OnErr, OnOk, Some, false, length, string_bytes, ℕ};
 ghost use Rattle.ciborium_ll.specs.Decoding.{HasSameReader};
-ghost use Rattle.ciborium_ll.specs.StringRefusal.{StringType};
+ghost use Rattle.ciborium_ll.specs.declared.strings.StringType.{StringType};
 ghost use Rattle.ciborium_value.specs.Sources.{IsGrantedFault, TakesOnly};
 ghost use Rattle.ciborium.specs.inner.ByteSources.{HasTaken, IsUnread, bytes_weight, end_at};
 ghost use Rattle.ciborium.specs.inner.ByteSources.{weight_left};

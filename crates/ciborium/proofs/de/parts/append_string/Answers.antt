@@ -1,5 +1,5 @@
 use Rattle.std.proofs.{Common.{rules, ◌≡◌, ◌++◌, string_bytes}, lemmas.Result.err_from_is_err_and}
-use Rattle.ciborium_ll.specs.StringRefusal.{StringType}
+use Rattle.ciborium_ll.specs.declared.strings.StringType.{StringType}
 use Rattle.ciborium_value.proofs.Trees.Views.{tree_of-Bytes, tree_of-Text}
 use Rattle.ciborium.proofs.Readers.WhateverFollows.{string-refused, string-taken}
 use Rattle.ciborium_value.specs.declared.tree.Value as value

@@ -1,6 +1,6 @@
 use Rattle.std.proofs.Common.{◌≡◌, ℕ, List, ◌++◌, ap, sym, ◌∙◌, Some, Ok, Err, subst, false, true}
 use Rattle.std.proofs.lemmas.Result.{err_from_is_err_and}
-use Rattle.ciborium_ll.specs.{Decoding.with_left, Refusal.semantic, StringRefusal.StringType}
+use Rattle.ciborium_ll.specs.{Decoding.with_left, Refusal.semantic, declared.strings.StringType.StringType}
 use Rattle.ciborium_value.{proofs.Trees.Views.tree_of-Integer, specs.View.tree_of}
 use Rattle.ciborium.proofs.{Readers.WhateverFollows.StringSo, Turns.Contents.{got-string, string-fault}}
 use Rattle.ciborium.proofs.Turns.Heads.{ahead-of, faulty-head, head-refused, part-behind-head, part-of-head}
@@ -9,6 +9,7 @@ use Rattle.ciborium.{proofs.Turns.Leaves.simple-refuses, specs.{ValueAnswers.IsR
 use Rattle.ciborium.specs.inner.{Parts.{IsPartRead, RefusesPart}, Rules.head_fault}
 use Rattle.ciborium_ll.specs.declared.header.Header.TheVariants as header
 use Rattle.ciborium_ll.specs.Refusal as refusal
+use Rattle.ciborium_ll.specs.declared.kind.Kind.TheVariants as kinds
 use Rattle.ciborium_value.specs.Tree as trees
 use Rattle.ciborium.proofs.de.parts.next.Goals as goal
 
@@ -154,7 +155,7 @@ returns-in_err-read_simple-in-Simple-clause-part g c =
     c.in_default.is) c.in_ok-header.ensures.head _
     (λ z xs p a. subst (λ e. IsRefusedBy (Some z) e (RefusesPart g.S.Rules.spelling xs p c.args.levels))
     (sym c.in_err-read_simple-in-Simple.ensures.1)
-    (subst (λ q. RefusesPart g.S.Rules.spelling xs p c.args.levels (semantic q refusal.Simple))
+    (subst (λ q. RefusesPart g.S.Rules.spelling xs p c.args.levels (semantic q kinds.Simple))
     (sym (c.last_offset-in-Simple.ensures ∙ a.pulled.5))
     (simple-refuses Some (with_left c.pull.new.decoder z) c.args.levels xs p
     c.in_ok-header.header g.S.Rules.spelling c.in-Simple.n c.in_err-read_simple-in-Simple.ensures.0 c.in-Simple.is
@@ -166,7 +167,7 @@ returns-in-Float-clause-part g c =
     c.in_ok-header.ensures.measured
     (sym (c.find_head_fault.ensures ∙ ap (head_fault g.S.Rules.spelling c.in_ok-header.header) c.head_len.ensures) ∙
     c.in_default.is) c.in_ok-header.ensures.head _
-    (λ z xs p a. subst (λ q. RefusesPart g.S.Rules.spelling xs p c.args.levels (semantic q refusal.Float))
+    (λ z xs p a. subst (λ q. RefusesPart g.S.Rules.spelling xs p c.args.levels (semantic q kinds.Float))
     (sym (c.last_offset-in-Float.ensures ∙ a.pulled.5))
     (float-refuses Some (with_left c.pull.new.decoder z) c.args.levels xs p
     c.in_ok-header.header g.S.Rules.spelling c.in-Float.field-0 c.in-Float.is a))

@@ -1,5 +1,5 @@
 use Rattle.std.proofs.Common.{rules}
-use Rattle.ciborium_ll.{proofs.Unread.refused-string, specs.StringRefusal.StringType}
+use Rattle.ciborium_ll.{proofs.Unread.refused-string, specs.declared.strings.StringType.StringType}
 use Rattle.ciborium_ll.proofs.decoder.Decoder.bytes_into_keeping.Goals as goal
 
 pub returns : goal.returns

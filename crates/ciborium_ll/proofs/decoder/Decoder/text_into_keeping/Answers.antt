@@ -1,5 +1,5 @@
 use Rattle.std.{proofs.{Common.{rules, sym, subst}, lemmas.Str.IsUtf8-string_bytes}, specs.Prelude.IsUtf8}
-use Rattle.ciborium_ll.{proofs.Unread.{refused-string, grown-utf8}, specs.StringRefusal.StringType}
+use Rattle.ciborium_ll.{proofs.Unread.{refused-string, grown-utf8}, specs.declared.strings.StringType.StringType}
 use Rattle.ciborium_ll.proofs.decoder.Decoder.text_into_keeping.Goals as goal
 
 pub from_utf8_unchecked-requires : goal.from_utf8_unchecked-requires

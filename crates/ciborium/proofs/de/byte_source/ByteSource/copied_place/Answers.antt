@@ -1,6 +1,6 @@
 use Rattle.std.proofs.{Common.{◌∙◌, subst, length-take-le}, lemmas.Result.err_from_is_err_and}
 use Rattle.ciborium.specs.{inner.ByteSources.{IsUnread, end_at, fault_at}, inner.StringContents.DeniesJust}
-use Rattle.ciborium_ll.specs.StringRefusal.{StringType}
+use Rattle.ciborium_ll.specs.declared.strings.StringType.{StringType}
 use Rattle.ciborium_value.specs.Sources.{of_syntax}
 use Rattle.ciborium.proofs.Payloads.ShortNames.{just-denied, no-text-denied}
 use Rattle.ciborium.proofs.de.byte_source.ByteSource.copied_place.Goals as goal

@@ -1,6 +1,6 @@
 use Rattle.std.proofs.{Common.{◌≡◌, ◌∙◌, ap, sym, Some, false, subst}, lemmas.Result.err_from_is_err_and}
 use Rattle.std.specs.Str.{IsUtf8}
-use Rattle.ciborium_ll.specs.StringRefusal.{StringType}
+use Rattle.ciborium_ll.specs.declared.strings.StringType.{StringType}
 use Rattle.ciborium_value.{proofs.Sources.Sequences.fault_map, specs.Given.{bare_name, gives, outcome_map, given_name}}
 use Rattle.ciborium_value.specs.{Given.{outcome, settled}, Labels.{name_place, placed}, Places.is_open, Sources.of_kind}
 use Rattle.ciborium_value.specs.declared.labels.LabelType.TheVariants.{Name}

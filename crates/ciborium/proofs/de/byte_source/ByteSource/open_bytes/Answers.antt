@@ -1,5 +1,5 @@
 use Rattle.std.proofs.Common.{length, ap, arith, subst, sym}
-use Rattle.ciborium_ll.specs.StringRefusal.{StringType}
+use Rattle.ciborium_ll.specs.declared.strings.StringType.{StringType}
 use Rattle.ciborium.specs.{inner.ByteSources.IsUnread, inner.StringContents.TakesContent}
 use Rattle.ciborium.proofs.de.byte_source.ByteSource.open_bytes.Goals as goal
 

@@ -1,5 +1,5 @@
 use Rattle.std.proofs.{Common.{Some, sym, ap, ◌∙◌, subst, arith}, lemmas.Result.err_from_is_err_and}
-use Rattle.ciborium_ll.specs.StringRefusal.{StringType}
+use Rattle.ciborium_ll.specs.declared.strings.StringType.{StringType}
 use Rattle.ciborium_value.specs.Sources.{of_syntax}
 use Rattle.ciborium.specs.{inner.ByteSources.{IsUnread, end_at, fault_at}, inner.FrontItems.TakesHead}
 use Rattle.ciborium.specs.inner.StringContents.{DeniesContent, TakesNumber}

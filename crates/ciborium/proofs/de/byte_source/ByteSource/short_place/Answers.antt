@@ -1,5 +1,5 @@
 use Rattle.std.proofs.{Common.{◌≡◌, None, Some, ap, ◌∙◌}, lemmas.Result.err_from_is_err_and}
-use Rattle.ciborium_ll.specs.StringRefusal.{StringType}
+use Rattle.ciborium_ll.specs.declared.strings.StringType.{StringType}
 use Rattle.ciborium_value.specs.Sources.{of_syntax}
 use Rattle.ciborium.proofs.Payloads.{ShortNames.{just-denied, no-text-denied}, VisitedPayloads.content-denied-then}
 use Rattle.ciborium.specs.inner.ByteSources.{IsUnread, end_at, fault_at}

@@ -1,5 +1,5 @@
 use Rattle.std.proofs.{Common.string_bytes, lemmas.Result.err_from_is_err_and}
-use Rattle.ciborium_ll.specs.StringRefusal.{StringType}
+use Rattle.ciborium_ll.specs.declared.strings.StringType.{StringType}
 use Rattle.ciborium.proofs.{Payloads.SpelledStrings.content-denied, Payloads.StringPayloads.content-taken}
 use Rattle.ciborium.proofs.Items.TakenOnly.{takes-only}
 use Rattle.ciborium.proofs.de.byte_source.ByteSource.text_content.Goals as goal

@@ -1,5 +1,5 @@
 use Rattle.std.proofs.{Common.{sym, subst}, lemmas.Result.err_from_is_err_and}
-use Rattle.ciborium_ll.specs.StringRefusal.{StringType}
+use Rattle.ciborium_ll.specs.declared.strings.StringType.{StringType}
 use Rattle.ciborium_value.specs.Labels.{name_place}
 use Rattle.ciborium.specs.inner.{ByteSources.{IsUnread, end_at, fault_at}, StringContents.{DeniesContent, TakesPlace}}
 use Rattle.ciborium.proofs.de.byte_source.ByteSource.text_place.Goals as goal

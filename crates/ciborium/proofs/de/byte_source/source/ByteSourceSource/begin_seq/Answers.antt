@@ -1,6 +1,6 @@
 use Rattle.std.proofs.Common.{rules, arith, ◌+◌, ◌<◌, refl, Some, false, sym, subst, ◌∙◌}
 use Rattle.std.{proofs.lemmas.Result.err_from_is_err_and, specs.Vec.Iter.into_iter_items}
-use Rattle.ciborium_ll.specs.StringRefusal.{StringType}
+use Rattle.ciborium_ll.specs.declared.strings.StringType.{StringType}
 use Rattle.ciborium_value.specs.{Ahead.takes_level, Given.{bare_seq, given_seq, give}}
 use Rattle.ciborium.proofs.Containers.ByteItems.{head-refuses, nested-refuses, other-refuses, string-refuses}
 use Rattle.ciborium.proofs.Containers.EnteredContainers.{IsEntered, entered-kept, items-stand, array-entered}

@@ -1,6 +1,6 @@
 use Rattle.std.proofs.Common.{rules, ◌≡◌, ◌≢◌, ◌≤◌, ◌+◌, length, ap, ◌∙◌, sym, Some, false, subst, arith, string_bytes}
 use Rattle.std.proofs.lemmas.Result.{err_from_is_err_and}
-use Rattle.ciborium_ll.specs.StringRefusal.{StringType}
+use Rattle.ciborium_ll.specs.declared.strings.StringType.{StringType}
 use Rattle.ciborium_value.specs.Given.{deeper, given_name, given_variant}
 use Rattle.ciborium.proofs.Containers.ByteItems.{head-refuses, nested-refuses, other-refuses, refuses-denied}
 use Rattle.ciborium.proofs.Containers.{DueLevels.{completes-begun, holds-begun}, EnteredContainers.deeper-is}

@@ -1,5 +1,5 @@
 use Rattle.std.proofs.{Common.{Some, ap, arith, refl, rules, sym, ◌∙◌}, lemmas.Result.err_from_is_err_and}
-use Rattle.ciborium_ll.specs.StringRefusal.{StringType}
+use Rattle.ciborium_ll.specs.declared.strings.StringType.{StringType}
 use Rattle.ciborium_value.specs.Given.{bare_bytes, given_bytes, outcome}
 use Rattle.ciborium.specs.{inner.ByteSources.fault_at, inner.StringContents.string_item}
 use Rattle.ciborium.proofs.Containers.ByteItems.{array-begun, array-refuses, array-takes, array-took, bytes-other}

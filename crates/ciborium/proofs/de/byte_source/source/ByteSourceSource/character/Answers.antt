@@ -1,6 +1,6 @@
 use Rattle.std.proofs.Common.{rules, ◌≡◌, ◌≤◌, ℕ, [], ◌∷◌, ap, ◌∙◌, Some, false, subst, arith, length, take}
 use Rattle.std.proofs.{Common.{length-append, chars, ◌+◌}, lemmas.Grind.common_steps, lemmas.Result.err_from_is_err_and}
-use Rattle.ciborium_ll.specs.{Accesses.left_at_failure, StringRefusal.StringType}
+use Rattle.ciborium_ll.specs.{Accesses.left_at_failure, declared.strings.StringType.StringType}
 use Rattle.ciborium_value.specs.{Sources.of_kind, Given.{given_character, lone_character, settled}}
 use Rattle.ciborium_value.proofs.Sources.Sequences.{fault_outside}
 use Rattle.ciborium.specs.{inner.ByteSources.{IsUnread, end_at, fault_at}, inner.Skips.TakesBare}

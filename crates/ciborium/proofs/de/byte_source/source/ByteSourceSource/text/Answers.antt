@@ -1,5 +1,5 @@
 use Rattle.std.proofs.{Common.{Some, ap, string_bytes}, lemmas.Result.err_from_is_err_and}
-use Rattle.ciborium_ll.specs.StringRefusal.{StringType}
+use Rattle.ciborium_ll.specs.declared.strings.StringType.{StringType}
 use Rattle.ciborium_value.specs.Given.{bare_text, given_text, settled}
 use Rattle.ciborium.proofs.Containers.ByteItems.{bare-refused, behind-refused, head-refused, other-refuses}
 use Rattle.ciborium.proofs.{Containers.ByteItems.{string-given, string-refuses}, Items.SkippedTags.untagged-under}
