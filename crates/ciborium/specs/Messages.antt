@@ -1,8 +1,7 @@
 -- What `{}` prints of an error of reading, and of one of writing.
 use Rattle.std.specs.{Prelude.{ℕ, List, ◌++◌, Option, Some, None, codes}, Fmt.◌++?◌}
-use Rattle.ciborium_ll.specs.HeadMessages.{at_byte, syntax_message, too_long_message, memory_message}
+use Rattle.ciborium_ll.specs.HeadMessages.{at_byte, syntax_message, too_long_message, memory_message, kind_message}
 use Rattle.ciborium_ll.specs.HeadMessages.{read_failure_message}
-use Rattle.ciborium_value.specs.RefusalMessages.{kind_message}
 use Rattle.ciborium.specs.{declared.de.error.Error.Error as ReadError, declared.ser.error.Error.Error as WriteError}
 use Rattle.ciborium.specs.declared.de.error.Error.TheVariants as read
 use Rattle.ciborium.specs.declared.ser.error.Error.TheVariants as write

@@ -6,7 +6,7 @@ use Rattle.ciborium_value.specs.{Encoding.{encoding, item_of}, Nesting.Limit, Pr
 use Rattle.ciborium_value.specs.{Readings.Reading, Sources.{Fault, of_kind, of_nesting, of_syntax, of_memory}}
 use Rattle.ciborium_value.specs.{Sources.{of_device, of_end, of_length, IsFaultOf, IsGrantedFault}, View.read_as}
 use Rattle.ciborium_value.specs.{Given.{Given, gives, outcome}, Tree.Tree, TreeAnswers.IsErrorOf}
-use Rattle.ciborium_value.specs.declared.error.Error.Error as TreeError
+use Rattle.ciborium_value.specs.declared.error.Error.{Error as TreeError}
 use Rattle.ciborium.specs.{Errors.fault_of, declared.de.error.Error.Error}
 use Rattle.ciborium_value.specs.declared.error.Error.TheVariants as of_tree
 

@@ -1,7 +1,8 @@
 //! What errors print, as a caller's contract says it.
 
 ghost use Rattle.std.specs.Prelude.{◌≡◌, IfOk, IfSome, None, string_bytes};
-ghost use Rattle.ciborium.specs.RefusalMessages.{kind_message, tree_error_message};
+ghost use Rattle.ciborium.specs.HeadMessages.{kind_message};
+ghost use Rattle.ciborium.specs.RefusalMessages.{tree_error_message};
 ghost use Rattle.ciborium.specs.Messages.{read_error_message, write_error_message};
 
 use ciborium::value::{self, Kind};
