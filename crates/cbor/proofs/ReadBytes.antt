@@ -2,12 +2,15 @@
 use Rattle.std.proofs.Common.{◌≡◌, ℕ, List, [], length, ◌==◌, Bool, true, IsTrue, Option, Some, None, IfSome, Err}
 use Rattle.std.proofs.lemmas.Bool.Decides.{nat_tests}
 use Rattle.ciborium_ll.specs.{Refusal.Refusal, declared.kind.Kind.TheVariants.TrailingData}
-use Rattle.ciborium.specs.SliceAnswers.{AreAllRead}
+use Rattle.ciborium_value.{proofs.GoodItems.RefusedKinds.refusal_kinds, specs.{Refuses.Refuses, Spelling.any}}
+use Rattle.ciborium.specs.SliceAnswers.{AreAllRead, RefusesTrailing}
 use Rattle.cbor.specs.{declared.answer.LineRefusal.LineRefusal, Spellings.RefusesItem}
 use Rattle.std.proofs.{Common.{unwrap_or, inl, inr, refl, ◌≢◌, sym, subst, arith}, lemmas.List.nil_from_length}
+use Rattle.std.proofs.Common.{◌+◌, ◌-◌, ◌<◌, ◌∷◌, ◌++◌, ◌∙◌, ap, length-append}
 use Rattle.ciborium.specs.{declared.de.error.Error.Error, ValueAnswers.IsRefusedBy}
 use Rattle.cbor.specs.{declared.answer.LineRefusal.TheVariants.Memory, declared.reading.Spelling.Spelling}
-use Rattle.cbor.specs.{declared.reading.Spelling.TheVariants.Any, Answer.{AreRefused, IsFrontRefused, StandsFor}}
+use Rattle.cbor.specs.{declared.reading.Spelling.TheVariants.Any, Answer.{AreRefused, HasTrailing, IsFrontRefused}}
+use Rattle.cbor.specs.Answer.{StandsFor}
 use Rattle.ciborium.specs.declared.de.error.Error.TheVariants as errors
 use Rattle.cbor.specs.declared.answer.LineRefusal.TheVariants as reasons
 
@@ -54,6 +57,26 @@ pub front-of-all : {E : Type 0} (e : Error E) (b : List ℕ) (limit : ℕ) →
     IsRefusedBy (Some []) e (RefusesItem Any b limit)
 front-of-all e b limit other (inl refuses) = refuses
 front-of-all e b limit other (inr trailing) = absurd {A = _} (other _ trailing.6)
+
+-- an error that names bytes behind an item is refused for them
+behind-item : {E : Type 0} (e : Error E) (b : List ℕ) (limit end : ℕ) →
+    e ≡ errors.Semantic (Some end) TrailingData → AreAllRead limit b (Err e) → RefusesTrailing limit b e
+behind-item e b limit end is (inl refuses) = absurd (refusal_kinds any b 0 (Some limit) _
+    (subst (λ x. IsRefusedBy (Some []) x (Refuses any b 0 (Some limit))) is refuses))
+behind-item e b limit end is (inr trailing) = trailing
+
+positive : (xs : List ℕ) → ¬ (xs ≡ []) → 0 < length xs
+positive [] some = absurd (some refl)
+positive (x ∷ xs) some = omega arith
+
+pub trailing-left : {E : Type 0} (e : Error E) (b : List ℕ) (limit end n : ℕ) →
+    e ≡ errors.Semantic (Some end) TrailingData → AreAllRead limit b (Err e) → n ≡ length b - end →
+    HasTrailing Any b limit n
+trailing-left e b limit end n is read size =
+    let (v, s, left, item, split, some, same) = behind-item e b limit end is read in
+    let at : end ≡ length s = cc in
+    let long : length b ≡ length s + length left = ap length split ∙ length-append s left in
+    (v, left, (s, item, split), positive left some, omega (arith, size, at, long))
 
 -- what such an error stands for refuses them
 pub slice-refused : {E : Type 0} (named : Option LineRefusal) (answer : LineRefusal) (e : Error E) (b : List ℕ)

@@ -14,3 +14,4 @@ pub mod Outcome
 pub mod GoodBytes
 pub mod Bounded
 pub mod ProperMeanings
+pub mod RefusedKinds

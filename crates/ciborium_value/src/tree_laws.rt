@@ -10,7 +10,7 @@ ghost use Rattle.ciborium_value.specs.laws.FormLaws.{FormIsAlike, FormIsItsOwn, 
 ghost use Rattle.ciborium_value.specs.laws.FormLaws.{OneFormWhereAlike};
 ghost use Rattle.ciborium_value.specs.laws.RefusalLaws.{DeterministicReading, GoodOrRefused};
 ghost use Rattle.ciborium_value.specs.laws.RefusalLaws.{NeverBoth, OneReading};
-ghost use Rattle.ciborium_value.specs.laws.RefusalLaws.{OneRefusal};
+ghost use Rattle.ciborium_value.specs.laws.RefusalLaws.{OneRefusal, RefusalKinds};
 ghost use Rattle.ciborium_value.specs.laws.NotationLaws.{OneTreeIsDenoted, PrintedAlikeIsEqual};
 ghost use Rattle.ciborium_value.specs.laws.NotationLaws.{PrintedIsDenoted};
 ghost use Rattle.ciborium_value.specs.Number.{BytesHoldNumber, NoLeadingZeros};
@@ -24,12 +24,14 @@ ghost use Rattle.ciborium_value.specs.WrittenItems.{WrittenTreeFolds, WrittenTre
 
 /// In every spelling, all bytes, at every offset and under every limit of levels, either begin with
 /// what is read as a tree or are refused, never both; and there is one tree alone, of the same
-/// bytes, or one refusal alone (RFC 8949, sections 4.2 and 5.3). What is read in a deterministic
-/// spelling is the deterministic encoding of a tree that a program can hold.
+/// bytes, or one refusal alone, of one of eight kinds where it names one (RFC 8949, sections 4.2
+/// and 5.3). What is read in a deterministic spelling is the deterministic encoding of a tree that
+/// a program can hold.
 pub fn good_or_refused()
     ensures one_of { GoodOrRefused }
     ensures never_both { NeverBoth }
     ensures one_refusal { OneRefusal }
+    ensures kinds { RefusalKinds }
     ensures one_reading { OneReading }
     ensures deterministic { DeterministicReading }
 {}

@@ -1,9 +1,10 @@
 -- What holds of what is read and of refusals, in every spelling.
 use Rattle.std.specs.Prelude.{◌≡◌, ◌↔◌, ℕ, ◌+◌, ◌≤◌, ◌⊎◌, List, ◌++◌, length}
-use Rattle.ciborium_ll.specs.{Bytes.{AreBytes, greatest_offset}, Refusal.Refusal}
+use Rattle.ciborium_ll.specs.{Bytes.{AreBytes, greatest_offset}, Refusal.{Refusal, semantic}, declared.kind.Kind.Kind}
 use Rattle.ciborium_value.specs.{DeterministicTrees.IsDeterministic, Encoding.item_of, Nesting.{Limit, IsWithin}}
 use Rattle.ciborium_value.specs.{Nesting.nesting, Refuses.Refuses, Spelling.{Spelling, deterministic, IsReadAs}}
 use Rattle.ciborium_value.specs.{Tree.Tree, declared.key_order.KeyOrder.KeyOrder}
+use Rattle.ciborium_ll.specs.declared.kind.Kind.TheVariants as kinds
 
 -- some beginning of b, whose first byte is at offset p, is read as a tree
 abbrev pub HasGoodItem : Spelling → List ℕ → ℕ → Limit → Type 0
@@ -23,6 +24,26 @@ NeverBoth = (spelling : Spelling) (b : List ℕ) (p : ℕ) (l : Limit) (e : Refu
 abbrev pub OneRefusal : Type 0
 OneRefusal = (spelling : Spelling) (b : List ℕ) (p : ℕ) (l : Limit) (e f : Refusal) → AreBytes b →
     Refuses spelling b p l e → Refuses spelling b p l f → e ≡ f
+
+-- for a reason of these kinds alone, the last four in the deterministic spelling
+abbrev pub IsRefusalKind : Kind → Type 0
+IsRefusalKind kinds.Float = Unit {0}
+IsRefusalKind kinds.Simple = Unit {0}
+IsRefusalKind kinds.Break = Unit {0}
+IsRefusalKind kinds.TooLarge = Unit {0}
+IsRefusalKind kinds.NotShortest = Unit {0}
+IsRefusalKind kinds.Open = Unit {0}
+IsRefusalKind kinds.NotFolded = Unit {0}
+IsRefusalKind kinds.KeyOrder = Unit {0}
+IsRefusalKind _ = ⊥
+
+abbrev pub NamesRefusalKind : Refusal → Type 0
+NamesRefusalKind (semantic p kind) = IsRefusalKind kind
+NamesRefusalKind _ = Unit {0}
+
+abbrev pub RefusalKinds : Type 0
+RefusalKinds = (spelling : Spelling) (b : List ℕ) (p : ℕ) (l : Limit) (e : Refusal) →
+    Refuses spelling b p l e → NamesRefusalKind e
 
 -- and as one tree alone, of the same bytes
 abbrev pub OneReading : Type 0
