@@ -1,7 +1,7 @@
 -- Keys of a map, which are read by the head with which they begin.
 use Rattle.std.proofs.Common.{◌≡◌, ◌≤◌, ◌+◌, ◌++◌, ◌∙◌, List, None, Option, Some, append_assoc, ap, false, length, refl}
 use Rattle.std.proofs.Common.{sym, subst, ℕ}
-use Rattle.ciborium_ll.specs.{Header.SpellsHeader, Item.{Item, array, bytes, float, negative, simple, tag, text}}
+use Rattle.ciborium_ll.specs.{Header.SpellsHeader, Item.{Item, text}}
 use Rattle.ciborium_ll.specs.{Item.unsigned, Spells.Spells, declared.header.Header.Header}
 use Rattle.ciborium_ll.specs.declared.strings.StringType.{StringType}
 use Rattle.ciborium_value.{proofs.Sources.Sequences.fault_map, specs.Given.{Given, gives, mapped, outcome}}
@@ -14,7 +14,6 @@ use Rattle.ciborium.specs.inner.ByteSources.{CountsHead, HasTaken, IsUnread, end
 use Rattle.ciborium.specs.inner.{FrontItems.{Denies, DeniesHead, Reads, TakesHead}, StringContents.DeniesContent}
 use Rattle.ciborium.specs.inner.StringContents.{TakesPlace}
 use Rattle.ciborium_ll.specs.declared.header.Header.TheVariants as header
-use Rattle.ciborium_ll.specs.Item as items
 
 -- the head tells how the key is read
 label-head : (h : Header) (i : Item) → header_of i ≡ h → head_label_type h ≡ label_type i

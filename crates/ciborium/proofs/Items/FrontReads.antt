@@ -16,7 +16,6 @@ use Rattle.ciborium_ll.specs.Refusal.{syntax, too_long, argument_length, payload
 use Rattle.ciborium_ll.specs.Refusal.{initial_refusal, HeadRefuses, IsUsable, head_refusal}
 use Rattle.ciborium_ll.specs.declared.{decoder.Decoder.Decoder, header.{Error.Error as LlError, Header.Header}}
 use Rattle.ciborium_value.specs.Sources.{IsGrantedFault, IsOutsideFault}
-use Rattle.ciborium_ll.specs.declared.header.Header.TheVariants as header
 use Rattle.ciborium_ll.specs.declared.header.Error.TheVariants as ll
 use Rattle.ciborium_ll.specs.ReaderSteps as reading
 use Rattle.ciborium.specs.declared.de.error.Error.TheVariants as errors

@@ -1,5 +1,5 @@
 -- Bytes that are loaded, and where they differ from the encoding that is due.
-use Rattle.std.proofs.Common.{◌≡◌, ℕ, ◌+◌, ◌-◌, ◌<◌, List, [], ◌∷◌, ◌++◌, length, take, drop, Option, Some, None, true}
+use Rattle.std.proofs.Common.{◌≡◌, ℕ, ◌+◌, ◌-◌, ◌<◌, List, [], ◌∷◌, ◌++◌, length, take, drop, Some, true}
 use Rattle.std.proofs.Common.{refl, sym, ap, ◌∙◌, subst, arith, eqb, get_or, Result, Ok, Err, IsErrAnd, inl}
 use Rattle.std.proofs.{Math.Seq.{take-add, take-length, take-suc}, lemmas.List.{take_all, length-drop}}
 use Rattle.std.proofs.{lemmas.Bool.Decides.Decides-eqb, lemmas.Slice.Eq.slice_eq-Decides}

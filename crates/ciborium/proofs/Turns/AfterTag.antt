@@ -18,7 +18,6 @@ use Rattle.ciborium.specs.{inner.Rules.head_fault, inner.ValuesInBytes.{IsAt, Is
 use Rattle.ciborium.proofs.Turns.Fronts.{Front, front-of, string-room, no-break, ahead-at, offset-at, PullsSo}
 use Rattle.ciborium.proofs.{Turns.Heads.{Got, got, good-head, good-at, bad-at, unpushed}, Turns.Pulled.refused-map}
 use Rattle.ciborium_ll.specs.declared.header.Header.TheVariants as header
-use Rattle.ciborium_ll.specs.Refusal as refusal
 use Rattle.ciborium_ll.specs.declared.kind.Kind.TheVariants as kinds
 use Rattle.ciborium_value.specs.declared.stack.NewFrame.TheVariants as new_frames
 use Rattle.ciborium_value.specs.Tree as trees

@@ -4,7 +4,7 @@ use Rattle.std.proofs.Common.{Some, None, MatchOption, Ok, refl, sym, ap, ◌∙
 use Rattle.std.proofs.lemmas.Bool.{eqb-false}
 use Rattle.ciborium_ll.{proofs.ShortestHead.none_is_shorter, specs.Decoding.{IsAhead, IsMeasured, Takes}}
 use Rattle.ciborium_ll.specs.{Decoding.{TakesBeforeAny, offset_of, with_left}, Head.{IsHead, IsSimple, shortest_head}}
-use Rattle.ciborium_ll.specs.{Header.{SpellsHeader, IsCounted}, Refusal.{HeadRefuses, IsUsable}}
+use Rattle.ciborium_ll.specs.{Header.{SpellsHeader, IsCounted}, Refusal.{HeadRefuses}}
 use Rattle.ciborium_ll.specs.declared.{decoder.Decoder.Decoder, header.Header.Header, kind.Kind.Kind}
 use Rattle.ciborium_value.proofs.GoodItems.Faults.{short-fault, fault-head, fault-open, fault-break, fault-float}
 use Rattle.ciborium_value.{proofs.GoodItems.Faults.{fault-simple, fault-undefined}, specs.Refuses.HasGoodHead}

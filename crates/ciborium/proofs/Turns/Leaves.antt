@@ -2,7 +2,7 @@
 use Rattle.std.proofs.Common.{◌≡◌, ℕ, suc, ◌+◌, ◌-◌, ◌<◌, ◌≤◌, Bool, true, false, List, [], ◌∷◌, ◌++◌, length, Option}
 use Rattle.std.proofs.Common.{Some, None, Result, Ok, Err, pos, negsuc, refl, sym, ap, ◌∙◌, subst, arith, inl, inr}
 use Rattle.ciborium_ll.specs.{Bytes.greatest_offset, Decoding.left_of, Head.break_byte, Header.SpellsHeader}
-use Rattle.ciborium_ll.specs.Refusal.{Refusal, semantic, recursion_limit_exceeded, IsUsable}
+use Rattle.ciborium_ll.specs.Refusal.{semantic, recursion_limit_exceeded, IsUsable}
 use Rattle.ciborium_ll.specs.declared.{decoder.Decoder.Decoder, header.Header.Header}
 use Rattle.ciborium_value.proofs.GoodItems.Introduced.{reads-positive, reads-negative, reads-simple, inside-begun}
 use Rattle.ciborium_value.{proofs.GoodItems.Introduced.reads-container, specs.{Meaning.simple_meaning, Refuses.Due}}
@@ -15,7 +15,6 @@ use Rattle.ciborium.specs.inner.{Around.IsOpen, Parts.{IsHeadAccepted, IsPartRea
 use Rattle.ciborium.specs.inner.Parts.{IsBehind, container_header, empty_container, begun_container}
 use Rattle.ciborium.specs.inner.ValuesInBytes.{StandsAt}
 use Rattle.ciborium_ll.specs.declared.header.Header.TheVariants as header
-use Rattle.ciborium_ll.specs.Refusal as refusal
 use Rattle.ciborium_ll.specs.declared.kind.Kind.TheVariants as kinds
 use Rattle.ciborium_value.specs.Tree as trees
 

@@ -5,7 +5,7 @@ use Rattle.std.proofs.Common.{sym, subst, arith}
 use Rattle.ciborium_ll.specs.{declared.header.Header.Header, declared.header.Error.Error as LlError}
 use Rattle.ciborium_ll.specs.{declared.decoder.Decoder.Decoder, Bytes.greatest_offset, Decoding.{ReadsNothing, Takes}}
 use Rattle.ciborium_ll.specs.{Decoding.left_of, Header.SpellsHeader, ReaderSteps.IsHeadTaken, Refusal.Refusal}
-use Rattle.ciborium_ll.specs.Refusal.{HeadRefuses, IsUsable, IsAtFront, argument_length}
+use Rattle.ciborium_ll.specs.Refusal.{IsUsable}
 use Rattle.ciborium.specs.{declared.de.error.Error.Error, Errors.from_ll, ValueAnswers.IsRefusedBy}
 use Rattle.ciborium.specs.inner.ValuesInBytes.{IsPulled, heads_by, heads_left}
 use Rattle.ciborium_ll.specs.declared.header.Error.TheVariants as ll

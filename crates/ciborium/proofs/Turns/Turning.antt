@@ -16,7 +16,6 @@ use Rattle.ciborium_value.proofs.GoodItems.Introduced.{reads-container, reads-ta
 use Rattle.ciborium.specs.{inner.Around.{trees_in_turn, map_due, IsAround}, inner.Rules.HasKeysInOrder}
 use Rattle.ciborium.specs.{inner.Rules.HasKeyOutOfOrder, inner.ValuesInBytes.IsBreakAt}
 use Rattle.ciborium.proofs.Turns.Paired.{in_turn-key, in_turn-value, turns-paired}
-use Rattle.ciborium_ll.specs.Refusal as refusal
 use Rattle.ciborium_ll.specs.declared.kind.Kind.TheVariants as kinds
 use Rattle.ciborium_value.specs.Tree as trees
 

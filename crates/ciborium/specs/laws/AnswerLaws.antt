@@ -1,6 +1,6 @@
 -- That known bytes and a limit leave one answer, whatever the scratch, the pieces in which the
 -- reader gives them, and the call.
-use Rattle.std.specs.Prelude.{◌≡◌, ℕ, ◌⊎◌, List, Option, Some, None, option_map, Result, Ok, Err}
+use Rattle.std.specs.Prelude.{◌≡◌, ℕ, ◌⊎◌, List, Option, Some, None, Result, Ok, Err}
 use Rattle.std.specs.declared.io.Error.{Error as IoError}
 use Rattle.ciborium_ll.specs.{Bytes.AreBytes, Refusal.Refusal, declared.kind.Kind.Kind}
 use Rattle.ciborium_value.specs.{declared.tree.Value.Value, Refuses.Refuses, View.tree_of}

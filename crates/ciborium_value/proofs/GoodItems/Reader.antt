@@ -10,7 +10,6 @@ use Rattle.ciborium_value.specs.{Canonical.key_order, Meaning.{simple_meaning, b
 use Rattle.ciborium_value.specs.{Nesting.Limit, Refuses.{Due, items, keys, values, next_due, keys_among}}
 use Rattle.ciborium_value.specs.{Spelling.{Spelling, any, deterministic, spelling_fault}, Tree.{Tree, integer, bytes}}
 use Rattle.ciborium_value.specs.{Tree.{text, tag}, declared.key_order.KeyOrder.KeyOrder, inner.ReadItems.container_of}
-use Rattle.ciborium_ll.specs.Refusal as refusal
 use Rattle.ciborium_ll.specs.declared.kind.Kind.TheVariants as kinds
 
 pub data Answer (A : Type 0) : Type 0 where

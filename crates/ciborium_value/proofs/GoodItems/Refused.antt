@@ -6,10 +6,10 @@ use Rattle.std.proofs.lemmas.Bool.{cond-true}
 use Rattle.ciborium_ll.proofs.{CutHeads.each-byte, FrontHeads.{Front, nothing, counted, opened, plain, raw, front}}
 use Rattle.ciborium_ll.proofs.{ReadHeads.{Face, faces}, UsableHeads.{EachIsByte, bytes_after, stands-front}}
 use Rattle.ciborium_ll.{proofs.UsableHeads.{stands-length, pass}, specs.Bytes.{AreBytes, greatest_offset}}
-use Rattle.ciborium_ll.specs.{Head.IsSimple, Refusal.{Refusal, syntax, semantic, recursion_limit_exceeded, IsUsable}}
-use Rattle.ciborium_ll.specs.{Refusal.{HeadRefuses, HasHead, IsAtFront}, StringRefusal.{string_major, IsAllowed}}
+use Rattle.ciborium_ll.specs.{Head.IsSimple, Refusal.{Refusal, syntax, semantic, IsUsable}}
+use Rattle.ciborium_ll.specs.{Refusal.{HasHead, IsAtFront}, StringRefusal.{string_major, IsAllowed}}
 use Rattle.ciborium_ll.specs.StringRefusal.{PayloadRefuses, StringRefuses, ChunkRefuses, OpenStringRefuses}
-use Rattle.ciborium_ll.specs.{StringRefusal.HasStringHead, declared.kind.Kind.{Kind, TheVariants.{Float, Simple}}}
+use Rattle.ciborium_ll.specs.{StringRefusal.HasStringHead, declared.kind.Kind.{TheVariants.{Float, Simple}}}
 use Rattle.ciborium_ll.specs.declared.kind.Kind.TheVariants.{Break, TooLarge, NotFolded}
 use Rattle.ciborium_ll.specs.declared.strings.StringType.{StringType}
 use Rattle.ciborium_value.proofs.GoodItems.{Answered.{kind_ok, rest-bytes}, Bignums.{foldable-small, foldable-is}}
@@ -27,7 +27,6 @@ use Rattle.ciborium_value.specs.Refuses.{keys, values, keys_among, IsDue, Begins
 use Rattle.ciborium_value.specs.{Refuses.{IsFoldingAt, Refuses}, Spelling.{Spelling, any, deterministic, IsReadAs}}
 use Rattle.ciborium_value.specs.{Spelling.{spelling_fault, IsUnwanted}, Tree.Tree, inner.ReadItems.string_tree}
 use Rattle.ciborium_value.specs.inner.ReadItems.{container_of}
-use Rattle.ciborium_ll.specs.Refusal as refusal
 use Rattle.ciborium_ll.specs.declared.kind.Kind.TheVariants as kinds
 use Rattle.ciborium_value.specs.Tree as trees
 

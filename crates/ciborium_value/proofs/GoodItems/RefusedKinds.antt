@@ -5,7 +5,7 @@ use Rattle.ciborium_ll.specs.{Bytes.greatest_offset, Refusal.{HeadRefuses, Refus
 use Rattle.ciborium_ll.specs.Refusal.{initial_refusal, io, is_low_simple, is_reserved, payload_length, syntax, too_long}
 use Rattle.ciborium_ll.specs.StringRefusal.{ChunkRefuses, PayloadRefuses}
 use Rattle.ciborium_ll.specs.declared.{kind.Kind.{Kind, TheVariants.{NotShortest, Open}}, strings.StringType.StringType}
-use Rattle.ciborium_value.specs.{Nesting.Limit, Refuses.Refuses, laws.RefusalLaws.{RefusalKinds, NamesRefusalKind}}
+use Rattle.ciborium_value.specs.{Refuses.Refuses, laws.RefusalLaws.{RefusalKinds, NamesRefusalKind}}
 use Rattle.ciborium_value.specs.{laws.RefusalLaws.IsRefusalKind, Spelling.{Spelling, any, deterministic}}
 use Rattle.ciborium_value.specs.Spelling.{deterministic_fault, is_long, spelling_fault}
 

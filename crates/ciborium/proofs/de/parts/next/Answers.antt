@@ -8,7 +8,6 @@ use Rattle.ciborium.proofs.Turns.Leaves.{container-part, float-refuses, got-end,
 use Rattle.ciborium.{proofs.Turns.Leaves.simple-refuses, specs.{ValueAnswers.IsRefusedBy, inner.Parts.IsHeadAccepted}}
 use Rattle.ciborium.specs.inner.{Parts.{IsPartRead, RefusesPart}, Rules.head_fault}
 use Rattle.ciborium_ll.specs.declared.header.Header.TheVariants as header
-use Rattle.ciborium_ll.specs.Refusal as refusal
 use Rattle.ciborium_ll.specs.declared.kind.Kind.TheVariants as kinds
 use Rattle.ciborium_value.specs.Tree as trees
 use Rattle.ciborium.proofs.de.parts.next.Goals as goal
