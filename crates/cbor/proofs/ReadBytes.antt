@@ -6,7 +6,7 @@ use Rattle.ciborium_value.{proofs.GoodItems.RefusedKinds.refusal_kinds, specs.{R
 use Rattle.ciborium.specs.SliceAnswers.{AreAllRead, RefusesTrailing}
 use Rattle.cbor.specs.{declared.answer.LineRefusal.LineRefusal, Spellings.RefusesItem}
 use Rattle.std.proofs.{Common.{unwrap_or, inl, inr, refl, ◌≢◌, sym, subst, arith}, lemmas.List.nil_from_length}
-use Rattle.std.proofs.Common.{◌+◌, ◌-◌, ◌<◌, ◌∷◌, ◌++◌, ◌∙◌, ap, length-append}
+use Rattle.std.proofs.Common.{◌+◌, ◌-◌, ◌<◌, ◌∷◌, ◌∙◌, ap, length-append}
 use Rattle.ciborium.specs.{declared.de.error.Error.Error, ValueAnswers.IsRefusedBy}
 use Rattle.cbor.specs.{declared.answer.LineRefusal.TheVariants.Memory, declared.reading.Spelling.Spelling}
 use Rattle.cbor.specs.{declared.reading.Spelling.TheVariants.Any, Answer.{AreRefused, HasTrailing, IsFrontRefused}}

@@ -2,7 +2,7 @@
 -- so, whatever follows it; and an item at the front is read.
 use Rattle.std.specs.Prelude.{◌≡◌, ℕ, ◌+◌, ◌≤◌, List, [], ◌++◌, length, Option, Some, None, Result, Ok, Err}
 use Rattle.std.specs.Io.KnownBytes.{Consumes}
-use Rattle.ciborium_ll.specs.{Bytes.{AreBytes, greatest_offset}, Refusal.Refusal, declared.kind.Kind.Kind}
+use Rattle.ciborium_ll.specs.{Bytes.{AreBytes, greatest_offset}, Refusal.Refusal}
 use Rattle.ciborium_value.specs.{Refuses.Refuses, Spelling.{Spelling, IsReadAs}, Tree.Tree}
 use Rattle.ciborium.specs.{declared.de.error.Error.Error, declared.de.error.Error.TheVariants.{Io, Syntax, Semantic}}
 use Rattle.ciborium.specs.declared.de.error.Error.TheVariants.{Memory, RecursionLimitExceeded, TooLong}
@@ -10,17 +10,13 @@ use Rattle.ciborium_ll.specs.Refusal as refusal
 
 -- ---- refusals
 
--- P holds of a refusal of a kind at an offset, which is named
-abbrev pub IsNamed : Option ℕ → Kind → (Refusal → Type 0) → Type 0
-IsNamed (Some p) k P = P (refusal.semantic p k)
-IsNamed None k P = ⊥
-
 -- an error other than `Memory`, of a call that leaves this of the reader, is a refusal of which P
 -- holds; `Io` is one where the reader came to its end
 abbrev pub IsRefusedBy : {E : Type 0} → Option (List ℕ) → Error E → (Refusal → Type 0) → Type 0
 IsRefusedBy left (Io e) P = left ≡ Some [] → P refusal.io
 IsRefusedBy left (Syntax p) P = P (refusal.syntax p)
-IsRefusedBy left (Semantic p k) P = IsNamed p k P
+IsRefusedBy left (Semantic (Some p) k) P = P (refusal.semantic p k)
+IsRefusedBy left (Semantic None k) P = ⊥
 IsRefusedBy left RecursionLimitExceeded P = P refusal.recursion_limit_exceeded
 IsRefusedBy left Memory P = Unit {0}
 IsRefusedBy left TooLong P = P refusal.too_long

@@ -1,9 +1,8 @@
 -- Keys of a map, which are read by the head with which they begin.
 use Rattle.std.proofs.Common.{◌≡◌, ◌≤◌, ◌+◌, ◌++◌, ◌∙◌, List, None, Option, Some, append_assoc, ap, false, length, refl}
 use Rattle.std.proofs.Common.{sym, subst, ℕ}
-use Rattle.ciborium_ll.specs.{Header.SpellsHeader, Item.{Item, text}}
-use Rattle.ciborium_ll.specs.{Item.unsigned, Spells.Spells, declared.header.Header.Header}
-use Rattle.ciborium_ll.specs.declared.strings.StringType.{StringType}
+use Rattle.ciborium_ll.specs.{Header.SpellsHeader, Item.{Item, text, unsigned}, Spells.Spells}
+use Rattle.ciborium_ll.specs.declared.{header.Header.Header, strings.StringType.StringType}
 use Rattle.ciborium_value.{proofs.Sources.Sequences.fault_map, specs.Given.{Given, gives, mapped, outcome}}
 use Rattle.ciborium_value.specs.{Labels.{Label, label_type, label_place, name_place, placed}, Nesting.Limit}
 use Rattle.ciborium_value.specs.{Places.is_open, Sources.{Fault, IsFaultOf, TakesOnly}}

@@ -2,7 +2,7 @@
 -- reader gives them, and the call.
 use Rattle.std.specs.Prelude.{◌≡◌, ℕ, ◌⊎◌, List, Option, Some, None, Result, Ok, Err}
 use Rattle.std.specs.declared.io.Error.{Error as IoError}
-use Rattle.ciborium_ll.specs.{Bytes.AreBytes, Refusal.Refusal, declared.kind.Kind.Kind}
+use Rattle.ciborium_ll.specs.{Bytes.AreBytes, Refusal.Refusal}
 use Rattle.ciborium_value.specs.{declared.tree.Value.Value, Refuses.Refuses, View.tree_of}
 use Rattle.ciborium_value.specs.Spelling.{any}
 use Rattle.ciborium.specs.{declared.de.error.Error.Error, declared.de.error.Error.TheVariants.{Io, Syntax, Semantic}}
@@ -16,16 +16,12 @@ abbrev pub IsReadAnswer : List ℕ → ℕ → Option (List ℕ) → Result Valu
 IsReadAnswer b l left (Ok v) = TakesValue any b l (tree_of v) left
 IsReadAnswer b l left (Err e) = IsRefusedBy left e (λ r. Refuses any b 0 (Some l) r)
 
--- the refusal of a kind at an offset
-abbrev pub semantic_of : Option ℕ → Kind → Option Refusal
-semantic_of (Some p) k = Some (refusal.semantic p k)
-semantic_of None k = None
-
 -- the refusal that an error names: `Io` is one where the reader came to its end
 abbrev pub refusal_of : Error IoError → Option Refusal
 refusal_of (Io e) = Some refusal.io
 refusal_of (Syntax p) = Some (refusal.syntax p)
-refusal_of (Semantic p k) = semantic_of p k
+refusal_of (Semantic (Some p) k) = Some (refusal.semantic p k)
+refusal_of (Semantic None k) = None
 refusal_of RecursionLimitExceeded = Some refusal.recursion_limit_exceeded
 refusal_of Memory = None
 refusal_of TooLong = Some refusal.too_long

@@ -6,11 +6,10 @@ use Rattle.std.proofs.lemmas.Bool.{cond-true}
 use Rattle.ciborium_ll.proofs.{CutHeads.each-byte, FrontHeads.{Front, nothing, counted, opened, plain, raw, front}}
 use Rattle.ciborium_ll.proofs.{ReadHeads.{Face, faces}, UsableHeads.{EachIsByte, bytes_after, stands-front}}
 use Rattle.ciborium_ll.{proofs.UsableHeads.{stands-length, pass}, specs.Bytes.{AreBytes, greatest_offset}}
-use Rattle.ciborium_ll.specs.{Head.IsSimple, Refusal.{Refusal, syntax, semantic, IsUsable}}
-use Rattle.ciborium_ll.specs.{Refusal.{HasHead, IsAtFront}, StringRefusal.{string_major, IsAllowed}}
-use Rattle.ciborium_ll.specs.StringRefusal.{PayloadRefuses, StringRefuses, ChunkRefuses, OpenStringRefuses}
-use Rattle.ciborium_ll.specs.{StringRefusal.HasStringHead, declared.kind.Kind.{TheVariants.{Float, Simple}}}
-use Rattle.ciborium_ll.specs.declared.kind.Kind.TheVariants.{Break, TooLarge, NotFolded}
+use Rattle.ciborium_ll.specs.{Head.IsSimple, Refusal.{Refusal, syntax, semantic, IsUsable, HasHead, IsAtFront}}
+use Rattle.ciborium_ll.specs.StringRefusal.{string_major, IsAllowed, PayloadRefuses, StringRefuses, ChunkRefuses}
+use Rattle.ciborium_ll.specs.{StringRefusal.{OpenStringRefuses, HasStringHead}, declared.kind.Kind.TheVariants.Float}
+use Rattle.ciborium_ll.specs.declared.kind.Kind.TheVariants.{Simple, Break, TooLarge, NotFolded}
 use Rattle.ciborium_ll.specs.declared.strings.StringType.{StringType}
 use Rattle.ciborium_value.proofs.GoodItems.{Answered.{kind_ok, rest-bytes}, Bignums.{foldable-small, foldable-is}}
 use Rattle.ciborium_value.proofs.GoodItems.{Bignums.{is-foldable, large-none}, Faults.{fault-break, fault-float}}
