@@ -74,7 +74,7 @@ impl LineRefusal {
     }
 }
 
-// Why an item has no meaning, in a word.
+// Why an item has no meaning, in a word. No other kind comes of reading a value.
 fn kind_word(kind: Kind) -> &'static str
     ensures { result.now ≡ kind_text kind }
 {

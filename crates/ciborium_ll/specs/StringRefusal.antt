@@ -9,7 +9,7 @@ abbrev pub string_major : StringType → ℕ
 string_major StringType.Bytes = 2
 string_major StringType.Text = 3
 
--- what a definite string of a kind may hold
+-- what a definite string of a type may hold
 abbrev pub IsAllowed : StringType → List ℕ → Type 0
 IsAllowed StringType.Bytes payload = AreBytes payload
 IsAllowed StringType.Text payload = IsUtf8 payload
@@ -27,11 +27,11 @@ abbrev pub StringRefuses : StringType → List ℕ → ℕ → Refusal → Type 
 StringRefuses kind b p e = (n : ℕ) × (k : ℕ) × (r : List ℕ) × HasHead b (string_major kind) n k r ×
     PayloadRefuses kind n p r e
 
--- a definite string of a kind begins here
+-- a definite string of a type begins here
 abbrev pub HasStringHead : StringType → List ℕ → Type 0
 HasStringHead kind b = (n : ℕ) × (k : ℕ) × (r : List ℕ) × HasHead b (string_major kind) n k r
 
--- a chunk of an open string at offset p: its head refuses, it refuses as a string of the kind, or
+-- a chunk of an open string at offset p: its head refuses, it refuses as a string of the type, or
 -- it is neither such a string
 -- nor the break
 pub data ChunkRefuses (kind : StringType) : List ℕ → ℕ → Refusal → Type 0 where

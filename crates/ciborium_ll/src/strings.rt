@@ -21,7 +21,7 @@ pub enum StringType {
 // The scratch of a caller that passes none.
 const OWN_SCRATCH: usize = 64;
 
-// Whether a string of the kind may hold these bytes.
+// Whether a string of this type may hold these bytes.
 #[inline(always)]
 fn is_allowed(kind: StringType, payload: &[u8]) -> bool
     ensures { IsTrue result ↔ IsAllowed kind payload.now }
