@@ -127,7 +127,7 @@ impl Levels {
             IsRoom self.old.limit (length self.old.levels.items) item →
             IsRoom self.old.limit (length self.new.levels.items) (await_of next)) }
     {
-        if token.opens_level() && self.is_full() {
+        if token.enters_level() && self.is_full() {
             return Err(NotationError::At(place, NotationFault::TooDeep));
         }
         match token {

@@ -37,7 +37,7 @@ impl Token {
     ghost use Rattle.ciborium_value.specs.inner.ReadTokens.{enters, token_read};
 
     /// Whether it enters a level.
-    pub fn opens_level(&self) -> bool
+    pub fn enters_level(&self) -> bool
         ensures { result ≡ enters (token_read self.now) }
     {
         matches!(

@@ -58,7 +58,7 @@ impl<'a, R, A: Access<R>> ByteSource<'a, R, A> {
     /// Enters the byte string at this offset whose head was taken last. Apart from `begin_seq`, so
     /// that the room for its bytes is made ready only here.
     #[inline(always)]
-    pub(crate) fn open_bytes(
+    pub(crate) fn enter_bytes(
         &mut self,
         alloc: Global,
         len: Option<usize>,

@@ -225,7 +225,7 @@ impl<'a, R, A: Access<R>> Source for ByteSource<'a, R, A> {
                 Ok(seq)
             }
             Header::Bytes(len) => {
-                let seq = self.open_bytes(alloc, len, offset)?;
+                let seq = self.enter_bytes(alloc, len, offset)?;
                 Ok(seq)
             }
             _ => Err(Error::Semantic(Some(offset), Kind::Array)),

@@ -52,7 +52,7 @@ pub returns-in_ok-seq-in-Bytes : goal.returns-in_ok-seq-in-Bytes
 returns-in_ok-seq-in-Bytes g c =
     let old = c.args.self.now in
     let mid = c.bare_head.new.self in
-    let new = c.open_bytes.new.self in
+    let new = c.enter_bytes.new.self in
     let q = c.in_ok-seq-in-Bytes.seq in
     let entered = c.in_ok-seq-in-Bytes.ensures in
     let reads = c.in_ok-header.ensures.reads in

@@ -1,7 +1,7 @@
 use Rattle.std.proofs.Common.{length, ap, arith, subst, sym}
 use Rattle.ciborium_ll.specs.declared.strings.StringType.{StringType}
 use Rattle.ciborium.specs.{inner.ByteSources.IsUnread, inner.StringContents.TakesContent}
-use Rattle.ciborium.proofs.de.byte_source.ByteSource.open_bytes.Goals as goal
+use Rattle.ciborium.proofs.de.byte_source.ByteSource.enter_bytes.Goals as goal
 
 pub returns-clause-ok : goal.returns-clause-ok
 returns-clause-ok g c = subst (TakesContent (IsUnread g.A.Access.remaining c.args.self.now)
