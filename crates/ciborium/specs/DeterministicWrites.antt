@@ -1,8 +1,9 @@
 -- What writing the deterministic form of a value puts out (RFC 8949, section 4.2).
 use Rattle.std.specs.{Prelude.{◌≡◌, ℕ, ◌<◌, List, length, take, Option, Result, Ok, Err}, Io.KnownBytes.Appends}
-use Rattle.ciborium_value.specs.{DeterministicForms.deterministic_form, Encoding.{encoding, item_of, written_tree}}
-use Rattle.ciborium_value.specs.{Sinks.{Named, Cause, value, memory, device}, Given.{Outcome, gives, refuses}}
-use Rattle.ciborium_value.specs.{Tree.Tree, WrittenItems.IsWritten, declared.key_order.KeyOrder.KeyOrder}
+use Rattle.ciborium_value.specs.{DeterministicForms.deterministic_form, Encoding.{encoding, item_of}, Given.Outcome}
+use Rattle.ciborium_value.specs.{Given.{gives, refuses}, Sinks.{Named, Cause, value, memory, device}, Tree.Tree}
+use Rattle.ciborium_value.specs.{WrittenItems.IsWritten, WrittenTrees.written_tree}
+use Rattle.ciborium_value.specs.declared.key_order.KeyOrder.{KeyOrder}
 use Rattle.ciborium.specs.{declared.ser.error.Error.Error, declared.ser.error.Error.TheVariants.{Io, Value, Memory}}
 
 -- the deterministic form of what a value names: that of the tree of the item, or the kind with

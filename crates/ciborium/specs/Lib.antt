@@ -47,6 +47,7 @@ pub use Rattle.ciborium_value.specs.Folded
 pub use Rattle.ciborium_value.specs.Spelling
 pub use Rattle.ciborium_value.specs.Refuses
 pub use Rattle.ciborium_value.specs.Encoding
+pub use Rattle.ciborium_value.specs.WrittenTrees
 pub use Rattle.ciborium_value.specs.Canonical
 pub use Rattle.ciborium_value.specs.Counts
 pub use Rattle.ciborium_value.specs.Order

@@ -1,8 +1,8 @@
 -- What a literal puts together, unless an allocation failed.
 use Rattle.std.specs.Prelude.{Bool, true, false, List, [], ◌∷◌, ◌++◌, map, Result, Ok, Err, Vec}
 use Rattle.std.specs.declared.alloc.Global.{Global}
-use Rattle.ciborium_value.specs.{Encoding.written_tree, Sinks.Named, Tree.Tree, View.{tree_of, trees_from}}
-use Rattle.ciborium_value.specs.{View.{tree_pairs_from, pair_trees, read_as}, declared.error.Error.Error}
+use Rattle.ciborium_value.specs.{Sinks.Named, Tree.Tree, View.{tree_of, trees_from, tree_pairs_from, pair_trees}}
+use Rattle.ciborium_value.specs.{View.read_as, WrittenTrees.written_tree, declared.error.Error.Error}
 use Rattle.ciborium_value.specs.{declared.error.Error.TheVariants.{Custom, Memory}, declared.tree.Value.Value}
 use Rattle.ciborium_value.specs.Tree as trees
 

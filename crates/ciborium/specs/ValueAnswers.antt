@@ -10,8 +10,8 @@ use Rattle.ciborium_ll.specs.Refusal as refusal
 
 -- ---- refusals
 
--- an error other than `Memory`, of a call that leaves this of the reader, is a refusal of which P
--- holds; `Io` is one where the reader came to its end
+-- an error other than `Memory` is a refusal of which P holds; `Io` is one where nothing is left, if
+-- this is what is left
 abbrev pub IsRefusedBy : {E : Type 0} → Option (List ℕ) → Error E → (Refusal → Type 0) → Type 0
 IsRefusedBy left (Io e) P = left ≡ Some [] → P refusal.io
 IsRefusedBy left (Syntax p) P = P (refusal.syntax p)
@@ -24,7 +24,8 @@ IsRefusedBy left TooLong P = P refusal.too_long
 -- ---- what a call promises
 
 -- A call reads one value in a spelling, within l levels. `before` is what the reader held, where
--- that is known, `after` what it is left with, and the answer stands by its tree.
+-- that is known, `after` what it is left with, which then is known too, and the answer stands by
+-- its tree.
 
 -- what the bytes s are that were taken from offset p on, where the answer is so: they are read as
 -- it; or refused so, whatever follows them
@@ -32,15 +33,15 @@ abbrev pub IsTakenFrom : {E : Type 0} → Spelling → ℕ → List ℕ → ℕ 
 IsTakenFrom spelling p s l (Ok v) = IsReadAs spelling s p (Some l) v
 IsTakenFrom spelling p s l (Err e) = (c : List ℕ) → IsRefusedBy (Some c) e (Refuses spelling (s ++ c) p (Some l))
 
--- from offset p on some bytes were taken, a beginning of those that are known, and to the greatest
--- offset at most; and so they are
+-- from offset p on, 0 for a call, some bytes were taken, a beginning of those that are known, and to
+-- the greatest offset at most; and so they are
 abbrev pub TakesBytes : {E : Type 0} → Spelling → ℕ → Option (List ℕ) → ℕ → Option (List ℕ) →
     Result Tree (Error E) → Type 0
 TakesBytes spelling p before l after r = (s : List ℕ) ×
     Consumes before after s × (p + length s ≤ greatest_offset) × IsTakenFrom spelling p s l r × AreBytes s
 
--- the reader failed before its end, or memory was refused: at its end `Io` is a refusal of the
--- definitions
+-- the reader failed before its end, where what it held was known, or memory was refused: at its
+-- end `Io` is a refusal of the definitions
 abbrev pub IsFailed : {E : Type 0} → Option (List ℕ) → Error E → Type 0
 IsFailed left (Io e) = ¬ (left ≡ Some [])
 IsFailed left Memory = Unit {0}

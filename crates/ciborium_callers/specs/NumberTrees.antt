@@ -2,11 +2,11 @@
 use Rattle.std.{proofs.Common.{ap, ◌∙◌}, specs.Prelude.{◌≡◌, pos, negsuc, Bool, true, false, ◌&&◌, nat_lt, Some}}
 use Rattle.std.specs.Prelude.{option_map, refl}
 use Rattle.ciborium.specs.{DeterministicForms.{deterministic_form, deterministic_forms, one_more}, Encoding.item_of}
-use Rattle.ciborium.specs.{Encoding.{items_of, written_tree, written_trees}, Folded.{folded, trees_folded}}
-use Rattle.ciborium.specs.{Given.{chosen, give, given_value, gives, outcome_map, refuse}, GivenParts.given_then}
-use Rattle.ciborium.specs.{Meaning.trees_more, Nesting.nesting, Number.number_tree, ReadsBack.{IsNameRead, Way}}
-use Rattle.ciborium.specs.{ReadsBack.{met-itself, named}, Tree.{Tree, Trees}, View.trees_from, lemmas.Descriptions.both}
-use Rattle.ciborium.specs.lemmas.{ItemsOfTrees.tree_is_written_as_itself, ReadsBackParts.such_that_back}
+use Rattle.ciborium.specs.{Encoding.items_of, Folded.{folded, trees_folded}, Given.{chosen, give, given_value, gives}}
+use Rattle.ciborium.specs.{Given.{outcome_map, refuse}, GivenParts.given_then, Meaning.trees_more, Nesting.nesting}
+use Rattle.ciborium.specs.{Number.number_tree, ReadsBack.{IsNameRead, Way, met-itself, named}, Tree.{Tree, Trees}}
+use Rattle.ciborium.specs.{View.trees_from, WrittenTrees.{written_tree, written_trees}, lemmas.Descriptions.both}
+use Rattle.ciborium.specs.{lemmas.ItemsOfTrees.tree_is_written_as_itself, lemmas.ReadsBackParts.such_that_back}
 use Rattle.ciborium.specs.lemmas.ReadsBackValues.{value-back}
 use Rattle.ciborium_value.specs.declared.key_order.KeyOrder.{KeyOrder}
 use Rattle.ciborium_ll.specs.declared.kind.Kind.TheVariants.{Other}
@@ -41,7 +41,7 @@ abbrev mutual
 
 mutual
   folded-number_tree : (t : Tree) → is_number_tree t ≡ true → folded t ≡ Some t
-  folded-number_tree (trees.integer z) h = refl
+  folded-number_tree (trees.integer (pos n)) h = refl
   folded-number_tree (trees.array vs) h = ap (option_map trees.array) (folded-number_trees vs h)
   folded-number_tree _ h = cc
 

@@ -7,13 +7,13 @@ use Rattle.ciborium_ll.specs.{Bytes.greatest_offset, Head.IsHead, declared.kind.
 
 -- what reading answers in place of a value; numbers are offsets
 pub data Refusal : Type 0 where
-  -- the bytes end inside a head or a payload
+  -- the bytes end where a head, or more of one or of a payload, is due
   io : Refusal
-  -- the bytes that stand here begin no well-formed item
+  -- what stands here spells no head, no text, or no chunk of the open string that it stands in
   syntax : ℕ → Refusal
   -- the next bytes would take the offset past the greatest
   too_long : Refusal
-  -- the item that begins here, or a break, has no meaning where it stands, for this reason
+  -- the item that begins here, or a break, has no meaning, or not in this spelling, for this reason
   semantic : ℕ → Kind → Refusal
   -- a container or tag stands where no level is left
   recursion_limit_exceeded : Refusal

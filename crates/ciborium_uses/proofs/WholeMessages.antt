@@ -2,8 +2,8 @@
 use Rattle.std.proofs.Common.{◌≡◌, ◌≤◌, refl, sym, subst, ◌∙◌, arith, ℕ, List, Ok, Some}
 use Rattle.ciborium.specs.{Encoding.item_of, Folded.folded, Nesting.nesting, Spells.Spells, Tree.Tree, View.tree_of}
 use Rattle.ciborium.specs.Writes.{IsWrittenAs}
-use Rattle.ciborium_value.proofs.FoldedTrees.Folding.{written_means_folded}
-use Rattle.ciborium_uses.proofs.{KeptLabels.{kept, one-header, one-map, one-value, read-back, spelled}, Nests.nests}
+use Rattle.ciborium_value.proofs.FoldedTrees.Nests.{meaning_nests}
+use Rattle.ciborium_uses.proofs.KeptLabels.{kept, one-header, one-map, one-value, read-back, spelled}
 use Rattle.ciborium_uses.specs.Envelopes.{AreAlike, AreClaimBytes, AreHeaders, AreLabels, IsHeader, IsMessage, IsWhole}
 use Rattle.ciborium_uses.specs.Envelopes.{OneEnvelope, SpelledIsRead, message_of, message_tree, shortest_bytes}
 use Rattle.ciborium_uses.specs.{Envelopes.wrapped_tree, declared.envelopes.Envelope.Envelope}
@@ -30,7 +30,7 @@ whole w t e fits h = record {
     claims = h.claims;
   };
   nests = fewer w _ _ _ h.unprotected_tree (tree_of e.unprotected)
-      (nests (item_of h.unprotected_tree) _ (written_means_folded h.unprotected_tree ∙ h.unprotected.folds))
+      (meaning_nests (item_of h.unprotected_tree) _ h.unprotected.folds)
       (subst (λ t. nesting (item_of (wrapped_tree w t)) ≤ 256) h.parts fits);
 }
 

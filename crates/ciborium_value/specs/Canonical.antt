@@ -10,7 +10,7 @@ bytewise_order = on encoding (slice_cmp nat_cmp)
 -- the canonical order: the shorter encoding first, then bytewise (RFC 8949, section 4.2.3; RFC
 -- 7049, section 3.9)
 abbrev pub canonical_order : Tree → Tree → Ordering
-canonical_order = then_cmp (on encoded_size nat_cmp) (on encoding (slice_cmp nat_cmp))
+canonical_order = then_cmp (on encoded_size nat_cmp) bytewise_order
 
 -- each by its name
 abbrev pub key_order : KeyOrder → Tree → Tree → Ordering

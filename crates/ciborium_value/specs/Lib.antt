@@ -6,6 +6,7 @@ pub mod Folded
 pub mod Spelling
 pub mod Refuses
 pub mod Encoding
+pub mod WrittenTrees
 pub mod Canonical
 pub mod Counts
 pub mod Order

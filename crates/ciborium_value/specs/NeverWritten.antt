@@ -2,10 +2,10 @@
 use Rattle.std.{proofs.Common.{ap, ◌∙◌}, specs.Prelude.{◌≡◌, ℕ, ◌^◌, ℤ, pos, negsuc, Bool, true, false, List, Option}}
 use Rattle.std.specs.Prelude.{Some, None, Result, Ok, Err, IfOk, if◌then◌else◌, nat_lt, refl}
 use Rattle.ciborium_ll.specs.{Item.Item, declared.kind.Kind.Kind}
-use Rattle.ciborium_value.specs.{Encoding.{boolean_item, item_of, written_tree}, Folded.short_bytes, Given.is_null}
-use Rattle.ciborium_value.specs.{Places.{Shape, sequence, dictionary}, ReadsBack.{IsDefinite, named, of_ok}}
-use Rattle.ciborium_value.specs.Sinks.{Named, all_named, bignum_item, contained, container_of, number_item, or_null}
-use Rattle.ciborium_value.specs.lemmas.ReadsBackNumbers.{definite-number}
+use Rattle.ciborium_value.specs.{Encoding.{boolean_item, item_of}, Folded.short_bytes, Given.is_null, Places.Shape}
+use Rattle.ciborium_value.specs.{Places.{sequence, dictionary}, ReadsBack.{IsDefinite, named, of_ok}, Sinks.Named}
+use Rattle.ciborium_value.specs.Sinks.{all_named, bignum_item, contained, container_of, number_item, or_null}
+use Rattle.ciborium_value.specs.{WrittenTrees.written_tree, lemmas.ReadsBackNumbers.definite-number}
 use Rattle.ciborium_ll.specs.Item as items
 
 -- what a value is never written as

@@ -3,10 +3,10 @@ use Rattle.std.proofs.{Common.{sym, ap, subst, ◌∙◌, append-nil}, lemmas.St
 use Rattle.std.specs.{Char.IsScalar, Prelude.{◌≡◌, ℕ, Bool, true, false, List, [], ◌∷◌, Result, Ok, Err, IfOk, chars}}
 use Rattle.std.specs.{Prelude.{encode_utf8, String, string_bytes, refl}, declared.alloc.Global.Global}
 use Rattle.ciborium_ll.specs.Item.{Item}
-use Rattle.ciborium_value.specs.{DeterministicForms.deterministic_form, Encoding.{boolean_item, item_of, written_tree}}
-use Rattle.ciborium_value.specs.{Nesting.{Limit, IsWithin}, Sinks.Named, Given.{Given, Outcome, gives, lone_character}}
-use Rattle.ciborium_value.specs.Given.{outcome, outcome_map, given_boolean, given_bytes, given_character, given_text}
-use Rattle.ciborium_value.specs.{Given.{given_unit, settled}, declared.key_order.KeyOrder.KeyOrder}
+use Rattle.ciborium_value.specs.{DeterministicForms.deterministic_form, Encoding.{boolean_item, item_of}, Given.Given}
+use Rattle.ciborium_value.specs.Given.{Outcome, gives, lone_character, outcome, outcome_map, given_boolean, given_bytes}
+use Rattle.ciborium_value.specs.{Given.{given_character, given_text, given_unit, settled}, Nesting.{Limit, IsWithin}}
+use Rattle.ciborium_value.specs.{Sinks.Named, WrittenTrees.written_tree, declared.key_order.KeyOrder.KeyOrder}
 use Rattle.ciborium_value.specs.lemmas.GivenOutcomes.{one_given}
 use Rattle.ciborium_ll.specs.Item as items
 

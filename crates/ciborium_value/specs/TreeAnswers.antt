@@ -1,9 +1,10 @@
 -- What writing a value as a tree, and reading one from a tree, answers.
 use Rattle.std.specs.Prelude.{◌≡◌, Ok, Err}
 use Rattle.ciborium_ll.specs.Item.{Item}
-use Rattle.ciborium_value.specs.{Encoding.{item_of, written_tree}, Given.{Outcome, refuses}, Sinks.{Cause, Named}}
-use Rattle.ciborium_value.specs.{Sinks.{memory, value}, Sources.{Fault, of_kind, of_memory}, View.tree_of}
-use Rattle.ciborium_value.specs.declared.{error.Error.{Error, TheVariants.{Custom, Memory}}, tree.Value.Value}
+use Rattle.ciborium_value.specs.{Encoding.item_of, Given.{Outcome, refuses}, Sinks.{Cause, Named, memory, value}}
+use Rattle.ciborium_value.specs.{Sources.{Fault, of_kind, of_memory}, View.tree_of, WrittenTrees.written_tree}
+use Rattle.ciborium_value.specs.{declared.error.Error.Error, declared.error.Error.TheVariants.{Custom, Memory}}
+use Rattle.ciborium_value.specs.declared.tree.Value.{Value}
 
 abbrev pub tree_cause : Error → Cause
 tree_cause (Custom k) = value k

@@ -4,8 +4,8 @@ use Rattle.std.specs.Prelude.{◌≡◌, ℕ, ◌≤◌, ◌<◌, Bool, true, fa
 use Rattle.ciborium_ll.specs.{Bytes.greatest_offset, Item.{Item, unsigned, negative, bytes, text, array, map, tag}}
 use Rattle.ciborium_ll.specs.Item.{simple, float, Items, no_items, item, Pairs, no_pairs, pair, items_count}
 use Rattle.ciborium_ll.specs.{Item.pairs_count, ProperItems.{IsArgument, IsProperBytes, IsProperText}, Spells.Spells}
-use Rattle.ciborium_value.specs.{Encoding.{item_of, written_bytes, written_tree}, Folded.folded, Meaning.meaning}
-use Rattle.ciborium_value.specs.{ProperTrees.IsProperTree, Tree.Tree}
+use Rattle.ciborium_value.specs.{Encoding.{item_of, written_bytes}, Folded.folded, Meaning.meaning}
+use Rattle.ciborium_value.specs.{ProperTrees.IsProperTree, Tree.Tree, WrittenTrees.written_tree}
 
 -- a count that a head announces; an open container announces none
 abbrev pub IsAnnounced : Bool → ℕ → Type 0

@@ -2,8 +2,7 @@
 //! function that does nothing.
 
 ghost use Rattle.ciborium_value.specs.laws.Examples.{WorkedExamples};
-ghost use Rattle.ciborium_value.specs.laws.FoldingLaws.{EncodingIsGood, FoldsOnce};
-ghost use Rattle.ciborium_value.specs.laws.FoldingLaws.{WrittenMeansFolded};
+ghost use Rattle.ciborium_value.specs.laws.FoldingLaws.{EncodingIsGood, FoldsOnce, MeaningNests};
 ghost use Rattle.ciborium_value.specs.laws.FormLaws.{AcceptedWhereOwnForm, AlikeHaveOneForm};
 ghost use Rattle.ciborium_value.specs.laws.FormLaws.{FormOrRefused, RefusedByDuplicates};
 ghost use Rattle.ciborium_value.specs.laws.FormLaws.{FormIsAlike, FormIsItsOwn, FormIsProper};
@@ -36,11 +35,11 @@ pub fn good_or_refused()
     ensures deterministic { DeterministicReading }
 {}
 
-/// What is written for a tree means the folded tree, and folding twice is folding once. So a tree
-/// that a program can hold, and that folds, is read back as the folded tree (RFC 8949, section
-/// 3.4.3).
+/// What an item means nests no deeper than the item. A tree folded is what its encoding means, and
+/// folding twice is folding once. So a tree that a program can hold, and that folds, is read back as
+/// the folded tree, within the levels that the tree takes (RFC 8949, section 3.4.3).
 pub fn meaning_of_written_is_folded()
-    ensures meaning { WrittenMeansFolded }
+    ensures nests { MeaningNests }
     ensures once { FoldsOnce }
     ensures read_back { EncodingIsGood }
 {}

@@ -8,9 +8,9 @@ use Rattle.ciborium_ll.{proofs.UniqueSpelling.one_item, specs.{Bytes.AreBytes, H
 use Rattle.ciborium_ll.specs.{Head.simple_bytes, Item.{items_count, pairs_count}, Spells.IsDefiniteString}
 use Rattle.ciborium_ll.specs.Spells.{IsContainer, Spells, SpellsItems, SpellsPairs}
 use Rattle.ciborium_value.proofs.Orders.{HeadsInOrder.heads_decide, TreeEncodings.encoding-spells}
-use Rattle.ciborium_value.specs.Encoding.{item_of, items_of, pairs_of, encoding, items_bytes, pairs_bytes, written_tree}
-use Rattle.ciborium_value.specs.Tree.{Tree, integer, bytes, text, boolean, null, tag, array, map, Trees, no_trees, tree}
-use Rattle.ciborium_value.specs.Tree.{TreePairs, no_tree_pairs, tree_pair}
+use Rattle.ciborium_value.specs.{Encoding.{item_of, items_of, pairs_of, encoding, items_bytes, pairs_bytes}, Tree.Tree}
+use Rattle.ciborium_value.specs.Tree.{integer, bytes, text, boolean, null, tag, array, map, Trees, no_trees, tree}
+use Rattle.ciborium_value.specs.{Tree.{TreePairs, no_tree_pairs, tree_pair}, WrittenTrees.written_tree}
 use Rattle.ciborium_value.specs.lemmas.ItemsOfTrees.{tree_is_written_as_itself}
 use Rattle.ciborium.specs.laws.EncodingLaws.{OneTree, EncodingSpells, OthersAreLonger, HeadsRise}
 

@@ -2,12 +2,12 @@
 use Rattle.std.proofs.Common.{◌≡◌, ℕ, List, [], ◌++◌, Option, Some, None, Ok, Err, refl, sym, ap, ◌∙◌, subst}
 use Rattle.std.proofs.Common.{append-nil, arith}
 use Rattle.ciborium_ll.proofs.UniqueSpelling.{one_at_front}
-use Rattle.ciborium_value.specs.{DeterministicForms.deterministic_form, Encoding.{encoding, item_of, written_tree}}
-use Rattle.ciborium_value.specs.{lemmas.ItemsOfTrees.tree_is_written_as_itself, Nesting.{Limit, IsWithin}}
+use Rattle.ciborium_value.specs.{DeterministicForms.deterministic_form, Encoding.{encoding, item_of}, Given.Outcome}
+use Rattle.ciborium_value.specs.{Given.{Given, gives, outcome, outcome_map}, Nesting.{Limit, IsWithin}}
 use Rattle.ciborium_value.specs.{Readings.Reading, ReadsBack.{IsPlainlyReadBack, IsReadFromForm, by_tree}, Sinks.Named}
-use Rattle.ciborium_value.specs.{Given.{Outcome, Given, gives, outcome, outcome_map}, Tree.Tree, View.tree_of}
-use Rattle.ciborium_value.specs.{WrittenItems.IsWritten, declared.key_order.KeyOrder.KeyOrder}
-use Rattle.ciborium_value.specs.{declared.tree.Value.Value, Spelling.deterministic}
+use Rattle.ciborium_value.specs.{Spelling.deterministic, Tree.Tree, View.tree_of, WrittenItems.IsWritten}
+use Rattle.ciborium_value.specs.{WrittenTrees.written_tree, declared.key_order.KeyOrder.KeyOrder}
+use Rattle.ciborium_value.specs.{declared.tree.Value.Value, lemmas.ItemsOfTrees.tree_is_written_as_itself}
 use Rattle.ciborium_value.proofs.Forms.OwnForms.{accepted_where_own_form, form_is_its_own}
 use Rattle.ciborium_value.proofs.{Forms.ProperForms.form_is_proper, Writing.ReadBack.written_spells_item}
 use Rattle.ciborium_value.proofs.{GoodItems.Accepted.written-item, Sources.Limits.same-within}

@@ -2,12 +2,12 @@
 use Rattle.std.proofs.Common.{◌≡◌, ℕ, List, [], ◌++◌, length, Option, Some, None, Result, Ok, Err, refl, sym, ap, ◌∙◌}
 use Rattle.std.{proofs.Common.{◌+◌, subst, append-nil, arith}, specs.declared.io.Error.Error as IoError}
 use Rattle.ciborium_ll.{proofs.UniqueSpelling.one_at_front, specs.Item.Item}
-use Rattle.ciborium_value.{proofs.Writing.ReadBack.written_spells_item, specs.Encoding.{item_of, written_bytes}}
-use Rattle.ciborium_value.specs.{Encoding.written_tree, Given.{Outcome, gives, outcome}, Nesting.IsWithin}
+use Rattle.ciborium_value.specs.{Encoding.{item_of, written_bytes}, Given.{Outcome, gives, outcome}, Nesting.IsWithin}
 use Rattle.ciborium_value.specs.{Readings.Reading, ReadsBack.{IsPlainlyReadBack, by_bytes, by_tree}, Sinks.Named}
 use Rattle.ciborium_value.specs.Sources.{Fault, of_syntax, of_memory, of_device, of_end, of_length, IsFaultOf}
 use Rattle.ciborium_value.specs.{Sources.IsOutsideFault, TreeAnswers.{IsTreeOf, value_item}, WrittenItems.IsWritten}
-use Rattle.ciborium_value.specs.declared.tree.Value.{Value}
+use Rattle.ciborium_value.specs.{WrittenTrees.written_tree, declared.tree.Value.Value}
+use Rattle.ciborium_value.proofs.Writing.ReadBack.{written_spells_item}
 use Rattle.ciborium.specs.{Errors.fault_of, TypedAnswers.{AnswersBytes, TakesGiving}, Writes.IsNamedWritten}
 use Rattle.ciborium.specs.{Writes.WritesNamed, declared.{de.error.Error.Error, ser.error.Error.Error as WriteError}}
 use Rattle.ciborium.specs.laws.RoundTrips.{BytesReadBack, IsContentReadBack, IsGivenBack, TreeGivesContent}

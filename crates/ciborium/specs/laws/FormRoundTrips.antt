@@ -2,10 +2,11 @@
 use Rattle.std.specs.Prelude.{◌≡◌, ℕ, ◌≤◌, List, [], ◌++◌, length, Option, Some, None, Result, Ok, Err}
 use Rattle.std.specs.declared.io.Error.{Error as IoError}
 use Rattle.ciborium_ll.specs.Bytes.{greatest_offset}
-use Rattle.ciborium_value.specs.{DeterministicForms.deterministic_form, Encoding.{encoding, item_of, written_tree}}
-use Rattle.ciborium_value.specs.{Nesting.nesting, ProperTrees.IsProperTree, Readings.Reading, Sinks.Named, Given.Given}
-use Rattle.ciborium_value.specs.{Given.{gives, outcome}, Tree.Tree, View.tree_of, declared.key_order.KeyOrder.KeyOrder}
-use Rattle.ciborium_value.specs.{declared.tree.Value.Value, Spelling.deterministic}
+use Rattle.ciborium_value.specs.{DeterministicForms.deterministic_form, Encoding.{encoding, item_of}, Given.Given}
+use Rattle.ciborium_value.specs.{Given.{gives, outcome}, Nesting.nesting, ProperTrees.IsProperTree, Readings.Reading}
+use Rattle.ciborium_value.specs.{Sinks.Named, Spelling.deterministic, Tree.Tree, View.tree_of}
+use Rattle.ciborium_value.specs.{WrittenTrees.written_tree, declared.key_order.KeyOrder.KeyOrder}
+use Rattle.ciborium_value.specs.declared.tree.Value.{Value}
 use Rattle.ciborium.specs.{declared.de.error.Error.Error, ValueAnswers.{AnswersGoodItem, GivesTree}}
 use Rattle.ciborium.specs.{ValueClauses.ReadsWhole, DeterministicWrites.{IsFormWritten, WritesForm, named_form}}
 use Rattle.ciborium.specs.TypedAnswers.{TakesGiven}

@@ -4,15 +4,16 @@ use Rattle.std.{proofs.{Common.{ap, sym, subst, ◌∙◌, arith}, lemmas.Bool.D
 use Rattle.std.specs.Prelude.{suc, Bool, true, false, nat_lt, List, Option, Some, None, Ok, Err, IfOk, if◌then◌else◌}
 use Rattle.std.specs.Prelude.{refl}
 use Rattle.ciborium_ll.specs.Item.{Item}
-use Rattle.ciborium_value.specs.{DeterministicForms.{deterministic_form, tag_form}, Encoding.{item_of, written_tree}}
+use Rattle.ciborium_value.specs.{DeterministicForms.{deterministic_form, tag_form}, Encoding.item_of}
 use Rattle.ciborium_value.specs.{Folded.{short_bytes, tree_folding_bytes}, Given.{Given, deeper, gives, mapped}}
 use Rattle.ciborium_value.specs.Given.{outcome, outcome_map, outer_tag, refuses, then_take, within_level}
 use Rattle.ciborium_value.specs.{GivenParts.given_then, Meaning.is_bignum_tag, Nesting.{Limit, IsWithin}}
 use Rattle.ciborium_value.specs.{NeverWritten.{Avoided, IsNever, IsOther, byte_strings, nulls}, ReadsBack.IsItemRead}
 use Rattle.ciborium_value.specs.ReadsBack.{IsNameRead, IsPlain, Way, at, by_bytes, by_form, by_tree, met, name-back}
 use Rattle.ciborium_value.specs.{ReadsBack.of_ok, Sinks.{Named, tag_of}, TagReadings.{if_tag, is_no_other_tag, is_tag}}
-use Rattle.ciborium_value.specs.{TagReadings.given_with_tag, Tree.Tree, declared.key_order.KeyOrder.KeyOrder}
-use Rattle.ciborium_value.specs.lemmas.{GivenOutcomes.{mapped_gives, one_given}, MetItems.{form-kept, inside}}
+use Rattle.ciborium_value.specs.{TagReadings.given_with_tag, Tree.Tree, WrittenTrees.written_tree}
+use Rattle.ciborium_value.specs.{declared.key_order.KeyOrder.KeyOrder, lemmas.GivenOutcomes.{mapped_gives, one_given}}
+use Rattle.ciborium_value.specs.lemmas.MetItems.{form-kept, inside}
 use Rattle.ciborium.specs.Tags.{captured_of}
 use Rattle.ciborium_ll.specs.Item as items
 use Rattle.ciborium_value.specs.Tree as trees

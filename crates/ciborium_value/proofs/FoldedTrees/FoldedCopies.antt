@@ -15,7 +15,7 @@ use Rattle.ciborium_ll.specs.declared.kind.Kind.{Kind}
 use Rattle.ciborium_value.specs.{declared.tree.Value.Value, inner.FoldedCopies.{where_folded, copied, pairs_in_turn}}
 use Rattle.ciborium_value.specs.inner.FoldedCopies.{nodes_of, IsUnfolded, path_trees, coming_trees, all_coming}
 use Rattle.ciborium_value.specs.{inner.Frames.{TreeFrame, Placed, done, more, placed}, lemmas.GivenOutcomes.pair_first}
-use Rattle.ciborium_value.specs.lemmas.{GivenOutcomes.tree_first, ItemsOfTrees.short_string-item_of}
+use Rattle.ciborium_value.specs.lemmas.GivenOutcomes.{tree_first}
 use Rattle.ciborium_value.specs.inner.Frames as frames
 use Rattle.ciborium_value.specs.Tree as trees
 use Rattle.ciborium_ll.specs.declared.kind.Kind.TheVariants as kinds
@@ -56,8 +56,6 @@ mutual
   given-folded (trees.boolean false) = refl
   given-folded (trees.boolean true) = refl
   given-folded (trees.tag t v) =
-      ap (λ o. outcome None (given_tag t (cond (is_bignum_tag t) o None) (given_value (item_of v))))
-      (short_string-item_of v) ∙
       tag-meaning t (tree_folding_bytes t v) (given_value (item_of v)) (folded v) (given-folded v)
   given-folded (trees.array vs) = ap (outcome_map trees.array) (items-folded vs) ∙
       map-meaning kinds.TooLarge trees.array (trees_folded vs)

@@ -1,47 +1,14 @@
--- The item of a tree means the folded tree, and what is folded folds no further.
+-- What is folded folds no further.
 use Rattle.std.proofs.Common.{le-leb, leb-true, subst, ◌≡◌, ℕ, ◌^◌, ◌≤◌, cond, ltb, leb, eqb, Bool, true, false, List}
 use Rattle.std.proofs.Common.{length, Option, Some, None, refl, ap, ◌∙◌, arith, pos, negsuc, option_map}
-use Rattle.ciborium_value.specs.{Encoding.{item_of, items_of, pairs_of}, Folded.{short_bytes, tree_folding_bytes}}
-use Rattle.ciborium_value.specs.{Folded.{folded, trees_folded, tree_pairs_folded}, laws.FoldingLaws.WrittenMeansFolded}
+use Rattle.ciborium_value.{proofs.FoldedTrees.Nests.{IsShort, short-bytes}, specs.Encoding.item_of}
+use Rattle.ciborium_value.specs.Folded.{folded, short_bytes, tree_folding_bytes, tree_pairs_folded, trees_folded}
 use Rattle.ciborium_value.specs.{laws.FoldingLaws.FoldsOnce, Meaning.{big_endian, without_zeros, bignum_meaning}}
 use Rattle.ciborium_value.specs.Meaning.{unsigned_bignum, negative_bignum, is_bignum_tag, tag_meaning, simple_meaning}
-use Rattle.ciborium_value.specs.Meaning.{trees_more, tree_pairs_more, meaning, items_meaning, pairs_meaning}
-use Rattle.ciborium_value.specs.{lemmas.ItemsOfTrees.short_string-item_of, lemmas.ReadsBackBignums.zeros_hold_nothing}
+use Rattle.ciborium_value.specs.{Meaning.{trees_more, tree_pairs_more}, lemmas.ReadsBackBignums.zeros_hold_nothing}
 use Rattle.ciborium_value.specs.{lemmas.ReadsBackBignums.{no_zeros_twice, length-without_zeros}, Tree.{Tree, integer}}
 use Rattle.ciborium_value.specs.Tree.{bytes, text, boolean, null, tag, array, map, Trees, no_trees, tree, TreePairs}
 use Rattle.ciborium_value.specs.Tree.{no_tree_pairs, tree_pair}
-
--- ---- what is written means the folded tree
-
-mutual
-  unfolding simple_meaning
-
-  pub written_means_folded : WrittenMeansFolded
-  written_means_folded (integer (pos n)) = refl
-  written_means_folded (integer (negsuc n)) = refl
-  written_means_folded (bytes b) = refl
-  written_means_folded (text b) = refl
-  written_means_folded (boolean false) = refl
-  written_means_folded (boolean true) = refl
-  written_means_folded null = refl
-  written_means_folded (tag t v) = ap (λ o. tag_meaning t (cond (is_bignum_tag t) o None) (meaning (item_of v)))
-      (short_string-item_of v) ∙ ap (tag_meaning t (tree_folding_bytes t v)) (written_means_folded v)
-  written_means_folded (array vs) = ap (option_map array) (items_meaning-items_of vs)
-  written_means_folded (map ps) = ap (option_map map) (pairs_meaning-pairs_of ps)
-
-  items_meaning-items_of : (vs : Trees) → items_meaning (items_of vs) ≡ trees_folded vs
-  items_meaning-items_of no_trees = refl
-  items_meaning-items_of (tree v vs) = ap (λ o. trees_more o (items_meaning (items_of vs))) (written_means_folded v) ∙
-      ap (trees_more (folded v)) (items_meaning-items_of vs)
-
-  pairs_meaning-pairs_of : (ps : TreePairs) → pairs_meaning (pairs_of ps) ≡ tree_pairs_folded ps
-  pairs_meaning-pairs_of no_tree_pairs = refl
-  pairs_meaning-pairs_of (tree_pair k v ps) =
-      ap (λ o. tree_pairs_more o (meaning (item_of v)) (pairs_meaning (pairs_of ps))) (written_means_folded k) ∙
-      ap (λ o. tree_pairs_more (folded k) o (pairs_meaning (pairs_of ps))) (written_means_folded v) ∙
-      ap (tree_pairs_more (folded k) (folded v)) (pairs_meaning-pairs_of ps)
-
--- ---- folding once
 
 -- the leading zeros of a bignum do not change what it means
 bignum_meaning-without_zeros : (t : ℕ) (b : List ℕ) → bignum_meaning t (without_zeros b) ≡ bignum_meaning t b
@@ -62,11 +29,6 @@ AreFolded (Some ws) = trees_folded ws ≡ Some ws
 abbrev PairsAreFolded : Option TreePairs → Type 0
 PairsAreFolded None = Unit {0}
 PairsAreFolded (Some ps) = tree_pairs_folded ps ≡ Some ps
-
--- the bytes over which a tag folds are few
-abbrev IsShort : Option (List ℕ) → Type 0
-IsShort None = Unit {0}
-IsShort (Some b) = length b ≤ 16
 
 -- a tag folds over what folding answers as it folds over these bytes
 abbrev KeepsBytes : Option (List ℕ) → Option Tree → Type 0
@@ -142,16 +104,8 @@ PairsAreFolded-more (Some k) (Some v) (Some ps) h i j =
     ap (λ o. tree_pairs_more (Some k) o (tree_pairs_folded ps)) i ∙ ap (tree_pairs_more (Some k) (Some v)) j
 PairsAreFolded-more u v w h i j = tt
 
-IsShort-short_bytes : (v : Tree) → IsShort (short_bytes v)
-IsShort-short_bytes (bytes b) = by (leb (length b) 16) refl
-  where
-    by : (c : Bool) → leb (length b) 16 ≡ c → IsShort (cond c (Some b) None)
-    by true e = leb-true (length b) 16 e
-    by false e = tt
-IsShort-short_bytes _ = tt
-
 KeepsBytes-folded : (v : Tree) → KeepsBytes (short_bytes v) (folded v)
-unfolding bignum_meaning
+unfolding bignum_meaning simple_meaning
 KeepsBytes-folded (tag t v) = tagged (tree_folding_bytes t v) (folded v)
   where
     chosen : (c : Bool) (o p : Option Tree) → KeepsBytes None o → KeepsBytes None p → KeepsBytes None (cond c o p)
@@ -173,14 +127,24 @@ KeepsBytes-folded (map ps) = by (tree_pairs_folded ps)
     by : (o : Option TreePairs) → KeepsBytes None (option_map map o)
     by None = tt
     by (Some qs) = refl
+KeepsBytes-folded (integer (pos n)) = refl
+KeepsBytes-folded (integer (negsuc n)) = refl
+KeepsBytes-folded (boolean false) = refl
+KeepsBytes-folded (boolean true) = refl
 KeepsBytes-folded _ = refl
 
 mutual
+  unfolding simple_meaning
+
   IsFolded-folded : (v : Tree) → IsFolded (folded v)
   IsFolded-folded (tag t v) = IsFolded-tag t (is_bignum_tag t)
-      (short_bytes v) (folded v) refl (IsShort-short_bytes v) (KeepsBytes-folded v) (IsFolded-folded v)
+      (short_bytes v) (folded v) refl (short-bytes (item_of v)) (KeepsBytes-folded v) (IsFolded-folded v)
   IsFolded-folded (array vs) = IsFolded-array (trees_folded vs) (AreFolded-trees_folded vs)
   IsFolded-folded (map ps) = IsFolded-map (tree_pairs_folded ps) (PairsAreFolded-tree_pairs_folded ps)
+  IsFolded-folded (integer (pos n)) = refl
+  IsFolded-folded (integer (negsuc n)) = refl
+  IsFolded-folded (boolean false) = refl
+  IsFolded-folded (boolean true) = refl
   IsFolded-folded _ = refl
 
   AreFolded-trees_folded : (vs : Trees) → AreFolded (trees_folded vs)

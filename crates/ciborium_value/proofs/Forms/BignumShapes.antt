@@ -51,7 +51,11 @@ bignum-holds IsSome number tagged t b u e =
 
 -- it is no byte string
 pub bignum-no_bytes : (t : ℕ) (b : List ℕ) (u : Tree) → bignum_meaning t b ≡ Some u → short_bytes u ≡ None
-bignum-no_bytes = bignum-holds (λ u. short_bytes u ≡ None) (λ z. refl) (λ t b. refl)
+bignum-no_bytes = bignum-holds (λ u. short_bytes u ≡ None) number (λ t b. refl)
+  where
+    number : (z : ℤ) → short_bytes (integer z) ≡ None
+    number (pos n) = refl
+    number (negsuc n) = refl
 
 -- and no map is in it
 pub bignum-rises : (o : KeyOrder) (t : ℕ) (b : List ℕ) (u : Tree) → bignum_meaning t b ≡ Some u → HasRisingKeys o u

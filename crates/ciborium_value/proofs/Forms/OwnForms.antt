@@ -11,7 +11,8 @@ use Rattle.ciborium_value.specs.DeterministicForms.{tag_form, deterministic_form
 use Rattle.ciborium_value.specs.{DeterministicForms.{one_pair_more, pair_forms}, DeterministicTrees.IsDeterministicTree}
 use Rattle.ciborium_value.specs.{Encoding.encoding, Folded.{short_bytes, tree_folding_bytes, folded, trees_folded}}
 use Rattle.ciborium_value.specs.{Folded.tree_pairs_folded, Given.{gives, then_take, outcome_map, of_meaning}}
-use Rattle.ciborium_value.specs.Meaning.{is_bignum_tag, bignum_meaning, tag_meaning, trees_more, tree_pairs_more}
+use Rattle.ciborium_value.specs.Meaning.{is_bignum_tag, bignum_meaning, tag_meaning, simple_meaning, trees_more}
+use Rattle.ciborium_value.specs.{Meaning.tree_pairs_more, lemmas.ItemsOfTrees.{integer-folded, boolean-folded}}
 use Rattle.ciborium_value.specs.Tree.{Tree, integer, bytes, text, boolean, null, tag, array, map, Trees, no_trees, tree}
 use Rattle.ciborium_value.specs.{Tree.{TreePairs, no_tree_pairs, tree_pair}, declared.key_order.KeyOrder.KeyOrder}
 use Rattle.ciborium_value.specs.{inner.OwnForms.{IsFormed, AreFormed, PairsAreFormed}, laws.FormLaws.FormIsItsOwn}
@@ -120,6 +121,8 @@ mutual
       )
 
 mutual
+  unfolding simple_meaning
+
   -- a formed tree is what it folds to
   pub folded_where_formed : (o : KeyOrder) (t : Tree) → IsFormed o t → folded t ≡ Some t
   folded_where_formed o (tag t v) h = by (folded_where_formed o v) (tree_folding_bytes t v) h
@@ -130,6 +133,8 @@ mutual
       by inner None f = ap (option_map (tag t)) (inner f)
   folded_where_formed o (array vs) h = ap (option_map array) (all_folded_where_formed o vs h)
   folded_where_formed o (map ps) h = ap (option_map map) (pairs_folded_where_formed o ps h.1)
+  folded_where_formed o (integer z) h = integer-folded z
+  folded_where_formed o (boolean b) h = boolean-folded b
   folded_where_formed o _ h = refl
 
   -- so is each of a list

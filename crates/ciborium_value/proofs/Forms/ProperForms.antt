@@ -1,6 +1,6 @@
 -- The form of a tree that a program can hold is such a tree.
 use Rattle.std.proofs.Common.{◌≡◌, ℕ, ◌≤◌, suc, cond, Bool, true, false, leb, List, length, Option, Some, None, refl}
-use Rattle.std.proofs.Common.{ap, ◌∙◌, subst}
+use Rattle.std.proofs.Common.{ap, ◌∙◌, negsuc, pos, subst}
 use Rattle.ciborium_ll.specs.{Bytes.greatest_offset, ProperItems.IsProperBytes}
 use Rattle.ciborium_value.specs.DeterministicForms.{sorted_pairs, tag_form, deterministic_form, deterministic_forms}
 use Rattle.ciborium_value.specs.{DeterministicForms.pair_forms, Folded.{short_bytes, tree_folding_bytes}}
@@ -24,6 +24,10 @@ short_bytes-proper (bytes c) b h e = by (leb (length c) 16) e
     by : (a : Bool) → cond a (Some c) None ≡ Some b → IsProperBytes b
     by true f = let same : c ≡ b = cc in subst IsProperBytes same h
     by false f = absurd cc
+short_bytes-proper (integer (pos n)) b h e = absurd cc
+short_bytes-proper (integer (negsuc n)) b h e = absurd cc
+short_bytes-proper (boolean false) b h e = absurd cc
+short_bytes-proper (boolean true) b h e = absurd cc
 short_bytes-proper u b h e = absurd cc
 
 -- ---- pairs in another order

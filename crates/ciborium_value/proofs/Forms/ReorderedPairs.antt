@@ -9,7 +9,7 @@ use Rattle.ciborium_value.specs.{SameContents.{more_pairs, exchanged, one_after_
 use Rattle.ciborium_value.specs.{Tree.{Tree, TreePairs, no_tree_pairs, tree_pair}, View.{tree_of, tree_pairs_of}}
 use Rattle.ciborium_value.specs.{declared.key_order.KeyOrder.KeyOrder, declared.tree.Value.Value}
 use Rattle.ciborium_value.specs.lemmas.GivenOutcomes.{one_given, refused_or_given, mapped_gives, then_gives}
-use Rattle.ciborium_value.proofs.Forms.SortedPairs.{AreInOrder, sorted-exchanged, inserted-Less, inserted-Equal}
+use Rattle.ciborium_value.proofs.Forms.SortedPairs.{NeverFall, sorted-exchanged, inserted-Less, inserted-Equal}
 use Rattle.ciborium_value.proofs.Forms.SortedPairs.{inserted-Greater, less_where_greater}
 use Rattle.ciborium_value.proofs.Orders.TotalOrders.{key_order_total}
 use Rattle.ciborium_value.specs.SameContents as same
@@ -76,16 +76,16 @@ stands_before o p q = is_lt (key_order o (tree_of p.0) (tree_of q.0))
 pub stands_before-orders : (o : KeyOrder) → IsStrictWeakOrder (stands_before o)
 stands_before-orders o = ranks_by (key_order_total o) (λ p. tree_of p.0)
 
-pub sorted-in_order : (o : KeyOrder) (ps : List (Value × Value)) → IsSortedBy (stands_before o) ps →
-    AreInOrder o (tree_pairs_of ps)
-sorted-in_order o (p ∷ (q ∷ ps)) h = (
+pub sorted-never_falls : (o : KeyOrder) (ps : List (Value × Value)) → IsSortedBy (stands_before o) ps →
+    NeverFall o (tree_pairs_of ps)
+sorted-never_falls o (p ∷ (q ∷ ps)) h = (
   h 0 p (omega arith) (omega arith),
-  sorted-in_order o (q ∷ ps) (λ k d le below.
+  sorted-never_falls o (q ∷ ps) (λ k d le below.
       let next : suc k + 1 ≡ suc (k + 1) = omega arith in
       subst (λ n. stands_before o (get_or (p ∷ (q ∷ ps)) n d) (get_or (p ∷ (q ∷ ps)) (suc k) d) ≡ false) next
       (h (suc k) d (omega arith) (omega (arith, below)))),
 )
-sorted-in_order o u h = tt
+sorted-never_falls o u h = tt
 
 -- ---- what sorting by the definition gives
 

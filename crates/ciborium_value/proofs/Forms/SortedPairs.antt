@@ -205,13 +205,13 @@ neighbours_refused o k v l w ps e = behind (sorted_pairs o ps) (sorted-either o 
     behind nests (inr f) = absurd cc
 
 -- no key stands before the one in front of it
-abbrev pub AreInOrder : KeyOrder → TreePairs → Type 0
-AreInOrder o no_tree_pairs = Unit {0}
-AreInOrder o (tree_pair k v no_tree_pairs) = Unit {0}
-AreInOrder o (tree_pair k v (tree_pair l w ps)) = (is_lt (key_order o l k) ≡ false) × AreInOrder o (tree_pair l w ps)
+abbrev pub NeverFall : KeyOrder → TreePairs → Type 0
+NeverFall o no_tree_pairs = Unit {0}
+NeverFall o (tree_pair k v no_tree_pairs) = Unit {0}
+NeverFall o (tree_pair k v (tree_pair l w ps)) = (is_lt (key_order o l k) ≡ false) × NeverFall o (tree_pair l w ps)
 
 -- keys in order rise, or two neighbours tie
-pub rising_or_refused : (o : KeyOrder) (ps : TreePairs) → AreInOrder o ps →
+pub rising_or_refused : (o : KeyOrder) (ps : TreePairs) → NeverFall o ps →
     AreRising o (keys_of ps) ⊎ (sorted_pairs o ps ≡ refuses kinds.DuplicateKey)
 rising_or_refused o no_tree_pairs h = inl tt
 rising_or_refused o (tree_pair k v no_tree_pairs) h = inl tt
@@ -228,7 +228,7 @@ rising_or_refused o (tree_pair k v (tree_pair l w ps)) h =
     by Greater e (inl rises) = absurd (let no : true ≡ false = sym (ap is_lt (less_where_greater o k l e)) ∙ h.0 in cc)
 
 -- keys in order that do not rise
-pub tied_refused : (o : KeyOrder) (ps : TreePairs) → AreInOrder o ps → ¬ AreRising o (keys_of ps) →
+pub tied_refused : (o : KeyOrder) (ps : TreePairs) → NeverFall o ps → ¬ AreRising o (keys_of ps) →
     sorted_pairs o ps ≡ refuses kinds.DuplicateKey
 tied_refused o ps h flat = by (rising_or_refused o ps h)
   where
@@ -272,7 +272,7 @@ rising_apart o (tree_pair k v (tree_pair l w ps)) h = (
 rising_apart o u h = tt
 
 -- and keys in order that differ rise
-pub apart_rising : (o : KeyOrder) (ps : TreePairs) → AreInOrder o ps → AreApart (keys_of ps) → AreRising o (keys_of ps)
+pub apart_rising : (o : KeyOrder) (ps : TreePairs) → NeverFall o ps → AreApart (keys_of ps) → AreRising o (keys_of ps)
 apart_rising o no_tree_pairs h d = tt
 apart_rising o (tree_pair k v no_tree_pairs) h d = tt
 apart_rising o (tree_pair k v (tree_pair l w ps)) h d =

@@ -1,7 +1,7 @@
 -- What the deterministic spelling accepts: the encoding of a deterministic tree.
 use Rattle.std.proofs.Common.{◌≡◌, ℕ, ◌+◌, ◌≤◌, List, length, is_some, sym, ap, ◌∙◌, subst, arith}
 use Rattle.ciborium_ll.{proofs.UniqueSpelling.one_item, specs.{Bytes.greatest_offset, Spells.Spells}}
-use Rattle.ciborium_value.proofs.{FoldedTrees.Folding.written_means_folded, GoodItems.GoodBytes.item_bytes}
+use Rattle.ciborium_value.proofs.GoodItems.GoodBytes.{item_bytes}
 use Rattle.ciborium_value.proofs.{GoodItems.ProperMeanings.proper_meaning, Writing.Written.written_spells}
 use Rattle.ciborium_value.{proofs.Writing.Written.IsProperItem-item_of, specs.DeterministicTrees.IsDeterministic}
 use Rattle.ciborium_value.specs.{Encoding.item_of, Meaning.meaning, Nesting.{nesting, Limit, IsWithin}}
@@ -18,7 +18,7 @@ pub accepted : (order : KeyOrder) (s : List ℕ) (p : ℕ) (l : Limit) (v : Tree
 accepted order s p l v (bytes, tree) nests fits = (
   item_of v,
   subst (λ b. Spells b (item_of v)) (sym bytes) (written_spells (item_of v) (IsProperItem-item_of v tree.proper)),
-  written_means_folded v ∙ tree.folds,
+  tree.folds,
   nests,
   fits,
   (bytes, tree.rises),
@@ -33,7 +33,7 @@ deterministic_tree order s p l v (i, spelled, means, nests, fits, (bytes, rises)
     (subst (λ b. Spells b (item_of v)) (sym bytes) (written_spells (item_of v) (IsProperItem-item_of v proper))) in (
       (
         bytes,
-        record { proper = proper; folds = sym (written_means_folded v) ∙ sym (ap meaning same) ∙ means; rises = rises },
+        record { proper = proper; folds = sym (ap meaning same) ∙ means; rises = rises },
       ),
       subst (λ j. IsWithin l (nesting j)) same nests,
       fits,

@@ -22,9 +22,8 @@ use Rattle.ciborium_value.proofs.GoodItems.{Spelled.{folds-front, folds-some, no
 use Rattle.ciborium_value.proofs.GoodItems.Steps.{simple-has, read-head, read-counted, read-opened, ended-has}
 use Rattle.ciborium_value.proofs.GoodItems.Steps.{opens-read, tag-at, string-good, pieces-run, pieces-break}
 use Rattle.ciborium_value.proofs.Writing.Written.{written_spells, IsProperItem-item_of, items_count-items_of}
-use Rattle.ciborium_value.{proofs.Writing.Written.pairs_count-pairs_of, specs.Deterministic.AreRising}
-use Rattle.ciborium_value.specs.{DeterministicTrees.IsDeterministicTree, Encoding.{written_tree, encoding, item_of}}
-use Rattle.ciborium_value.specs.{Encoding.{items_of, pairs_of, items_bytes, pairs_bytes}, Folded.folded}
+use Rattle.ciborium_value.specs.{Deterministic.AreRising, DeterministicTrees.IsDeterministicTree, Encoding.encoding}
+use Rattle.ciborium_value.specs.{Encoding.{item_of, items_of, pairs_of, items_bytes, pairs_bytes}, Folded.folded}
 use Rattle.ciborium_value.specs.{Folded.tree_folding_bytes, Meaning.{meaning, items_meaning, pairs_meaning}}
 use Rattle.ciborium_value.specs.Meaning.{simple_meaning, bignum_meaning, is_bignum_tag, folding_bytes, tag_meaning}
 use Rattle.ciborium_value.specs.Nesting.{nesting, tag_nesting, items_nesting, pairs_nesting, Limit, IsWithin, IsOneLess}
@@ -32,9 +31,10 @@ use Rattle.ciborium_value.specs.{ProperTrees.IsProperTree, Refuses.{HasGoodHead,
 use Rattle.ciborium_value.specs.Refuses.{due_after, keys_among, keys_in, BeginsContainer, AreReadAs, IsInside, IsTagAt}
 use Rattle.ciborium_value.specs.Spelling.{Spelling, any, deterministic, IsReadAs, spelling_fault, IsUnwanted}
 use Rattle.ciborium_value.specs.{Spelling.AreInOrder, Tree.{Tree, Trees, TreePairs, trees_count, tree_pairs_count}}
-use Rattle.ciborium_value.specs.{View.trees_from, declared.key_order.KeyOrder.KeyOrder, inner.ReadItems.string_tree}
-use Rattle.ciborium_value.specs.inner.ReadItems.{IsComplete, pairs_in, container_of}
-use Rattle.ciborium_value.specs.lemmas.ItemsOfTrees.{short_string-item_of, tree_is_written_as_itself}
+use Rattle.ciborium_value.specs.{View.trees_from, WrittenTrees.written_tree, declared.key_order.KeyOrder.KeyOrder}
+use Rattle.ciborium_value.specs.inner.ReadItems.{string_tree, IsComplete, pairs_in, container_of}
+use Rattle.ciborium_value.specs.lemmas.ItemsOfTrees.{tree_is_written_as_itself}
+use Rattle.ciborium_value.proofs.Writing.Written.{pairs_count-pairs_of}
 use Rattle.ciborium_ll.specs.Item as item
 use Rattle.ciborium_value.specs.Tree as trees
 
@@ -605,11 +605,8 @@ module _ (order : KeyOrder) (d : ℕ) (rd : ReadsAt (deterministic order) d) (ru
       len : length (encoding (trees.tag t w)) ≡ length (shortest_head 6 t) + length (encoding w)
       len = length-append (shortest_head 6 t) (encoding w)
 
-      over : tree_folding_bytes t w ≡ folding_bytes t (item_of w)
-      over = ap (λ o. cond (is_bignum_tag t) o None) (sym (short_string-item_of w))
-
       folds : tag_meaning t (folding_bytes t (item_of w)) (folded w) ≡ Some (trees.tag t w)
-      folds = ap (λ o. tag_meaning t o (folded w)) (sym over) ∙ c.folds
+      folds = c.folds
 
       kept : (o : Option Tree) → option_map (trees.tag t) o ≡ Some (trees.tag t w) → o ≡ Some w
       kept None e = absurd cc

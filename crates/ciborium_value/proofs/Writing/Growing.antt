@@ -2,9 +2,9 @@
 use Rattle.std.proofs.Common.{◌≡◌, ℕ, zero, suc, ◌+◌, ◌<◌, true, false, List, [], ◌∷◌, ◌++◌, length, map, Option, Some}
 use Rattle.std.proofs.Common.{None, refl, sym, ◌∙◌, ap, subst, append_assoc, append-nil, arith}
 use Rattle.ciborium_ll.specs.Item.{Item}
-use Rattle.ciborium_value.specs.{Encoding.{written_tree, written_trees, written_pairs}, Places.{Shape, sequence}}
-use Rattle.ciborium_value.specs.Places.{dictionary, size_of, items_from, pairs_from, container, Place, top, within}
-use Rattle.ciborium_value.specs.{Places.{tagged, HasRoom, added, IsFull}, Tree.Tree, View.{trees_from, tree_pairs_from}}
+use Rattle.ciborium_value.specs.Places.{Shape, sequence, dictionary, size_of, items_from, pairs_from, container, Place}
+use Rattle.ciborium_value.specs.{Places.{top, within, tagged, HasRoom, added, IsFull}, Tree.Tree, View.trees_from}
+use Rattle.ciborium_value.specs.{View.tree_pairs_from, WrittenTrees.{written_tree, written_trees, written_pairs}}
 use Rattle.ciborium_value.specs.inner.Frames.{TreeFrame, Placed, done, more, placed, tree_ended, closed}
 use Rattle.ciborium_value.specs.inner.TreeSinks.{put_tree, put_items, begun, tagged_by, built, IsSound}
 use Rattle.ciborium_ll.specs.Item as item

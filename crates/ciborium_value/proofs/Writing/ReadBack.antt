@@ -4,14 +4,14 @@ use Rattle.std.proofs.Common.{option_map, inl, IsUtf8, length, refl, sym, ◌∙
 use Rattle.ciborium_ll.specs.{Bytes.{AreBytes, greatest_offset}, Item.{Item, bytes, array, map, tag, simple, float}}
 use Rattle.ciborium_ll.specs.Item.{Items, no_items, item, items_count, Pairs, no_pairs, pair, pairs_count}
 use Rattle.ciborium_ll.specs.Spells.{IsContainer, IsString}
-use Rattle.ciborium_value.specs.Encoding.{item_of, items_of, pairs_of, enclosed, items_bytes, pairs_bytes, simple_tree}
-use Rattle.ciborium_value.specs.{Encoding.{string_bytes, written_pairs, written_tree, written_trees}, Folded.folded}
-use Rattle.ciborium_value.specs.Folded.{trees_folded, tree_pairs_folded, short_bytes, tree_folding_bytes}
+use Rattle.ciborium_value.specs.Encoding.{item_of, items_of, pairs_of, enclosed, items_bytes, pairs_bytes, string_bytes}
+use Rattle.ciborium_value.specs.Folded.{folded, trees_folded, tree_pairs_folded, short_bytes, tree_folding_bytes}
 use Rattle.ciborium_value.specs.Meaning.{meaning, items_meaning, pairs_meaning, simple_meaning, short_string}
 use Rattle.ciborium_value.specs.Meaning.{is_bignum_tag, tag_meaning, trees_more, tree_pairs_more}
 use Rattle.ciborium_value.specs.{ProperTrees.{IsProperTree, AreProperTrees, AreProperTreePairs}, Tree.{Tree, Trees}}
 use Rattle.ciborium_value.specs.{Tree.TreePairs, WrittenItems.{IsAnnounced, IsWritten, AreWritten, PairsAreWritten}}
 use Rattle.ciborium_value.specs.WrittenItems.{WrittenSpells, WrittenTreeFolds, WrittenTreeIsProper}
+use Rattle.ciborium_value.specs.WrittenTrees.{simple_tree, written_pairs, written_tree, written_trees}
 use Rattle.ciborium_value.proofs.Writing.Written.{string_written, parts_enclosed, simple_written, spells_item}
 use Rattle.ciborium_value.proofs.Writing.Written.{items_count-items_of, pairs_count-pairs_of}
 use Rattle.ciborium_value.specs.Tree as trees

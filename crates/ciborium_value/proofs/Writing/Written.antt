@@ -12,7 +12,6 @@ use Rattle.ciborium_value.specs.Encoding.{item_of, items_of, pairs_of, enclosed,
 use Rattle.ciborium_value.specs.{Encoding.{written_bytes, items_bytes, pairs_bytes}, laws.FoldingLaws.EncodingIsGood}
 use Rattle.ciborium_value.specs.{ProperTrees.{IsProperTree, AreProperTrees, AreProperTreePairs}, Tree.{Tree, Trees}}
 use Rattle.ciborium_value.specs.Tree.{TreePairs, trees_count, tree_pairs_count}
-use Rattle.ciborium_value.proofs.FoldedTrees.Folding.{written_means_folded}
 use Rattle.ciborium_value.specs.Tree as trees
 
 -- ---- strings, containers, simple values and floats
@@ -141,7 +140,7 @@ pub encoding_is_good : EncodingIsGood
 encoding_is_good v w l proper folds within fits = (
   item_of v,
   written_spells (item_of v) (IsProperItem-item_of v proper),
-  written_means_folded v ∙ folds,
+  folds,
   within,
   omega (arith, fits),
   tt,

@@ -1,8 +1,8 @@
 -- What a sink over a tree has built at a place.
 use Rattle.std.{proofs.Common.{sym, subst}, specs.Prelude.{◌≡◌, ℕ, zero, suc, List, [], ◌∷◌, Option, Some, None}}
 use Rattle.ciborium_ll.specs.Item.{Item}
-use Rattle.ciborium_value.specs.{Encoding.written_tree, Places.{Shape, sequence, dictionary, Place, top, within}}
-use Rattle.ciborium_value.specs.{Places.{tagged, HasRoom, writer_at, bytes_at, Out, IsOutOf, IsOutAt}, Tree.Tree}
+use Rattle.ciborium_value.specs.Places.{Shape, sequence, dictionary, Place, top, within, tagged, HasRoom, writer_at}
+use Rattle.ciborium_value.specs.{Places.{bytes_at, Out, IsOutOf, IsOutAt}, Tree.Tree, WrittenTrees.written_tree}
 use Rattle.ciborium_value.specs.{declared.serialized.TreeSink.TreeSink, inner.Frames.{Placed, done, more, placed}}
 use Rattle.ciborium_value.specs.inner.Stack.{frames_of, placed_of}
 use Rattle.ciborium_value.specs.inner.Frames as frames

@@ -1,10 +1,11 @@
 -- Worked examples: what the definitions say of a few bytes and trees of RFC 8949. Programs run the others, as lines.
 use Rattle.std.specs.Prelude.{◌≡◌, ℕ, ◌+◌, ◌-◌, ◌*◌, List, [], ◌∷◌, replicate, codes, if◌then◌else◌, nat_lt, false}
-use Rattle.std.specs.{Prelude.{true, pos, negsuc, Some, None}, declared.cmp.Ordering.TheVariants.Less}
+use Rattle.std.specs.Prelude.{true, pos, negsuc, Some, None}
 use Rattle.ciborium_ll.specs.{Item.Item, Spells.Spells}
-use Rattle.ciborium_value.specs.{Canonical.canonical_order, Encoding.{encoding, written_bytes}, Folded.folded}
+use Rattle.ciborium_value.specs.{Deterministic.AreRising, Encoding.{encoding, written_bytes}, Folded.folded}
 use Rattle.ciborium_value.specs.{Meaning.meaning, Notation.{notation, indented_notation}, Tree.{Tree, integer, bytes}}
 use Rattle.ciborium_value.specs.{Tree.{text, boolean, null, tag, array, map}, View.{tree_pairs_from, trees_from}}
+use Rattle.ciborium_value.specs.declared.key_order.KeyOrder.TheVariants.{LengthFirst}
 use Prim.Native.String.{String}
 use Rattle.ciborium_ll.specs.Item as item
 
@@ -24,12 +25,6 @@ hex digits = bytes_of (codes digits)
 -- the bytes spell an item that means the tree
 abbrev pub HasMeaning : List ℕ → Tree → Type 0
 HasMeaning b v = (i : Item) × Spells b i × (meaning i ≡ Some v)
-
--- every tree stands before the next one in canonical order
-abbrev pub AreInOrder : List Tree → Type 0
-AreInOrder [] = Unit {0}
-AreInOrder (v ∷ []) = Unit {0}
-AreInOrder (v ∷ w ∷ vs) = (canonical_order v w ≡ Less) × AreInOrder (w ∷ vs)
 
 -- n, and -1 - n
 abbrev pub number : ℕ → Tree
@@ -66,9 +61,9 @@ pub record WorkedExamples : Type 0 where
   pub nested : encoding nested_map ≡ hex "a26161016162820203"
   pub open_array : written_bytes (item.array true (item.item (item.unsigned 1) item.no_items)) ≡ hex "9f01ff"
   -- 10, -1, false, 100, "z", [-1], "aa", [100]; and -200, of two bytes, before 256 (section 4.2.3)
-  pub in_order : AreInOrder (number 10 ∷ below_zero 0 ∷ boolean false ∷ number 100 ∷ letters "z" ∷
+  pub in_order : AreRising LengthFirst (number 10 ∷ below_zero 0 ∷ boolean false ∷ number 100 ∷ letters "z" ∷
       items (below_zero 0 ∷ []) ∷ letters "aa" ∷ items (number 100 ∷ []) ∷ [])
-  pub shorter_first : AreInOrder (below_zero 199 ∷ number 256 ∷ [])
+  pub shorter_first : AreRising LengthFirst (below_zero 199 ∷ number 256 ∷ [])
   -- diagnostic notation (section 8)
   pub printed : notation nested_map ≡ codes "{\"a\": 1, \"b\": [2, 3]}"
   pub indented : indented_notation (items (number 1 ∷ items [] ∷ [])) ≡ codes "[\n  1,\n  []\n]"

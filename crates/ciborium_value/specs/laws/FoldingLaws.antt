@@ -1,13 +1,13 @@
 -- What holds of folding, and of reading what was written (RFC 8949, section 3.4.3).
 use Rattle.std.specs.Prelude.{◌≡◌, ◌≤◌, length, Some}
-use Rattle.ciborium_ll.specs.Bytes.{greatest_offset}
+use Rattle.ciborium_ll.specs.{Bytes.greatest_offset, Item.Item}
 use Rattle.ciborium_value.specs.{Encoding.{item_of, encoding}, Folded.folded, Meaning.meaning, Nesting.Limit}
 use Rattle.ciborium_value.specs.{Nesting.{IsWithin, nesting}, ProperTrees.IsProperTree, Spelling.{any, IsReadAs}}
 use Rattle.ciborium_value.specs.Tree.{Tree}
 
--- the item of a tree means the folded tree, and nothing where the tree does not fold
-abbrev pub WrittenMeansFolded : Type 0
-WrittenMeansFolded = (v : Tree) → meaning (item_of v) ≡ folded v
+-- what an item means nests no deeper than the item
+abbrev pub MeaningNests : Type 0
+MeaningNests = (i : Item) (v : Tree) → meaning i ≡ Some v → nesting (item_of v) ≤ nesting i
 
 -- folding twice is folding once
 abbrev pub FoldsOnce : Type 0

@@ -1,17 +1,18 @@
--- The item of a tree: it folds where the tree does, and it is written as that tree.
-use Rattle.std.{proofs.Common.{ap, ◌∙◌}, specs.Prelude.{◌≡◌, pos, negsuc, false, true, refl}}
-use Rattle.ciborium_value.specs.Encoding.{item_of, items_of, pairs_of, written_tree, written_trees, written_pairs}
-use Rattle.ciborium_value.specs.{Folded.short_bytes, Meaning.short_string, Tree.{Tree, Trees, TreePairs}}
-use Rattle.ciborium_value.specs.WrittenItems.{TreeIsWrittenAsItself}
+-- The item of a tree is written as that tree, and an integer or a boolean means itself.
+use Rattle.std.{proofs.Common.{ap, ◌∙◌}, specs.Prelude.{◌≡◌, ℤ, pos, negsuc, Bool, false, true, refl, Some}}
+use Rattle.ciborium_value.specs.{Encoding.{item_of, items_of, pairs_of}, Folded.folded, Meaning.simple_meaning}
+use Rattle.ciborium_value.specs.{Tree.{Tree, Trees, TreePairs}, WrittenItems.TreeIsWrittenAsItself}
+use Rattle.ciborium_value.specs.WrittenTrees.{written_tree, written_trees, written_pairs}
 use Rattle.ciborium_value.specs.Tree as trees
 
--- a tag folds over the item of a tree as it folds over the tree
-pub short_string-item_of : (v : Tree) → short_string (item_of v) ≡ short_bytes v
-short_string-item_of (trees.integer (pos n)) = refl
-short_string-item_of (trees.integer (negsuc n)) = refl
-short_string-item_of (trees.boolean false) = refl
-short_string-item_of (trees.boolean true) = refl
-short_string-item_of _ = refl
+pub integer-folded : (z : ℤ) → folded (trees.integer z) ≡ Some (trees.integer z)
+integer-folded (pos n) = refl
+integer-folded (negsuc n) = refl
+
+pub boolean-folded : (b : Bool) → folded (trees.boolean b) ≡ Some (trees.boolean b)
+unfolding simple_meaning
+boolean-folded false = refl
+boolean-folded true = refl
 
 mutual
   itself : (v : Tree) → written_tree (item_of v) ≡ v

@@ -4,11 +4,11 @@ use Rattle.std.proofs.Common.{ap, ◌∙◌, arith, subst, zero}
 use Rattle.std.specs.Prelude.{◌≡◌, ℕ, suc, Bool, true, false, List, [], ◌∷◌, Some, None, refl}
 use Rattle.ciborium_ll.specs.Item.{Item, Items, Pairs, array, no_pairs, pair}
 use Rattle.ciborium_value.specs.DeterministicForms.{deterministic_form, deterministic_forms, pair_forms, sorted_pairs}
-use Rattle.ciborium_value.specs.Encoding.{item_of, items_of, pairs_of, written_pairs, written_tree, written_trees}
-use Rattle.ciborium_value.specs.{Nesting.{Limit, IsWithin}, Places.items_from, ReadsBack.{Way, by_bytes, by_form}}
-use Rattle.ciborium_value.specs.{ReadsBack.{by_tree, met}, Given.{Steps, deeper_if, gives, outcome, outcome_map}}
-use Rattle.ciborium_value.specs.{Given.{then_take, unpack, unpack_pairs, within_level}, Tree.{Tree, Trees, TreePairs}}
-use Rattle.ciborium_value.specs.{Tree.no_tree_pairs, declared.key_order.KeyOrder.KeyOrder}
+use Rattle.ciborium_value.specs.{Encoding.{item_of, items_of, pairs_of}, Given.{Steps, deeper_if, gives, outcome}}
+use Rattle.ciborium_value.specs.{Given.{outcome_map, then_take, unpack, unpack_pairs, within_level}, Nesting.Limit}
+use Rattle.ciborium_value.specs.{Nesting.IsWithin, Places.items_from, ReadsBack.{Way, by_bytes, by_form, by_tree, met}}
+use Rattle.ciborium_value.specs.{Tree.{Tree, Trees, TreePairs, no_tree_pairs}, WrittenTrees.written_pairs}
+use Rattle.ciborium_value.specs.{WrittenTrees.{written_tree, written_trees}, declared.key_order.KeyOrder.KeyOrder}
 use Rattle.ciborium_value.specs.lemmas.GivenOutcomes.{mapped_gives, more_gives, one_given, pair_gives, then_gives}
 use Rattle.ciborium_value.specs.lemmas.Reordered.{AreEach, AreReordered, as_they_are, item_pairs, sorted-reordered}
 use Rattle.ciborium_ll.specs.Item as items

@@ -3,14 +3,15 @@
 use Rattle.std.{proofs.Common.{ap, subst, sym, ◌∙◌}, specs.{Option.option_map, Prelude.{◌≡◌, ℕ, ◌^◌, pos, negsuc}}}
 use Rattle.std.specs.Prelude.{Bool, true, false, List, Option, Some, None, IfSome, if◌then◌else◌, ◌==◌, nat_lt, refl}
 use Rattle.ciborium_ll.specs.Item.{Item}
-use Rattle.ciborium_value.specs.{DeterministicForms.{deterministic_form, tag_form}, Encoding.{item_of, written_tree}}
+use Rattle.ciborium_value.specs.{DeterministicForms.{deterministic_form, tag_form}, Encoding.item_of}
 use Rattle.ciborium_value.specs.{Folded.tree_folding_bytes, Given.{Outcome, Given, gives, is_null, outcome}}
 use Rattle.ciborium_value.specs.{Given.outcome_map, GivenParts.given_option, Meaning.{big_endian, bignum_meaning}}
 use Rattle.ciborium_value.specs.{Meaning.{negative_bignum, unsigned_bignum, without_zeros}, Nesting.Limit}
 use Rattle.ciborium_value.specs.{NeverWritten.{IsNever, IsOther, nulls}, ReadsBack.{IsNameRead, IsReadBack, Way}}
 use Rattle.ciborium_value.specs.{ReadsBack.{by_bytes, by_form, by_tree, item-back, met, met-null}, Sinks.Named}
-use Rattle.ciborium_value.specs.{Sinks.or_null, Tree.Tree, declared.key_order.KeyOrder.KeyOrder}
-use Rattle.ciborium_value.specs.lemmas.{GivenOutcomes.{mapped_gives, meaning_given, one_given}, MetItems.form-kept}
+use Rattle.ciborium_value.specs.{Sinks.or_null, Tree.Tree, WrittenTrees.written_tree}
+use Rattle.ciborium_value.specs.{declared.key_order.KeyOrder.KeyOrder, lemmas.GivenOutcomes.mapped_gives}
+use Rattle.ciborium_value.specs.{lemmas.GivenOutcomes.{meaning_given, one_given}, lemmas.MetItems.form-kept}
 use Rattle.ciborium_ll.specs.Item as items
 use Rattle.ciborium_value.specs.Tree as trees
 use Rattle.ciborium_ll.specs.declared.kind.Kind.TheVariants as kinds

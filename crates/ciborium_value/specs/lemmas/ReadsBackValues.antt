@@ -10,7 +10,7 @@ use Rattle.ciborium_value.specs.{Meaning.{tree_pairs_more, trees_more}, Nesting.
 use Rattle.ciborium_value.specs.{Nesting.{nesting, pairs_nesting, tag_nesting}, ReadsBack.{IsNameRead, IsPlain, Way}}
 use Rattle.ciborium_value.specs.{ReadsBack.{by_bytes, by_form, by_tree, item-back, met, named}, Tree.{Tree, Trees}}
 use Rattle.ciborium_value.specs.{Tree.TreePairs, lemmas.GivenOutcomes.{pair_first, tree_first}}
-use Rattle.ciborium_value.specs.lemmas.ItemsOfTrees.{short_string-item_of, tree_is_written_as_itself}
+use Rattle.ciborium_value.specs.lemmas.ItemsOfTrees.{tree_is_written_as_itself}
 use Rattle.ciborium_value.specs.lemmas.ReadsBackParts.{within-left, within-right}
 use Rattle.ciborium_value.specs.Tree as trees
 use Rattle.ciborium_ll.specs.declared.kind.Kind.TheVariants as kinds
@@ -75,8 +75,7 @@ mutual
   value-given (trees.boolean true) l w e fits = one (trees.boolean true) w e
   value-given trees.null l w e fits = one trees.null w e
   value-given (trees.tag t v) l w e fits = tag-given t (folding_bytes t (item_of v)) (folded v) (nesting (item_of v))
-      (given_value (item_of v)) (value-given v) l w
-      (ap (λ s. tag_meaning t (if is_bignum_tag t then s else None) (folded v)) (short_string-item_of v) ∙ e) fits
+      (given_value (item_of v)) (value-given v) l w e fits
   value-given (trees.array vs) l w e fits = level-given trees.array (trees_folded vs)
       (items_nesting (items_of vs)) (given_items (items_of vs)) (values-given vs) l w e fits
   value-given (trees.map ps) l w e fits = level-given trees.map (tree_pairs_folded ps)

@@ -1,7 +1,19 @@
--- A container that is not empty is entered.
-use Rattle.std.proofs.Common.{rules, arith}
-use Rattle.ciborium_value.proofs.FoldedTrees.FoldedCopies.{opens_array, opens_map}
+-- What stands for itself is folded, and a container that is not empty is entered.
+use Rattle.std.proofs.Common.{rules, arith, ap, sym, ◌∙◌, Some}
+use Rattle.ciborium_value.proofs.{FoldedTrees.FoldedCopies.{opens_array, opens_map}, Trees.Views.{tree_of-Bool, tree_of-Null}}
+use Rattle.ciborium_value.specs.{Folded.folded, Meaning.simple_meaning, View.tree_of}
+use Rattle.ciborium_value.specs.lemmas.ItemsOfTrees.{boolean-folded}
 use Rattle.ciborium_value.proofs.deserialized.folding.begin.Goals as goal
+
+pub returns-in-Bool-clause-ok : goal.returns-in-Bool-clause-ok
+returns-in-Bool-clause-ok c =
+    let is = tree_of-Bool c.in-Bool.boolean in
+    ap (λ v. folded (tree_of v)) c.in-Bool.is ∙ ap folded is ∙ boolean-folded c.in-Bool.boolean ∙ ap Some (sym is)
+
+pub returns-in-Null-clause-ok : goal.returns-in-Null-clause-ok
+unfolding simple_meaning
+returns-in-Null-clause-ok c =
+    ap (λ v. folded (tree_of v)) c.in-Null.is ∙ ap folded tree_of-Null ∙ ap Some (sym tree_of-Null)
 
 pub returns-else-is_empty-clause-ok : goal.returns-else-is_empty-clause-ok
 returns-else-is_empty-clause-ok c =

@@ -1,14 +1,15 @@
 -- What an item means nests no deeper than the item.
 use Rattle.std.proofs.Common.{◌≡◌, ◌≤◌, ◌^◌, ◌==◌, ◌||◌, ℕ, suc, max, Bool, true, false, cond, eqb, ltb, leb, le-leb}
 use Rattle.std.proofs.Common.{leb-true, List, length, Option, Some, None, option_map, refl, subst, arith}
-use Rattle.ciborium.specs.{Encoding.{item_of, items_of, pairs_of}, Item.{Item, Items, Pairs}, Meaning.big_endian}
-use Rattle.ciborium.specs.Meaning.{bignum_meaning, folding_bytes, is_bignum_tag, items_meaning, meaning, pairs_meaning}
-use Rattle.ciborium.specs.Meaning.{short_string, simple_meaning, tag_meaning, tree_pairs_more, trees_more}
-use Rattle.ciborium.specs.{Meaning.without_zeros, Nesting.{items_nesting, nesting, pairs_nesting, tag_nesting}}
-use Rattle.ciborium.specs.Tree.{Tree, Trees, TreePairs}
+use Rattle.ciborium_ll.specs.Item.{Item, Items, Pairs}
+use Rattle.ciborium_value.specs.{Encoding.{item_of, items_of, pairs_of}, Meaning.{big_endian, bignum_meaning}}
+use Rattle.ciborium_value.specs.Meaning.{folding_bytes, is_bignum_tag, items_meaning, meaning, pairs_meaning}
+use Rattle.ciborium_value.specs.Meaning.{short_string, simple_meaning, tag_meaning, tree_pairs_more, trees_more}
+use Rattle.ciborium_value.specs.{Meaning.without_zeros, Nesting.{items_nesting, nesting, pairs_nesting, tag_nesting}}
+use Rattle.ciborium_value.specs.{Tree.{Tree, Trees, TreePairs}, laws.FoldingLaws.MeaningNests}
 use Rattle.ciborium_value.specs.lemmas.ReadsBackBignums.{length-without_zeros}
-use Rattle.ciborium.specs.Item as items
-use Rattle.ciborium.specs.Tree as trees
+use Rattle.ciborium_ll.specs.Item as items
+use Rattle.ciborium_value.specs.Tree as trees
 
 -- what is meant, if anything is, takes so many levels at most
 abbrev Fits : ℕ → Option Tree → Type 0
@@ -45,11 +46,11 @@ bignum-fits t b short =
     (either (ltb (big_endian b) (2 ^ 64)) _ _ (omega arith) (either (ltb (big_endian b) (2 ^ 127)) _ _ none tt))
 
 -- the bytes over which a tag folds are few
-abbrev IsShort : Option (List ℕ) → Type 0
+abbrev pub IsShort : Option (List ℕ) → Type 0
 IsShort None = Unit {0}
 IsShort (Some b) = length b ≤ 16
 
-short-bytes : (i : Item) → IsShort (short_string i)
+pub short-bytes : (i : Item) → IsShort (short_string i)
 short-bytes (items.bytes false b) = by (leb (length b) 16) refl
   where
     by : (c : Bool) → leb (length b) 16 ≡ c → IsShort (cond c (Some b) None)
@@ -108,5 +109,5 @@ mutual
   pairs-fit (items.pair k v ps) =
       pair-fits _ _ _ (meaning k) (meaning v) (pairs_meaning ps) (fits k) (fits v) (pairs-fit ps)
 
-pub nests : (i : Item) (t : Tree) → meaning i ≡ Some t → nesting (item_of t) ≤ nesting i
-nests i t h = subst (Fits (nesting i)) h (fits i)
+pub meaning_nests : MeaningNests
+meaning_nests i t h = subst (Fits (nesting i)) h (fits i)
