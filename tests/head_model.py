@@ -1,4 +1,4 @@
-"""A model of the lines on heads, payloads and integers that `ciborium_tests typed` answers (RFC 8949, section 3), written
+"""A model of the lines on heads, payloads and integers that `ciborium_rows typed` answers (RFC 8949, section 3), written
 apart from the library. `line_model` has the other forms of lines."""
 
 GREATEST = 2**64 - 1

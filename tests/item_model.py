@@ -1,4 +1,4 @@
-"""A model of the lines `item HEX` that `ciborium_tests typed` answers, written from the pseudocode of RFC 8949, appendix C, apart
+"""A model of the lines `item HEX` that `ciborium_rows typed` answers, written from the pseudocode of RFC 8949, appendix C, apart
 from the library: it knows besides whether texts are UTF-8, where bytes end inside an item, and the depth of each head."""
 
 import codecs

@@ -1,5 +1,5 @@
 #!/usr/bin/env python3
-"""A model of the lines that `ciborium_tests typed` answers (RFC 8949, RFC 8742), written apart from the library. Types
+"""A model of the lines that `ciborium_rows typed` answers (RFC 8949, RFC 8742), written apart from the library. Types
 are read by `typed_model`; here stand the other forms of lines.
 
     python3 line_model.py answer < LINES    prints `LINE = ANSWER` of each line, or the line where it is not answered

@@ -1,6 +1,6 @@
 -- Labels are written as they are read, and read again.
 use Rattle.std.proofs.Common.{◌≡◌, ◌≤◌, ◌&&◌, inl, refl, sym, ap, subst, ◌∙◌, arith, IsTrue, ℕ, List, [], ◌∷◌, Bool, Ok}
-use Rattle.std.proofs.{Common.{Option, Some, None, length, option_map, ◌==◌}, lemmas.Bool.Decides.nat_tests}
+use Rattle.std.proofs.{Common.{Option, Some, None, length, option_map, ◌==◌, pos, negsuc}, lemmas.Bool.Decides.nat_tests}
 use Rattle.ciborium_ll.proofs.UniqueSpelling.{none_begins_another, one_item}
 use Rattle.ciborium.{proofs.ReadBack.RoundTrips.one-content, specs.{Encoding.item_of, Folded.folded}}
 use Rattle.ciborium.specs.{Folded.tree_pairs_folded, Given.{Outcome, given_value, gives, of_meaning, outcome}}
@@ -34,8 +34,10 @@ one-more k u v is h = tt
 
 still-labels : (ps : TreePairs) → IsTrue (are_labels ps) → AreStillLabels (tree_pairs_folded ps)
 still-labels trees.no_tree_pairs h = refl
-still-labels (trees.tree_pair (trees.integer z) v ps) h =
-    one-more (trees.integer z) (folded v) (tree_pairs_folded ps) refl (still-labels ps h)
+still-labels (trees.tree_pair (trees.integer (pos n)) v ps) h =
+    one-more (trees.integer (pos n)) (folded v) (tree_pairs_folded ps) refl (still-labels ps h)
+still-labels (trees.tree_pair (trees.integer (negsuc n)) v ps) h =
+    one-more (trees.integer (negsuc n)) (folded v) (tree_pairs_folded ps) refl (still-labels ps h)
 still-labels (trees.tree_pair (trees.text b) v ps) h =
     one-more (trees.text b) (folded v) (tree_pairs_folded ps) refl (still-labels ps h)
 still-labels (trees.tree_pair k v ps) h = absurd cc

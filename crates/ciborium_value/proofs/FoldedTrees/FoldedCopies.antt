@@ -1,21 +1,22 @@
 -- The walk that copies a tree, folded, makes what reading its item gives.
-use Rattle.std.proofs.Common.{◌≡◌, ℕ, cond, zero, suc, ◌+◌, ◌<◌, true, false, List, [], ◌∷◌, ◌++◌, map, length, Option}
-use Rattle.std.proofs.Common.{Some, None, option_map, pos, negsuc, Vec, Global, refl, sym, ap, ◌∙◌, arith, append_assoc}
+use Rattle.std.proofs.Common.{◌≡◌, ℕ, zero, suc, ◌+◌, ◌<◌, true, false, List, [], ◌∷◌, ◌++◌, map, length, Option, Some}
+use Rattle.std.proofs.Common.{None, option_map, pos, negsuc, Vec, Global, refl, sym, ap, ◌∙◌, arith, append_assoc}
 use Rattle.std.proofs.lemmas.List.{length-map, reverse-append}
-use Rattle.ciborium_value.{proofs.Trees.Views.{tree_of-Array, tree_of-Map}, specs.Counts.{node_count, trees_node_count}}
-use Rattle.ciborium_value.specs.{Counts.tree_pairs_node_count, Encoding.{item_of, items_of, pairs_of}, Folded.folded}
-use Rattle.ciborium_value.specs.{Folded.{trees_folded, tree_pairs_folded, tree_folding_bytes}, Given.{Steps, gives}}
-use Rattle.ciborium_value.specs.Given.{refuses, of_meaning, outcome, outcome_map, given_tag, given_value, given_items}
-use Rattle.ciborium_value.specs.{Given.given_tree_pairs, Meaning.{tag_meaning, trees_more, tree_pairs_more}}
-use Rattle.ciborium_value.specs.{Meaning.{simple_meaning, is_bignum_tag}, Sources.{Fault, of_kind, of_nesting}}
-use Rattle.ciborium_value.specs.{Sources.{of_syntax, of_memory, of_device, of_end, of_length, IsFaultOf}, Tree.Tree}
-use Rattle.ciborium_value.specs.{Tree.{Trees, TreePairs}, View.{tree_of, trees_of, tree_pairs_of, trees_from}}
-use Rattle.ciborium_value.specs.{View.tree_pairs_from, declared.deserialized.folding.Coming.Coming}
-use Rattle.ciborium_ll.specs.declared.kind.Kind.{Kind}
-use Rattle.ciborium_value.specs.{declared.tree.Value.Value, inner.FoldedCopies.{where_folded, copied, pairs_in_turn}}
-use Rattle.ciborium_value.specs.inner.FoldedCopies.{nodes_of, IsUnfolded, path_trees, coming_trees, all_coming}
-use Rattle.ciborium_value.specs.{inner.Frames.{TreeFrame, Placed, done, more, placed}, lemmas.GivenOutcomes.pair_first}
+use Rattle.ciborium_value.specs.{Counts.{tree_pairs_node_count, node_count, trees_node_count}, Encoding.item_of}
+use Rattle.ciborium_value.specs.{Encoding.{items_of, pairs_of}, Folded.{folded, trees_folded, tree_pairs_folded}}
+use Rattle.ciborium_value.specs.{Folded.tree_folding_bytes, Given.{Steps, gives, refuses, of_meaning, outcome}}
+use Rattle.ciborium_value.specs.Given.{outcome_map, given_tag, given_value, given_items, given_tree_pairs}
+use Rattle.ciborium_value.specs.{Meaning.{tag_meaning, trees_more, tree_pairs_more, simple_meaning}, Sources.Fault}
+use Rattle.ciborium_value.specs.Sources.{of_kind, of_nesting, of_syntax, of_memory, of_device, of_end, of_length}
+use Rattle.ciborium_value.specs.{Sources.IsFaultOf, Tree.{Tree, Trees, TreePairs}, View.{tree_of, trees_of}}
+use Rattle.ciborium_value.specs.View.{tree_pairs_of, trees_from, tree_pairs_from}
+use Rattle.ciborium_value.specs.{declared.deserialized.folding.Coming.Coming, declared.tree.Value.Value}
+use Rattle.ciborium_value.specs.inner.FoldedCopies.{where_folded, copied, pairs_in_turn, nodes_of, IsUnfolded}
+use Rattle.ciborium_value.specs.{inner.FoldedCopies.{path_trees, coming_trees, all_coming}, inner.Frames.TreeFrame}
+use Rattle.ciborium_value.specs.{inner.Frames.{Placed, done, more, placed}, lemmas.GivenOutcomes.pair_first}
 use Rattle.ciborium_value.specs.lemmas.GivenOutcomes.{tree_first}
+use Rattle.ciborium_value.proofs.Trees.Views.{tree_of-Array, tree_of-Map}
+use Rattle.ciborium_ll.specs.declared.kind.Kind.{Kind}
 use Rattle.ciborium_value.specs.inner.Frames as frames
 use Rattle.ciborium_value.specs.Tree as trees
 use Rattle.ciborium_ll.specs.declared.kind.Kind.TheVariants as kinds

@@ -1,14 +1,14 @@
 -- What is folded folds no further.
-use Rattle.std.proofs.Common.{le-leb, leb-true, subst, ◌≡◌, ℕ, ◌^◌, ◌≤◌, cond, ltb, leb, eqb, Bool, true, false, List}
-use Rattle.std.proofs.Common.{length, Option, Some, None, refl, ap, ◌∙◌, arith, pos, negsuc, option_map}
-use Rattle.ciborium_value.{proofs.FoldedTrees.Nests.{IsShort, short-bytes}, specs.Encoding.item_of}
-use Rattle.ciborium_value.specs.Folded.{folded, short_bytes, tree_folding_bytes, tree_pairs_folded, trees_folded}
-use Rattle.ciborium_value.specs.{laws.FoldingLaws.FoldsOnce, Meaning.{big_endian, without_zeros, bignum_meaning}}
+use Rattle.std.proofs.Common.{le-leb, subst, ◌≡◌, ℕ, ◌^◌, ◌≤◌, cond, ltb, eqb, Bool, true, false, List, length, Option}
+use Rattle.std.proofs.Common.{Some, None, refl, ap, ◌∙◌, arith, pos, negsuc, option_map}
+use Rattle.ciborium_value.specs.{Encoding.item_of, Folded.{folded, short_bytes, tree_folding_bytes, tree_pairs_folded}}
+use Rattle.ciborium_value.specs.{Folded.trees_folded, Meaning.{big_endian, without_zeros, bignum_meaning}}
 use Rattle.ciborium_value.specs.Meaning.{unsigned_bignum, negative_bignum, is_bignum_tag, tag_meaning, simple_meaning}
-use Rattle.ciborium_value.specs.{Meaning.{trees_more, tree_pairs_more}, lemmas.ReadsBackBignums.zeros_hold_nothing}
-use Rattle.ciborium_value.specs.{lemmas.ReadsBackBignums.{no_zeros_twice, length-without_zeros}, Tree.{Tree, integer}}
-use Rattle.ciborium_value.specs.Tree.{bytes, text, boolean, null, tag, array, map, Trees, no_trees, tree, TreePairs}
-use Rattle.ciborium_value.specs.Tree.{no_tree_pairs, tree_pair}
+use Rattle.ciborium_value.specs.{Meaning.{trees_more, tree_pairs_more}, Tree.{Tree, integer, bytes, boolean, tag}}
+use Rattle.ciborium_value.specs.Tree.{array, map, Trees, no_trees, tree, TreePairs, no_tree_pairs, tree_pair}
+use Rattle.ciborium_value.specs.{laws.FoldingLaws.FoldsOnce, lemmas.ReadsBackBignums.zeros_hold_nothing}
+use Rattle.ciborium_value.specs.lemmas.ReadsBackBignums.{no_zeros_twice, length-without_zeros}
+use Rattle.ciborium_value.proofs.FoldedTrees.Nests.{IsShort, short-bytes}
 
 -- the leading zeros of a bignum do not change what it means
 bignum_meaning-without_zeros : (t : ℕ) (b : List ℕ) → bignum_meaning t (without_zeros b) ≡ bignum_meaning t b

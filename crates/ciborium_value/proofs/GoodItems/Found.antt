@@ -24,14 +24,14 @@ use Rattle.ciborium_value.proofs.GoodItems.Steps.{opens-read, tag-at, string-goo
 use Rattle.ciborium_value.proofs.Writing.Written.{written_spells, IsProperItem-item_of, items_count-items_of}
 use Rattle.ciborium_value.specs.{Deterministic.AreRising, DeterministicTrees.IsDeterministicTree, Encoding.encoding}
 use Rattle.ciborium_value.specs.{Encoding.{item_of, items_of, pairs_of, items_bytes, pairs_bytes}, Folded.folded}
-use Rattle.ciborium_value.specs.{Folded.tree_folding_bytes, Meaning.{meaning, items_meaning, pairs_meaning}}
-use Rattle.ciborium_value.specs.Meaning.{simple_meaning, bignum_meaning, is_bignum_tag, folding_bytes, tag_meaning}
-use Rattle.ciborium_value.specs.Nesting.{nesting, tag_nesting, items_nesting, pairs_nesting, Limit, IsWithin, IsOneLess}
-use Rattle.ciborium_value.specs.{ProperTrees.IsProperTree, Refuses.{HasGoodHead, Due, items, keys, values, next_due}}
-use Rattle.ciborium_value.specs.Refuses.{due_after, keys_among, keys_in, BeginsContainer, AreReadAs, IsInside, IsTagAt}
-use Rattle.ciborium_value.specs.Spelling.{Spelling, any, deterministic, IsReadAs, spelling_fault, IsUnwanted}
-use Rattle.ciborium_value.specs.{Spelling.AreInOrder, Tree.{Tree, Trees, TreePairs, trees_count, tree_pairs_count}}
-use Rattle.ciborium_value.specs.{View.trees_from, WrittenTrees.written_tree, declared.key_order.KeyOrder.KeyOrder}
+use Rattle.ciborium_value.specs.Meaning.{meaning, items_meaning, pairs_meaning, simple_meaning, bignum_meaning}
+use Rattle.ciborium_value.specs.{Meaning.{folding_bytes, tag_meaning}, Nesting.{nesting, tag_nesting, items_nesting}}
+use Rattle.ciborium_value.specs.{Nesting.{pairs_nesting, Limit, IsWithin, IsOneLess}, ProperTrees.IsProperTree}
+use Rattle.ciborium_value.specs.Refuses.{HasGoodHead, Due, items, keys, values, next_due, due_after, keys_among}
+use Rattle.ciborium_value.specs.{Refuses.{keys_in, BeginsContainer, AreReadAs, IsInside, IsTagAt}, Spelling.Spelling}
+use Rattle.ciborium_value.specs.Spelling.{any, deterministic, IsReadAs, spelling_fault, IsUnwanted, AreInOrder}
+use Rattle.ciborium_value.specs.{Tree.{Tree, Trees, TreePairs, trees_count, tree_pairs_count}, View.trees_from}
+use Rattle.ciborium_value.specs.{WrittenTrees.written_tree, declared.key_order.KeyOrder.KeyOrder}
 use Rattle.ciborium_value.specs.inner.ReadItems.{string_tree, IsComplete, pairs_in, container_of}
 use Rattle.ciborium_value.specs.lemmas.ItemsOfTrees.{tree_is_written_as_itself}
 use Rattle.ciborium_value.proofs.Writing.Written.{pairs_count-pairs_of}

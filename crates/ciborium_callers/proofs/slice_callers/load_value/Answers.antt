@@ -1,6 +1,0 @@
-use Rattle.ciborium.specs.View.{tree_of}
-use Rattle.ciborium_callers.proofs.MemoryAlone.{whatever_stands}
-use Rattle.ciborium_callers.proofs.slice_callers.load_value.Goals as goal
-
-pub returns-clause-refused : goal.returns-clause-refused
-returns-clause-refused c = whatever_stands tree_of c.from_slice.result c.from_slice.ensures.whole
