@@ -1,5 +1,4 @@
--- Lines of the input, and what is written where each is an item, a sequence, or an item that has a
--- form.
+-- Lines of the input, and what is written for each, as it is read.
 use Rattle.std.specs.{Bool.MatchBool, Io.BufRead.{first_piece, drop_through, strip_last}, List.{flat_map, list_all}}
 use Rattle.std.specs.{List.list_any, Prelude.{◌≡◌, ◌⊎◌, ℕ, ◌<◌, ◌==◌, Bool, false, List, [], ◌∷◌, ◌++◌, length, codes}}
 use Rattle.std.specs.Prelude.{Option, Some}

@@ -81,7 +81,7 @@ cbor --help tells of the other commands
 /// it ends, and writes `line`, the number of that line, counted from 1, a colon and the reason to
 /// `errors`.
 /// `--help` or `-h`, as the only word, lists the commands, and `--version` prints the version.
-/// No limit is more than 10,000: any value that nests no deeper fits the stack.
+/// No limit is more than 10,000: as LLVM builds it, any value that nests no deeper fits the stack.
 ///
 /// The status is 0 where every line or item is as it is asked for, and 1 where one is not. It is 2
 /// for any other words, and for none: the usage is then written to `errors`, and input and output

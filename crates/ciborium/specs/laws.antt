@@ -1,5 +1,4 @@
--- What functions that do nothing have as contracts: laws of encodings, of deterministic ones, and
--- of what is read back.
+-- What laws have as contracts: of encodings, of deterministic ones, and of what is read back.
 pub mod AnswerLaws
 pub mod OrdersOfValues
 pub mod EncodingLaws

@@ -1,4 +1,4 @@
-//! Values, re-exported, and their canonical order.
+//! Values, re-exported, and the orders of their encodings.
 
 pub mod canonical;
 pub(crate) mod encoding_order;

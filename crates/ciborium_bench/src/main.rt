@@ -2,8 +2,8 @@
 //! turn with others, and prints the tables of docs/BENCHMARKS.md.
 //!
 //! `ciborium_bench KIND ROUNDS FILE` prints a line `CALL NANOSECONDS` for each call, the best of so
-//! many rounds; with a fourth word `CALL` only that one. `ciborium_bench deep CALL DEPTH` makes one
-//! call on a value that nests so deep.
+//! many rounds; with a fourth word `CALL`, but for `sort`, only that one. `ciborium_bench deep CALL
+//! DEPTH` makes one call on a value that nests so deep.
 #![tactic(auto)]
 
 mod deep;

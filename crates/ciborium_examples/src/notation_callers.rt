@@ -1,4 +1,4 @@
-//! Callers that show values, with contracts.
+//! Callers that show and read values, with contracts.
 ghost use Rattle.std.specs.Prelude.{◌≡◌, ◌++◌, IfErr, IfOk, codes, string_bytes};
 ghost use Rattle.ciborium.specs.Denotes.{MayRefuse, depth};
 ghost use Rattle.ciborium.specs.Notation.{indented_notation, notation};

@@ -1,4 +1,4 @@
-//! What was found in place of the wanted item.
+//! Why an item that was read, or a value to be written, is refused.
 
 ghost use Rattle.std.specs.Prelude.{◌≡◌, Some};
 ghost use Rattle.ciborium_ll.specs.HeadMessages.{kind_message};

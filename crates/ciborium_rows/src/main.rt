@@ -1,6 +1,6 @@
-//! The library as its users have it, run. `ciborium_rows typed` answers lines, such as bytes that
-//! are read as a type. `ciborium_rows growth CALL` makes one call, for runs with one growth of
-//! memory refused.
+//! Stored lines and their answers: `ciborium_rows typed` answers lines, such as bytes that are read
+//! as a type. `ciborium_rows growth CALL` makes one call, for runs with one growth of memory
+//! refused.
 #![tactic(auto)]
 
 mod alike;

@@ -1,5 +1,5 @@
 //! What programs do with CBOR, in pages to copy: each module is one. The program answers lines of
-//! the standard input, each the name of a module and what it is asked; remarks stay as they are.
+//! the standard input, each a question and what it is asked of; remarks stay as they are.
 #![tactic(auto)]
 
 mod envelopes;

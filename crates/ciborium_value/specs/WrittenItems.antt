@@ -44,7 +44,7 @@ WrittenSpells = (i : Item) → IsWritten i → Spells (written_bytes i) i
 abbrev pub WrittenTreeFolds : Type 0
 WrittenTreeFolds = (i : Item) → IsWritten i → meaning i ≡ folded (written_tree i)
 
--- the item of a tree is written as that tree
+-- the tree of a tree's item is that tree
 abbrev pub TreeIsWrittenAsItself : Type 0
 TreeIsWrittenAsItself = (v : Tree) → written_tree (item_of v) ≡ v
 

@@ -1,4 +1,4 @@
--- What only clauses of functions that no user calls rest on.
+-- What only clauses of functions inside the library rest on, and those of `Stack`.
 pub mod EncodedLists
 pub mod FoldedCopies
 pub mod TreeHeads

@@ -35,9 +35,9 @@ pub fn good_or_refused()
     ensures deterministic { DeterministicReading }
 {}
 
-/// What an item means nests no deeper than the item. A tree folded is what its encoding means, and
-/// folding twice is folding once. So a tree that a program can hold, and that folds, is read back as
-/// the folded tree, within the levels that the tree takes (RFC 8949, section 3.4.3).
+/// What an item means nests no deeper than the item, and folding twice is folding once. So a tree
+/// that a program can hold, and that folds, is read back as the folded tree, within the levels that
+/// the tree takes (RFC 8949, section 3.4.3).
 pub fn meaning_of_written_is_folded()
     ensures nests { MeaningNests }
     ensures once { FoldsOnce }

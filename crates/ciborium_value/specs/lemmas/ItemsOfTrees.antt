@@ -1,4 +1,4 @@
--- The item of a tree is written as that tree, and an integer or a boolean means itself.
+-- The tree of a tree's item is that tree, and the item of an integer or a boolean means it.
 use Rattle.std.{proofs.Common.{ap, ◌∙◌}, specs.Prelude.{◌≡◌, ℤ, pos, negsuc, Bool, false, true, refl, Some}}
 use Rattle.ciborium_value.specs.{Encoding.{item_of, items_of, pairs_of}, Folded.folded, Meaning.simple_meaning}
 use Rattle.ciborium_value.specs.{Tree.{Tree, Trees, TreePairs}, WrittenItems.TreeIsWrittenAsItself}
