@@ -1,5 +1,5 @@
-//! Tests of the libraries and of `ciborium_examples`, run. In a crate of their own, so that they are
-//! proved over its contracts and it is proved once.
+//! Tests of the libraries and of `ciborium_examples`, run. In a crate of their own, so that they
+//! are proved over its contracts and it is proved once.
 #![tactic(auto)]
 
 #[cfg(test)]
