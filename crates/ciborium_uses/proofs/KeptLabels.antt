@@ -1,6 +1,7 @@
 -- Labels are written as they are read, and read again.
 use Rattle.std.proofs.Common.{◌≡◌, ◌≤◌, ◌&&◌, inl, refl, sym, ap, subst, ◌∙◌, arith, IsTrue, ℕ, List, [], ◌∷◌, Bool, Ok}
-use Rattle.std.proofs.{Common.{Option, Some, None, length, option_map, ◌==◌, pos, negsuc}, lemmas.Bool.Decides.nat_tests}
+use Rattle.std.proofs.Common.{Option, Some, None, length, option_map, ◌==◌, pos, negsuc}
+use Rattle.std.proofs.lemmas.Bool.Decides.{nat_tests}
 use Rattle.ciborium_ll.proofs.UniqueSpelling.{none_begins_another, one_item}
 use Rattle.ciborium.{proofs.ReadBack.RoundTrips.one-content, specs.{Encoding.item_of, Folded.folded}}
 use Rattle.ciborium.specs.{Folded.tree_pairs_folded, Given.{Outcome, given_value, gives, of_meaning, outcome}}
