@@ -1,6 +1,6 @@
 -- One more line is read and answered.
 use Rattle.std.proofs.Common.{◌≡◌, ℕ, ◌<◌, List, [], ◌∷◌, ◌++◌, length, Bool, true, false, ◌&&◌, Option, Some, None}
-use Rattle.std.proofs.Common.{Result, Ok, Err, IfOk, OnOk, inl, refl, sym, ap, subst, ◌∙◌, append-nil}
+use Rattle.std.proofs.Common.{Result, Ok, Err, IfOk, inl, refl, sym, ap, subst, ◌∙◌, append-nil}
 use Rattle.std.proofs.{lemmas.List.{append_assoc, flat_map_more}, lemmas.List.Folds.list_all-append}
 use Rattle.std.specs.{Bool.MatchBool, declared.io.buffered.BufReader.BufReader, Io.BufRead.drop_through}
 use Rattle.std.specs.{Io.KnownBytes.{Keeps, append_known}, Io.Buffered.{reader_remaining, reader_inner, reader_buffer}}
@@ -126,9 +126,3 @@ pub flushed-each : {E : Type 0} (P Q : Bool → Type 0) (done r : Result Bool E)
     ((all : Bool) → P all → Q all) → IfOk done P → IfOk r Q
 flushed-each P Q done (Ok v) same keep h = keep v (subst (λ (d : Result Bool _). IfOk d P) same h)
 flushed-each P Q done (Err x) same keep h = tt
-
--- and so do bytes that are written
-pub flushed-told : {E : Type 0} (xs : List ℕ) (held now : Option (List ℕ)) (done r : Result Bool E) →
-    IfOk r (λ all. done ≡ Ok all) → Keeps held now → OnOk done (held ≡ Some xs) → OnOk r (now ≡ Some xs)
-flushed-told xs held now done r same k h = flushed-each (λ all. held ≡ Some xs) (λ all. now ≡ Some xs) done r same
-    (λ all e. still held now xs k e) h

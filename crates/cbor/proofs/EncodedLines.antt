@@ -74,12 +74,11 @@ encoded-still limit b w false held now message keeps (trees, rest, reason, (a, e
     (trees, rest, reason, (a, keeps _ e), more, tells, is)
 
 -- some message tells of it
-pub encoded-told : {E : Type 0} (m n : ℕ) (b w : List ℕ) (r : Result Bool E) (after : Option (List ℕ))
-    (message : List ℕ) → m ≡ n → IfOk r (λ all. AreEncoded m b w all after message) →
-    IfOk r (λ all. (told : List ℕ) × AreEncoded n b w all after told)
-encoded-told m n b w (Ok all) after message same h =
-    (message, subst (λ (k : ℕ). AreEncoded k b w all after message) same h)
-encoded-told m n b w (Err x) after message same h = tt
+pub encoded-told : {E : Type 0} (limit : ℕ) (b w : List ℕ) (r : Result Bool E) (after : Option (List ℕ))
+    (message : List ℕ) → IfOk r (λ all. AreEncoded limit b w all after message) →
+    IfOk r (λ all. (told : List ℕ) × AreEncoded limit b w all after told)
+encoded-told limit b w (Ok all) after message h = (message, h)
+encoded-told limit b w (Err x) after message h = tt
 
 -- the text is the message of an error that refuses the line
 pub told-no-tree : (limit : ℕ) (line shown text : List ℕ) (e : NotationError) → e ≢ Memory → shown ≡ line →

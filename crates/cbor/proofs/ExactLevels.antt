@@ -6,7 +6,7 @@ use Rattle.ciborium_ll.specs.{ItemHeads.{HasRead, IsHeadRead, levels_of}, Levels
 use Rattle.ciborium_ll.specs.{Levels.{behind_head, behind_item, behind_text, incomplete}, Strings.string_header}
 use Rattle.ciborium_ll.specs.declared.{header.Header.Header, item_heads.{ItemHead.ItemHead, ItemHeads.ItemHeads}}
 use Rattle.ciborium_ll.specs.declared.{levels.Level.Level, strings.StringType.StringType}
-use Rattle.cbor.specs.Exact.{IsBegun, behind_begun, chunk_level, open_level}
+use Rattle.cbor.specs.Exact.{IsBegun, behind_begun, chunk_level, open_level, part_count, parts_header}
 use Rattle.ciborium_ll.specs.declared.header.Header.TheVariants as header
 use Rattle.ciborium_ll.specs.declared.levels.Level.TheVariants as level
 
@@ -143,7 +143,7 @@ part-due true n around = elim (eqb_tells (n % 2) 1) [
 -- a break ends it, behind a value where it is a map
 pub parts-end : (is_map : Bool) (n : ℕ) (around more : List Level) →
     behind_break (open_level is_map n ∷ around) ≡ Some more →
-    (around ≡ more) × (k : ℕ) × (n ≡ (if is_map then k + k else k))
+    (around ≡ more) × (k : ℕ) × (n ≡ part_count is_map k)
 parts-end false n around more e = (cc e, n, refl)
 parts-end true n around more e = elim (eqb_tells (n % 2) 1) [
   | inl (a, x) ↦ absurd (cc (rw a at e))
@@ -152,7 +152,7 @@ parts-end true n around more e = elim (eqb_tells (n % 2) 1) [
 
 pub parts-break : (is_map : Bool) (n : ℕ) (old new : ItemHeads) (head : ItemHead) (around : List Level) →
     levels_of old ≡ open_level is_map n ∷ around → head.header ≡ header.Break → HasRead new × IsHeadRead old new head →
-    (levels_of new ≡ incomplete around) × (k : ℕ) × (n ≡ (if is_map then k + k else k))
+    (levels_of new ≡ incomplete around) × (k : ℕ) × (n ≡ part_count is_map k)
 parts-break is_map n old new head around e f (read, is) =
     let (more, g, h) = is.levels in
     let (same, k, count) = parts-end is_map n around more
@@ -161,6 +161,17 @@ parts-break is_map n old new head around e f (read, is) =
     (h ∙ ap incomplete (sym same), k, count)
 
 -- ---- items that are counted
+
+pub counted-begun : (is_map : Bool) (n : ℕ) (heads : ItemHeads) (around : List Level) →
+    IsBegun (parts_header is_map (Some n)) heads around →
+    levels_of heads ≡ incomplete (level.Items (part_count is_map n) ∷ around)
+counted-begun false n heads around e = e
+counted-begun true n heads around e = e
+
+pub open-begun : (is_map : Bool) (heads : ItemHeads) (around : List Level) →
+    IsBegun (parts_header is_map None) heads around → levels_of heads ≡ open_level is_map 0 ∷ around
+open-begun false heads around e = e
+open-begun true heads around e = e
 
 pub parts-due : (heads : ItemHeads) (count place : ℕ) (around : List Level) → place < count →
     levels_of heads ≡ incomplete (level.Items (count - place) ∷ around) →

@@ -1,7 +1,8 @@
 -- The notation that shows the very heads of an item is appended item by item.
 use Rattle.std.proofs.Common.{◌≡◌, ℕ, ◌+◌, ◌==◌, Bool, true, false, List, [], ◌∷◌, ◌++◌, length, codes, if◌then◌else◌}
 use Rattle.std.proofs.Common.{inl, inr, refl, sym, ap, ◌∙◌, subst, arith, append-nil, append_assoc, drop, add-one}
-use Rattle.std.proofs.Common.{decimal, OnOk, Result, Ok, Err, is_ok, ◌<◌, ◌≤◌, length-append, take-append-drop}
+use Rattle.std.proofs.Common.{Some, None, decimal, OnOk, Result, Ok, Err, is_ok, ◌<◌, ◌≤◌, length-append}
+use Rattle.std.proofs.Common.{take-append-drop}
 use Rattle.std.proofs.lemmas.{Bool.{eqb-true, Decides.eqb_tells}, List.append_cancel_right}
 use Rattle.hex.specs.Hex.{encode_lower}
 use Rattle.ciborium_ll.specs.{Head.{IsFloat, IsHead, break_byte, open_byte}, Header.{IsFloatOf, SpellsHeader}}
@@ -11,7 +12,8 @@ use Rattle.ciborium_ll.specs.declared.strings.StringType.{StringType}
 use Rattle.ciborium_ll.specs.{Strings.string_header, declared.item_heads.{ItemHead.ItemHead, ItemHeads.ItemHeads}}
 use Rattle.cbor.{proofs.DumpedHeads.less-unread, specs.Exact.{AreChunksExactly, AreExactly, AreOpenChunks}}
 use Rattle.cbor.specs.Exact.{AreOpenParts, HasPassed, IsExactly, IsItemPushed, IsPushed, IsStringExactly, empty_text}
-use Rattle.cbor.specs.Exact.{head_bytes, lead, mark, open_text, IsFrontPushed, TellsNoItem, payload_text}
+use Rattle.cbor.specs.Exact.{IsFrontPushed, TellsNoItem, closing, head_bytes, lead, mark, open_text, opening}
+use Rattle.cbor.specs.Exact.{part_count, parts_header, parts_major, payload_text, spaced}
 use Rattle.cbor.specs.Line.{trailing_text}
 use Rattle.ciborium_ll.specs.declared.header.Header.TheVariants as header
 
@@ -150,7 +152,7 @@ all-chunks kind n a b c head t u v (r, x, before, are, e) is ends f = (
 
 pub all-parts : (is_map : Bool) (n k : ℕ) (a b c : ItemHeads) (head : ItemHead) (t u : List ℕ) →
     IsPushed (AreExactly is_map n) a b t u → HasRead c × IsHeadRead b c head → head.header ≡ header.Break →
-    n ≡ (if is_map then k + k else k) → IsPushed (AreOpenParts is_map) a c t u
+    n ≡ part_count is_map k → IsPushed (AreOpenParts is_map) a c t u
 all-parts is_map n k a b c head t u (r, x, before, are, e) is ends count = (
   r ++ (break_byte ∷ []),
   x,
@@ -161,19 +163,19 @@ all-parts is_map n k a b c head t u (r, x, before, are, e) is ends count = (
 
 -- ---- one item
 
-pub with-parts : (head : ItemHead) (a c : ItemHeads) (b u t v : List ℕ) → head.payload.now ≡ [] → HasPassed a c b →
+with-parts : (head : ItemHead) (a c : ItemHeads) (b u t v : List ℕ) → head.payload.now ≡ [] → HasPassed a c b →
     IsExactly (head.bytes.now ++ b) u → v ≡ t ++ u → IsItemPushed head a c t v
 with-parts head a c b u t v bare passed shows e = (b, u, passed, rw (bare, append-nil head.bytes.now) shows, e)
 
-pub alone : (head : ItemHead) (h : ItemHeads) (u t v : List ℕ) → HasRead h → head.payload.now ≡ [] →
-    IsExactly head.bytes.now u → v ≡ t ++ u → IsItemPushed head h h t v
-alone head h u t v read bare shows e =
-    with-parts head h h [] u t v bare (passed-none h read) (rw (append-nil head.bytes.now) shows) e
+-- an item is a head without a payload
+pub alone : (head : ItemHead) (u t v : List ℕ) → head.payload.now ≡ [] → IsExactly head.bytes.now u → v ≡ t ++ u →
+    (u : List ℕ) × IsExactly (head_bytes head) u × (v ≡ t ++ u)
+alone head u t v bare shows e = (u, rw (bare, append-nil head.bytes.now) shows, e)
 
-pub as-string : (kind : StringType) (head : ItemHead) (h : ItemHeads) (t v : List ℕ) → HasRead h →
-    (u : List ℕ) × IsStringExactly kind (head_bytes head) u × (v ≡ t ++ u) → IsItemPushed head h h t v
-as-string kind head h t v read (u, is, e) =
-    ([], u, passed-none h read, rw (append-nil (head_bytes head)) (IsExactly.string kind (head_bytes head) u is), e)
+-- no part follows it
+pub leaf-pushed : (head : ItemHead) (h : ItemHeads) (t v : List ℕ) → HasRead h →
+    (u : List ℕ) × IsExactly (head_bytes head) u × (v ≡ t ++ u) → IsItemPushed head h h t v
+leaf-pushed head h t v read (u, is, e) = ([], u, passed-none h read, rw (append-nil (head_bytes head)) is, e)
 
 pub as-open-string : (kind : StringType) (head : ItemHead) (a c : ItemHeads) (t v : List ℕ) → head.payload.now ≡ [] →
     head.bytes.now ≡ open_byte (string_major kind) ∷ [] → IsPushed (AreOpenChunks kind) a c t v →
@@ -189,6 +191,27 @@ pub bracketed : (Shows : List ℕ → List ℕ → Type 0) (head : ItemHead) (a 
 bracketed Shows head a c before behind t v w z bare shows e (b, u, passed, are, f) g =
     with-parts head a c b (before ++ (u ++ behind)) t z bare passed (shows b u are)
     (g ∙ rw (f, e) (simp append_assoc refl))
+
+pub as-parts : (is_map : Bool) (h : List ℕ) (n m : ℕ) → SpellsHeader h (parts_header is_map (Some n)) →
+    m ≡ part_count is_map n → (b t : List ℕ) → AreExactly is_map m b t →
+    IsExactly (h ++ b) ((opening is_map ++ spaced (mark (length h) n)) ++ (t ++ closing is_map))
+as-parts is_map h n m head count b t are =
+    subst (λ (u : List ℕ). IsExactly (h ++ b) u) (sym (append_assoc (opening is_map) _ _))
+    (IsExactly.parts is_map h n b t (spelled is_map head) (subst (λ (k : ℕ). AreExactly is_map k b t) count are))
+  where
+    spelled : (is : Bool) → SpellsHeader h (parts_header is (Some n)) → IsHead h (parts_major is) n
+    spelled false s = s
+    spelled true s = s
+
+pub as-open-parts : (is_map : Bool) (h : List ℕ) → SpellsHeader h (parts_header is_map None) → (b t : List ℕ) →
+    AreOpenParts is_map b t → IsExactly (h ++ b) ((opening is_map ++ codes "_ ") ++ (t ++ closing is_map))
+as-open-parts is_map h head b t (n, r, ends, are) =
+    subst (λ (u : List ℕ). IsExactly (h ++ b) u) (sym (append_assoc (opening is_map) _ _))
+    (rw (spelled is_map head, ends) (IsExactly.open_parts is_map n r t are))
+  where
+    spelled : (is : Bool) → SpellsHeader h (parts_header is None) → h ≡ open_byte (parts_major is) ∷ []
+    spelled false s = s
+    spelled true s = s
 
 pub as-tag : (h : List ℕ) (n : ℕ) (b t : List ℕ) → IsHead h 6 n → IsExactly b t →
     IsExactly (h ++ b) (((decimal n ++ mark (length h) n) ++ codes "(") ++ (t ++ codes ")"))

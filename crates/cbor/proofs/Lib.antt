@@ -1,6 +1,7 @@
 pub mod AnsweredLines
 pub mod AskedWords
 pub mod DigitPairs
+pub mod DoneCommands
 pub mod DumpedHeads
 pub mod DumpedInputs
 pub mod EncodedLines

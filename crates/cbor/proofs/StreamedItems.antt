@@ -2,7 +2,8 @@
 use Rattle.std.proofs.Common.{◌≡◌, ℕ, ◌<◌, ◌+◌, ◌==◌, Bool, ◌&&◌, true, false, List, [], ◌++◌, length, take, drop}
 use Rattle.std.proofs.Common.{arith, Option, Some, None, Result, Ok, Err, IfErr, IfOk, OnOk, inl, refl, ap}
 use Rattle.std.proofs.Common.{append_assoc, append-nil, length-append, length-take-le, sym, subst, take-append-drop}
-use Rattle.std.{proofs.{Common.◌∙◌, lemmas.List.{drop_at, take_at}}, specs.Io.KnownBytes.{Consumes, prepend_known}}
+use Rattle.std.proofs.{Common.{◌∙◌, ◌-◌, ◌≤◌, if◌then◌else◌}, lemmas.List.{drop_at, take-append-le, take_at}}
+use Rattle.std.specs.Io.{BufRead.DropsConsumable, KnownBytes.{Consumes, prepend_known}}
 use Rattle.ciborium_ll.{proofs.UniqueSpelling.none_begins_another, specs.Levels.AreItem}
 use Rattle.ciborium.specs.NextItems.{TakesTo}
 use Rattle.ciborium_value.specs.{Tree.Tree, View.tree_of, declared.tree.Value.Value}
@@ -65,6 +66,28 @@ front-read spelling b limit v left size (s, item, is) count =
         subst (λ (x : List ℕ). IsItem spelling x limit (tree_of v)) same item,
       ),
       ap (drop size) is ∙ drop_at s left size long,
+    )
+
+-- and so it is by the count of what is left
+pub front-before : (spelling : Spelling) (b : List ℕ) (limit : ℕ) (v : Value) (left : List ℕ) →
+    HasItemBefore spelling b limit (tree_of v) left → IsFront spelling b limit (Ok v) (length b - length left)
+front-before spelling b limit v left (s, item, is) =
+    let sum : length b ≡ length s + length left = ap length is ∙ length-append s left in
+    (front-read spelling b limit v left (length b - length left) (s, item, is) (omega (arith, sum))).0
+
+-- an item that a buffer holds whole is at the front of all that is left, and is taken
+pub held-taken : (P : List ℕ → Type 0) (empty : Bool) (held : List ℕ) (inner after : Option (List ℕ)) (b : List ℕ)
+    (size : ℕ) → (if empty then None else prepend_known held inner) ≡ Some b →
+    DropsConsumable (if empty then None else prepend_known held inner) after (Some (length held)) size →
+    (size ≤ length held) × AreItem (take size held) × P (take size held) →
+    ((size ≤ length b) × AreItem (take size b) × P (take size b)) × (after ≡ Some (drop size b))
+held-taken P true held inner after b size e drops h = absurd cc
+held-taken P false held None after b size e drops h = absurd cc
+held-taken P false held (Some xs) after b size e drops (fits, item, is) =
+    let whole : held ++ xs ≡ b = cc in
+    let same : take size held ≡ take size b = sym (take-append-le size held xs fits) ∙ ap (take size) whole in (
+      (omega (arith, fits, ap length whole, length-append held xs), subst AreItem same item, subst P same is),
+      drops fits ∙ ap (λ (x : List ℕ). Some (drop size x)) whole,
     )
 
 -- a refusal is not one for memory where it is none with its offset counted so

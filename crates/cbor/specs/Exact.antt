@@ -1,8 +1,9 @@
 -- Diagnostic notation that shows the very heads of an item: indefinite lengths, heads that are not
 -- the shortest, floats and all simple values (RFC 8949, sections 8 and 8.1). Texts are lists of
 -- bytes.
-use Rattle.std.specs.Prelude.{◌≡◌, ℕ, suc, ◌+◌, ◌^◌, ◌%◌, ◌<◌, ◌==◌, ◌&&◌, Bool, true, false, List, [], ◌∷◌, ◌++◌}
-use Rattle.std.specs.{Prelude.{length, if◌then◌else◌, nat_lt, MatchResult, codes, decimal, None, Some}, Bool.MatchBool}
+use Rattle.std.specs.Prelude.{◌≡◌, ℕ, suc, ◌+◌, ◌^◌, ◌%◌, ◌<◌, ◌==◌, ◌&&◌, Bool, false, List, [], ◌∷◌, ◌++◌}
+use Rattle.std.specs.Prelude.{length, if◌then◌else◌, nat_lt, MatchResult, codes, decimal, Option, None, Some}
+use Rattle.std.specs.Bool.{MatchBool}
 use Rattle.hex.specs.Hex.{decode_of, encode_lower}
 use Rattle.ciborium_ll.specs.{Head.{IsFloat, IsHead, IsSimple, break_byte, open_byte}, ItemHeads.{HasRead, levels_of}}
 use Rattle.ciborium_ll.specs.{ItemHeads.unread, ItemLengths.IsNoItem, Levels.{AreItem, incomplete}}
@@ -24,6 +25,21 @@ abbrev pub mark : ℕ → ℕ → List ℕ
 mark size n = if size == 2 && nat_lt n 24 then codes "_0"
     else if size == 3 && nat_lt n (2 ^ 8) then codes "_1" else if size == 5 && nat_lt n (2 ^ 16) then codes "_2"
     else if size == 9 && nat_lt n (2 ^ 32) then codes "_3" else []
+
+-- the brackets of an array or a map
+abbrev pub opening : Bool → List ℕ
+opening is_map = if is_map then codes "{" else codes "["
+
+abbrev pub closing : Bool → List ℕ
+closing is_map = if is_map then codes "}" else codes "]"
+
+-- the major type of an array or a map (section 3.1)
+abbrev pub parts_major : Bool → ℕ
+parts_major is_map = if is_map then 5 else 4
+
+-- the parts of an array of so many items, or of a map of so many pairs
+abbrev pub part_count : Bool → ℕ → ℕ
+part_count is_map n = if is_map then n + n else n
 
 -- behind a bracket that opens, a space follows it
 abbrev pub spaced : List ℕ → List ℕ
@@ -81,14 +97,11 @@ mutual
     string : (kind : StringType) (b t : List ℕ) → IsStringExactly kind b t → IsExactly b t
     open_string : (kind : StringType) (n : ℕ) (b t : List ℕ) → AreChunksExactly kind n b t →
         IsExactly (opened (string_major kind) b) (open_text kind n t)
-    array : (h : List ℕ) (n : ℕ) (b t : List ℕ) → IsHead h 4 n → AreExactly false n b t →
-        IsExactly (h ++ b) (codes "[" ++ (spaced (mark (length h) n) ++ (t ++ codes "]")))
-    open_array : (n : ℕ) (b t : List ℕ) → AreExactly false n b t →
-        IsExactly (opened 4 b) (codes "[_ " ++ (t ++ codes "]"))
-    map : (h : List ℕ) (n : ℕ) (b t : List ℕ) → IsHead h 5 n → AreExactly true (n + n) b t →
-        IsExactly (h ++ b) (codes "{" ++ (spaced (mark (length h) n) ++ (t ++ codes "}")))
-    open_map : (n : ℕ) (b t : List ℕ) → AreExactly true (n + n) b t →
-        IsExactly (opened 5 b) (codes "{_ " ++ (t ++ codes "}"))
+    parts : (is_map : Bool) (h : List ℕ) (n : ℕ) (b t : List ℕ) → IsHead h (parts_major is_map) n →
+        AreExactly is_map (part_count is_map n) b t →
+        IsExactly (h ++ b) (opening is_map ++ (spaced (mark (length h) n) ++ (t ++ closing is_map)))
+    open_parts : (is_map : Bool) (n : ℕ) (b t : List ℕ) → AreExactly is_map (part_count is_map n) b t →
+        IsExactly (opened (parts_major is_map) b) (opening is_map ++ (codes "_ " ++ (t ++ closing is_map)))
     tag : (h : List ℕ) (n : ℕ) (b t : List ℕ) → IsHead h 6 n →
         IsExactly b t → IsExactly (h ++ b) (decimal n ++ (mark (length h) n ++ (codes "(" ++ (t ++ codes ")"))))
     simple : (h : List ℕ) (n : ℕ) → IsSimple h n → IsExactly h (simple_text n)
@@ -151,7 +164,7 @@ IsItemPushed head = IsPushed (λ b t. IsExactly (head_bytes head ++ b) t)
 -- the items before a break
 abbrev pub AreOpenParts : Bool → List ℕ → List ℕ → Type 0
 AreOpenParts is_map b t = (n : ℕ) × (r : List ℕ) × (b ≡ r ++ (break_byte ∷ [])) ×
-    AreExactly is_map (if is_map then n + n else n) r t
+    AreExactly is_map (part_count is_map n) r t
 
 -- the parts of a string before a break
 abbrev pub AreOpenChunks : StringType → List ℕ → List ℕ → Type 0
@@ -168,6 +181,20 @@ chunk_level StringType.Text = level.TextChunks
 -- the level in an open array or map behind so many parts
 abbrev pub open_level : Bool → ℕ → Level
 open_level is_map n = if is_map then (if n % 2 == 1 then level.OpenValues else level.OpenKeys) else level.OpenItems
+
+-- the head of an array or a map
+abbrev pub parts_header : Bool → Option ℕ → Header
+parts_header is_map count = if is_map then header.Map count else header.Array count
+
+-- behind this head stands no part of its item but a payload
+abbrev pub IsLeaf : Header → Type 0
+IsLeaf (header.Bytes None) = ⊥
+IsLeaf (header.Text None) = ⊥
+IsLeaf (header.Array count) = ⊥
+IsLeaf (header.Map count) = ⊥
+IsLeaf (header.Tag n) = ⊥
+IsLeaf header.Break = ⊥
+IsLeaf _ = Unit {0}
 
 -- the levels behind the head of an item that stands where these are left behind it
 abbrev pub behind_begun : Header → List Level → List Level

@@ -1,4 +1,5 @@
 pub mod Answer
+pub mod Done
 pub mod Dumped
 pub mod Encoded
 pub mod EncodedLines

@@ -1,19 +1,19 @@
 //! Diagnostic notation that shows the very heads of an item.
 
 ghost use Rattle.std.specs.Prelude.{◌≡◌, ◌≤◌, ◌+◌, ◌==◌, ◌++◌, ◌∷◌, [], IfErr, IfOk, List, ℕ, OnOk};
-ghost use Rattle.std.specs.Prelude.{codes, decimal, drop, if◌then◌else◌, length, suc};
+ghost use Rattle.std.specs.Prelude.{codes, decimal, drop, if◌then◌else◌, length, suc, None, Some};
 ghost use Rattle.hex.specs.Hex.{encode_lower};
 ghost use Rattle.ciborium_ll.specs.Header.{SpellsHeader};
 ghost use Rattle.ciborium_ll.specs.ItemHeads.{HasRead, IsHeadRead, levels_of};
 ghost use Rattle.ciborium_ll.specs.Levels.{IsPayloadOf, incomplete};
 ghost use Rattle.ciborium_ll.specs.Strings.{string_header};
-ghost use Rattle.ciborium_ll.specs.declared.header.Header.TheVariants.{Break};
+ghost use Rattle.ciborium_ll.specs.declared.header.Header.TheVariants.{Break, Tag};
 ghost use Rattle.ciborium_ll.specs.declared.levels.Level.{Level};
 ghost use Rattle.ciborium_ll.specs.declared.levels.Level.TheVariants.{Items};
-ghost use Rattle.cbor.specs.Exact.{AreExactly, AreOpenChunks, AreOpenParts, Explains};
+ghost use Rattle.cbor.specs.Exact.{AreOpenChunks, Explains, IsLeaf, closing, opening};
 ghost use Rattle.cbor.specs.Exact.{IsExactAnswer, IsExactly, IsFrontPushed, IsItemPushed, IsPushed};
 ghost use Rattle.cbor.specs.Exact.{IsBegun, IsStringExactly, chunk_level, empty_text, head_bytes};
-ghost use Rattle.cbor.specs.Exact.{lead, mark, open_level, simple_text, spaced};
+ghost use Rattle.cbor.specs.Exact.{lead, mark, part_count, parts_header, simple_text, spaced};
 ghost use Rattle.cbor.specs.declared.exact.Unshown.TheVariants.{Memory};
 
 use crate::digits::push_digits;
@@ -143,91 +143,120 @@ fn push_item(
     ensures unshown { IfErr result (λ unshown. Explains heads.old.bytes.now unshown) }
 {
     match head.header {
-        Header::Positive(n) => push_number(n, head.bytes.len(), text)?,
-        Header::Negative(n) => push_negative(n, head.bytes.len(), text)?,
-        Header::Bytes(Some(_)) => push_string(alloc, StringType::Bytes, head, text)?,
-        Header::Text(Some(_)) => push_string(alloc, StringType::Text, head, text)?,
-        Header::Bytes(None) => push_chunks(alloc, StringType::Bytes, heads, text)?,
-        Header::Text(None) => push_chunks(alloc, StringType::Text, heads, text)?,
-        Header::Array(Some(n)) => {
-            push_opening(b"[", head.bytes.len(), n, text)?;
-            push_parts(alloc, false, n as u128, heads, text)?;
-            text.extend_from_slice(b"]")?;
-        }
-        Header::Array(None) => {
-            text.extend_from_slice(b"[_ ")?;
-            push_open_parts(alloc, false, heads, text)?;
-            text.extend_from_slice(b"]")?;
-        }
-        Header::Map(Some(n)) => {
-            push_opening(b"{", head.bytes.len(), n, text)?;
-            push_parts(alloc, true, 2 * (n as u128), heads, text)?;
-            text.extend_from_slice(b"}")?;
-        }
-        Header::Map(None) => {
-            text.extend_from_slice(b"{_ ")?;
-            push_open_parts(alloc, true, heads, text)?;
-            text.extend_from_slice(b"}")?;
-        }
-        Header::Tag(n) => {
-            push_number(n, head.bytes.len(), text)?;
-            text.extend_from_slice(b"(")?;
-            push_next(alloc, heads, text)?;
-            text.extend_from_slice(b")")?;
-        }
-        Header::Simple(n) => push_simple(n, text)?,
-        Header::Float(_) => push_float(head.bytes, text)?,
-        Header::Break => unreachable!(),
+        Header::Bytes(None) => push_chunks(alloc, StringType::Bytes, heads, text),
+        Header::Text(None) => push_chunks(alloc, StringType::Text, heads, text),
+        Header::Array(Some(n)) => push_parts(alloc, false, n, head, heads, text),
+        Header::Array(None) => push_open_parts(alloc, false, head, heads, text),
+        Header::Map(Some(n)) => push_parts(alloc, true, n, head, heads, text),
+        Header::Map(None) => push_open_parts(alloc, true, head, heads, text),
+        Header::Tag(n) => push_tag(alloc, n, head, heads, text),
+        _ => Ok(push_leaf(alloc, head, text)?),
     }
+}
+
+// Appends an item that no other is part of.
+fn push_leaf(alloc: Global, head: &ItemHead, text: &mut Vec<u8>) -> Result<(), AllocError>
+    requires spelled { SpellsHeader head.now.bytes.now head.now.header }
+    requires payload { IsPayloadOf head.now.header head.now.payload.now }
+    requires leaf { IsLeaf head.now.header }
+    ensures { OnOk result ((t : List ℕ) × IsExactly (head_bytes head.now) t
+        × (text.new.items ≡ text.old.items ++ t)) }
+{
+    match head.header {
+        Header::Positive(n) => push_number(n, head.bytes.len(), text),
+        Header::Negative(n) => push_negative(n, head.bytes.len(), text),
+        Header::Bytes(_) => push_string(alloc, StringType::Bytes, head, text),
+        Header::Text(_) => push_string(alloc, StringType::Text, head, text),
+        Header::Simple(n) => push_simple(n, text),
+        Header::Float(_) => push_float(head.bytes, text),
+        _ => unreachable!(),
+    }
+}
+
+// Appends a tag with its content.
+#[cycle(push_item)]
+fn push_tag(
+    alloc: Global,
+    tag: u64,
+    head: &ItemHead,
+    heads: &mut ItemHeads,
+    text: &mut Vec<u8>,
+) -> Result<(), Unshown>
+    requires spelled { SpellsHeader head.now.bytes.now (Tag tag) }
+    requires payload { head.now.payload.now ≡ [] }
+    requires read { HasRead heads.old }
+    requires due { (around : List Level) × IsBegun (Tag tag) heads.old around }
+    ensures shown { OnOk result
+        (IsItemPushed head.now heads.old heads.new text.old.items text.new.items) }
+    ensures left { OnOk result ((around : List Level) →
+        IsBegun (Tag tag) heads.old around → levels_of heads.new ≡ incomplete around) }
+    ensures unshown { IfErr result (λ unshown. Explains heads.old.bytes.now unshown) }
+{
+    push_number(tag, head.bytes.len(), text)?;
+    text.extend_from_slice(b"(")?;
+    push_next(alloc, heads, text)?;
+    text.extend_from_slice(b")")?;
     Ok(())
 }
 
-// Appends so many items, which are those of an array or the keys and values of a map.
+// Appends an array or a map of so many items or pairs.
 #[cycle(push_item)]
 fn push_parts(
     alloc: Global,
     is_map: bool,
-    count: u128,
+    count: usize,
+    head: &ItemHead,
     heads: &mut ItemHeads,
     text: &mut Vec<u8>,
 ) -> Result<(), Unshown>
+    requires spelled { SpellsHeader head.now.bytes.now (parts_header is_map (Some count)) }
+    requires payload { head.now.payload.now ≡ [] }
     requires read { HasRead heads.old }
     requires due { (around : List Level)
-        × (levels_of heads.old ≡ incomplete (Items count ∷ around)) }
+        × IsBegun (parts_header is_map (Some count)) heads.old around }
     ensures shown { OnOk result
-        (IsPushed (AreExactly is_map count) heads.old heads.new text.old.items text.new.items) }
+        (IsItemPushed head.now heads.old heads.new text.old.items text.new.items) }
     ensures left { OnOk result ((around : List Level) →
-        levels_of heads.old ≡ incomplete (Items count ∷ around) →
+        IsBegun (parts_header is_map (Some count)) heads.old around →
         levels_of heads.new ≡ incomplete around) }
     ensures unshown { IfErr result (λ unshown. Explains heads.old.bytes.now unshown) }
 {
-    'parts: for place in 0..count {
+    push_opening(is_map, head.bytes.len(), count, text)?;
+    let total = part_count(is_map, count);
+    'parts: for place in 0..total {
         text.extend_from_slice(lead(is_map, place))?;
         push_next(alloc, heads, text)?;
     }
+    text.extend_from_slice(closing(is_map))?;
     Ok(())
 }
 
-// Appends the items before a break.
+// Appends an array or a map of items before a break.
 #[cycle(push_item)]
 fn push_open_parts(
     alloc: Global,
     is_map: bool,
+    head: &ItemHead,
     heads: &mut ItemHeads,
     text: &mut Vec<u8>,
 ) -> Result<(), Unshown>
+    requires spelled { SpellsHeader head.now.bytes.now (parts_header is_map None) }
+    requires payload { head.now.payload.now ≡ [] }
     requires read { HasRead heads.old }
-    requires due { (around : List Level) × (levels_of heads.old ≡ open_level is_map 0 ∷ around) }
+    requires due { (around : List Level) × IsBegun (parts_header is_map None) heads.old around }
     ensures shown { OnOk result
-        (IsPushed (AreOpenParts is_map) heads.old heads.new text.old.items text.new.items) }
+        (IsItemPushed head.now heads.old heads.new text.old.items text.new.items) }
     ensures left { OnOk result ((around : List Level) →
-        levels_of heads.old ≡ open_level is_map 0 ∷ around →
+        IsBegun (parts_header is_map None) heads.old around →
         levels_of heads.new ≡ incomplete around) }
     ensures unshown { IfErr result (λ unshown. Explains heads.old.bytes.now unshown) }
 {
+    text.extend_from_slice(opening(is_map))?;
+    text.extend_from_slice(b"_ ")?;
     'parts: for place in 0..u128::MAX {
         let head = next_head(heads)?;
         if let Header::Break = head.header {
+            text.extend_from_slice(closing(is_map))?;
             return Ok(());
         }
         text.extend_from_slice(lead(is_map, place))?;
@@ -319,15 +348,15 @@ fn push_negative(n: u64, size: usize, text: &mut Vec<u8>) -> Result<(), AllocErr
 
 // Appends an opening bracket, and the mark of a head that has so many bytes and this count.
 fn push_opening(
-    bracket: &[u8],
+    is_map: bool,
     size: usize,
     count: usize,
     text: &mut Vec<u8>,
 ) -> Result<(), AllocError>
     ensures { OnOk result
-        (text.new.items ≡ text.old.items ++ (bracket.now ++ spaced (mark size count))) }
+        (text.new.items ≡ text.old.items ++ (opening is_map ++ spaced (mark size count))) }
 {
-    text.extend_from_slice(bracket)?;
+    text.extend_from_slice(opening(is_map))?;
     let mark = mark(size, count as u64);
     text.extend_from_slice(mark)?;
     if !mark.is_empty() {
@@ -360,6 +389,28 @@ fn push_float(head: &[u8], text: &mut Vec<u8>) -> Result<(), AllocError>
         ++ (codes "float'" ++ (encode_lower (drop 1 head.now) ++ codes "'"))) }
 {
     push_bytes(b"float'", &head[1..], text)
+}
+
+// The bracket before the parts of an array or a map.
+fn opening(is_map: bool) -> &'static [u8]
+    ensures { result.now ≡ opening is_map }
+{
+    if is_map { b"{" } else { b"[" }
+}
+
+// The bracket behind them.
+fn closing(is_map: bool) -> &'static [u8]
+    ensures { result.now ≡ closing is_map }
+{
+    if is_map { b"}" } else { b"]" }
+}
+
+// How many parts so many items or pairs are.
+fn part_count(is_map: bool, count: usize) -> u128
+    ensures { result ≡ part_count is_map count }
+{
+    let count = count as u128;
+    if is_map { 2 * count } else { count }
 }
 
 // What stands before a part that n others precede.

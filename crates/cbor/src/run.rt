@@ -3,22 +3,12 @@
 ghost use Rattle.std.specs.Prelude.{◌≡◌, ◌≤◌, ◌++◌, ◌↔◌, ℕ, IfOk, IsTrue, List, OnOk, Ok, Some};
 ghost use Rattle.std.specs.Prelude.{[], map, string_bytes, true};
 ghost use Rattle.std.specs.Io.KnownBytes.{Appends, Keeps};
-ghost use Rattle.ciborium_value.specs.declared.key_order.KeyOrder.{KeyOrder};
-ghost use Rattle.cbor.specs.EncodedLines.{AreAllEncoded, AreEncoded};
+ghost use Rattle.cbor.specs.Done.{IsDone};
 ghost use Rattle.cbor.specs.Ends.{IsStatusOf, end_status, fault_status};
-ghost use Rattle.cbor.specs.ExactStreams.{IsShownExactly};
 ghost use Rattle.cbor.specs.Files.{AreFilesShown, AreInputs, Input};
-ghost use Rattle.cbor.specs.Lines.{AreAnswered};
-ghost use Rattle.cbor.specs.SortedLines.{AreSortedLines, AreSortedOrRefused};
-ghost use Rattle.cbor.specs.Streams.{IsDumpedBehind, IsStreamShown};
 ghost use Rattle.cbor.specs.Topics.{topic_text};
 ghost use Rattle.cbor.specs.Words.{AreWrong, AskFor, AskForFiles, takes_files};
 ghost use Rattle.cbor.specs.declared.command.Command.{Command};
-ghost use Rattle.cbor.specs.declared.command.Command.TheVariants.{Answer, Dump, Encode, Show};
-ghost use Rattle.cbor.specs.declared.command.Command.TheVariants.{ShowExactly, Sort, Tell};
-ghost use Rattle.cbor.specs.declared.command.Topic.{Topic};
-ghost use Rattle.cbor.specs.declared.reading.Reading.{Reading};
-ghost use Rattle.cbor.specs.declared.reading.Showing.{Showing};
 
 use crate::answering::answer_lines;
 use crate::command::{Command, Topic};
@@ -102,31 +92,9 @@ pub fn run<R: Read, O: Opener, W: Write, E: Write>(
         × (W.contents output.new ≡ W.contents output.old) }
     ensures right { (command : Command) →
         AskFor (map string_bytes words.now) command → IsStatusOf command result }
-    ensures answered { (reading : Reading) (b w : List ℕ) →
-        AskFor (map string_bytes words.now) (Answer reading) → R.remaining input.old ≡ Some b →
-        W.contents output.old ≡ Some w → result ≡ 0 →
-        AreAnswered reading b w true (W.contents output.new) }
-    ensures sorted { (order : KeyOrder) (b w : List ℕ) →
-        AskFor (map string_bytes words.now) (Sort order) → R.remaining input.old ≡ Some b →
-        W.contents output.old ≡ Some w → result ≡ 0 →
-        AreSortedLines order b 256 w (W.contents output.new) }
-    ensures shown { (showing : Showing) (limit : ℕ) (b w : List ℕ) →
-        AskFor (map string_bytes words.now) (Show showing limit) →
-        R.remaining input.old ≡ Some b → W.contents output.old ≡ Some w → result ≡ 0 →
-        IsStreamShown [] showing b limit w true (W.contents output.new) }
-    ensures exactly { (b w : List ℕ) → AskFor (map string_bytes words.now) ShowExactly →
-        R.remaining input.old ≡ Some b → W.contents output.old ≡ Some w → result ≡ 0 →
-        IsShownExactly [] b w true (W.contents output.new) }
-    ensures dumped { (b w : List ℕ) → AskFor (map string_bytes words.now) Dump →
-        R.remaining input.old ≡ Some b → W.contents output.old ≡ Some w → result ≡ 0 →
-        IsDumpedBehind b w true (W.contents output.new) }
-    ensures encoded { (limit : ℕ) (b w : List ℕ) →
-        AskFor (map string_bytes words.now) (Encode limit) → R.remaining input.old ≡ Some b →
-        W.contents output.old ≡ Some w → result ≡ 0 →
-        AreAllEncoded limit b w (W.contents output.new) }
-    ensures told { (topic : Topic) (w : List ℕ) →
-        AskFor (map string_bytes words.now) (Tell topic) → W.contents output.old ≡ Some w →
-        result ≡ 0 → W.contents output.new ≡ Some (w ++ topic_text topic) }
+    ensures done { (command : Command) (w : List ℕ) →
+        AskFor (map string_bytes words.now) command → W.contents output.old ≡ Some w →
+        result ≡ 0 → IsDone command (R.remaining input.old) w true (W.contents output.new) }
     ensures right_files { (command : Command) (names : List (List ℕ)) →
         AskForFiles (map string_bytes words.now) command names → IsStatusOf command result }
     ensures files { (command : Command) (inputs : List Input) (w : List ℕ) →
@@ -203,30 +171,9 @@ fn perform<R: Read, W: Write, E: Write>(
     output: &mut W,
     errors: &mut E,
 ) -> Result<bool, Fault>
-    ensures answered { (reading : Reading) (b w : List ℕ) → command ≡ Answer reading →
-        R.remaining input.old ≡ Some b → W.contents output.old ≡ Some w →
-        IfOk result (λ all. AreAnswered reading b w all (W.contents output.new)) }
-    ensures sorted { (order : KeyOrder) (b w : List ℕ) → command ≡ Sort order →
-        R.remaining input.old ≡ Some b → W.contents output.old ≡ Some w →
-        IfOk result (λ all. AreSortedOrRefused order b 256 w all (W.contents output.new)) }
-    ensures shown { (showing : Showing) (limit : ℕ) (b w : List ℕ) →
-        command ≡ Show showing limit → R.remaining input.old ≡ Some b →
-        W.contents output.old ≡ Some w →
-        IfOk result (λ all. IsStreamShown [] showing b limit w all (W.contents output.new)) }
-    ensures exactly { (b w : List ℕ) → command ≡ ShowExactly → R.remaining input.old ≡ Some b →
-        W.contents output.old ≡ Some w →
-        IfOk result (λ all. IsShownExactly [] b w all (W.contents output.new)) }
-    ensures dumped { (b w : List ℕ) → command ≡ Dump → R.remaining input.old ≡ Some b →
-        W.contents output.old ≡ Some w →
-        IfOk result (λ all. IsDumpedBehind b w all (W.contents output.new)) }
-    ensures encoded { (limit : ℕ) (b w : List ℕ) → command ≡ Encode limit →
-        R.remaining input.old ≡ Some b → W.contents output.old ≡ Some w →
-        IfOk result (λ all. (message : List ℕ)
-        × AreEncoded limit b w all (W.contents output.new) message) }
-    ensures told { (topic : Topic) (w : List ℕ) → command ≡ Tell topic →
-        W.contents output.old ≡ Some w →
-        OnOk result (W.contents output.new ≡ Some (w ++ topic_text topic)) }
-    ensures all { (topic : Topic) → command ≡ Tell topic → IfOk result (λ all. IsTrue all) }
+    ensures { (w : List ℕ) → W.contents output.old ≡ Some w →
+        IfOk result (λ all. IsDone command (R.remaining input.old) w all
+        (W.contents output.new)) }
 {
     match command {
         Command::Answer(reading) => {
@@ -290,9 +237,8 @@ fn perform_on_files<R: Read, O: Opener, W: Write, E: Write>(
 
 // Writes what is told of a topic.
 fn tell<W: Write>(topic: Topic, output: &mut W) -> Result<bool, Fault>
-    ensures told { (w : List ℕ) → W.contents output.old ≡ Some w →
-        OnOk result (W.contents output.new ≡ Some (w ++ topic_text topic)) }
-    ensures all { IfOk result (λ all. IsTrue all) }
+    ensures { (w : List ℕ) → W.contents output.old ≡ Some w → IfOk result
+        (λ all. IsTrue all × (W.contents output.new ≡ Some (w ++ topic_text topic))) }
 {
     if output.write_all(topic_text(topic).as_bytes()).is_err() {
         return Err(Fault::Output);

@@ -1,3 +1,4 @@
+pub mod Exits
 mod Turns
 pub mod Readers
 pub mod ReadBack

@@ -6,5 +6,6 @@ pub mod PutAside
 pub mod HandedReaders
 pub mod NextReaders
 pub mod ReadSequences
+pub mod TestedTags
 pub mod WholeSlices
 pub mod Loading

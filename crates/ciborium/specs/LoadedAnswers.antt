@@ -5,8 +5,7 @@ use Rattle.ciborium_value.specs.{Encoding.encoding, Given.{gives, refuses}, Read
 use Rattle.ciborium_value.specs.{Sinks.Named, Spelling.deterministic, Tree.Tree, declared.key_order.KeyOrder.KeyOrder}
 use Rattle.ciborium_ll.specs.declared.kind.Kind.{Kind, TheVariants.NotDeterministic}
 use Rattle.ciborium.specs.{DeterministicWrites.{HasForm, named_form}, SliceAnswers.ReadsAll}
-use Rattle.ciborium.specs.declared.de.error.Error.{Error, TheVariants.Memory}
-use Rattle.ciborium.specs.declared.de.error.Error.TheVariants.{Semantic}
+use Rattle.ciborium.specs.declared.de.error.Error.{Error, TheVariants.{Memory, Semantic}}
 use Rattle.ciborium_ll.specs.Refusal as refusal
 
 -- the bytes are the encoding of the deterministic form of what a value names

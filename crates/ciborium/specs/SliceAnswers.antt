@@ -1,9 +1,8 @@
 -- What reading answers where all of the bytes are at hand, and have to be one item.
 use Rattle.std.specs.Prelude.{◌≡◌, ◌≢◌, ℕ, ◌⊎◌, List, [], ◌++◌, length, Some, Result, Ok, Err, IfErr, IfOk, IfSome}
 use Rattle.ciborium_ll.specs.{Item.Item, Spells.Spells, declared.kind.Kind.TheVariants.TrailingData}
-use Rattle.ciborium_value.specs.{Readings.Reading, Sources.{IsFaultOf, IsGrantedFault}, View.read_as, Given.Given}
-use Rattle.ciborium_value.specs.{Given.{gives, outcome}, Tree.Tree}
-use Rattle.ciborium_value.specs.{Spelling.{any, IsReadAs}, Refuses.Refuses}
+use Rattle.ciborium_value.specs.{Given.{Given, gives, outcome}, Readings.Reading, Refuses.Refuses, Sources.IsFaultOf}
+use Rattle.ciborium_value.specs.{Sources.IsGrantedFault, Spelling.{any, IsReadAs}, Tree.Tree, View.read_as}
 use Rattle.ciborium.specs.{Errors.fault_of, ValueAnswers.IsRefusedBy, declared.de.error.Error.Error}
 use Rattle.ciborium.specs.declared.de.error.Error.TheVariants.{Memory, Semantic}
 

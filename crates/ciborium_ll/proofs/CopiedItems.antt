@@ -1,14 +1,20 @@
 -- The bytes of an item that are copied out of a reader.
 use Rattle.std.proofs.Common.{◌≡◌, ℕ, ◌-◌, ◌≤◌, List, [], ◌++◌, length, take, drop, Option, Some, None, IfSome, Result}
 use Rattle.std.proofs.Common.{append_assoc, arith, ap, length-append, sym, subst, take-append-drop, ◌∙◌, refl}
-use Rattle.std.proofs.{Math.Seq.take-append-add, lemmas.List.{length-take, nil_from_length}}
+use Rattle.std.proofs.{KnownBytes.Consumes-trans, Math.Seq.take-append-add, lemmas.List.{length-take, nil_from_length}}
 use Rattle.std.specs.{Io.KnownBytes.Consumes, Prelude.IsUtf8}
-use Rattle.ciborium_ll.{proofs.LevelMisfits.ill-more, specs.{ItemBytes.{HasEnded, IsCopyOf}, ItemLengths.BeginText}}
-use Rattle.ciborium_ll.specs.ItemLengths.{IsNoItem, Misfits, StandsInside, ill_formed, misplaced, no_chunk, no_text}
-use Rattle.ciborium_ll.specs.declared.{item_bytes.NotCopied.NotCopied, item_heads.NoItem.TheVariants.Malformed}
-use Rattle.ciborium_ll.specs.declared.{item_heads.NoItem.TheVariants.TooDeep, levels.Level.Level}
+use Rattle.ciborium_ll.{proofs.LevelMisfits.ill-more, specs.ItemBytes.{HasCopied, HasEnded, IsCopyOf}}
+use Rattle.ciborium_ll.specs.ItemLengths.{BeginText, IsNoItem, Misfits, StandsInside, ill_formed, misplaced, no_chunk}
+use Rattle.ciborium_ll.specs.{ItemLengths.no_text, declared.item_bytes.NotCopied.NotCopied}
+use Rattle.ciborium_ll.specs.declared.{item_heads.NoItem.TheVariants.{Malformed, TooDeep}, levels.Level.Level}
 
 -- ---- what was copied
+
+pub more-copied : (before mid after : Option (List ℕ)) (old more new : List ℕ) →
+    HasCopied before mid old more (λ _. Unit {0}) → HasCopied mid after more new (λ _. Unit {0}) →
+    HasCopied before after old new (λ _. Unit {0})
+more-copied before mid after old more new (a, first, is, _) (b, second, also, _) =
+    (a ++ b, Consumes-trans before mid after a b first second, also ∙ ap (λ l. l ++ b) is ∙ append_assoc old a b, tt)
 
 pub more-ended : (before mid after : Option (List ℕ)) (c : List ℕ) → Consumes before mid c → HasEnded mid after →
     HasEnded before after

@@ -1,13 +1,12 @@
 -- Which tree a text of diagnostic notation denotes (RFC 8949, section 8).
 use Rattle.std.specs.Prelude.{◌≡◌, ℕ, suc, ◌<◌, max, Bool, true, false, List, [], Some}
-use Rattle.ciborium_value.specs.Tokens.{Token, behind_blanks, token_at, leaf, begin_tag, end_tag}
-use Rattle.ciborium_value.specs.Tokens.{begin_array, end_array, begin_map, end_map, comma, colon}
-use Rattle.ciborium_value.specs.Tree as trees
-use Rattle.ciborium_value.specs.Tree.{Tree, Trees, TreePairs}
+use Rattle.ciborium_value.specs.Tokens.{Token, behind_blanks, token_at, leaf, begin_tag, end_tag, begin_array}
+use Rattle.ciborium_value.specs.{Tokens.{end_array, begin_map, end_map, comma, colon}, Tree.{Tree, Trees, TreePairs}}
 use Rattle.ciborium_value.specs.declared.from_notation.error.NotationError.{NotationError}
+use Rattle.ciborium_value.specs.declared.from_notation.error.NotationFault.TheVariants.{TooDeep}
+use Rattle.ciborium_value.specs.Tree as trees
 pub use Rattle.ciborium_value.specs.declared.from_notation.error.NotationError.TheVariants.{At}
 pub use Rattle.ciborium_value.specs.declared.from_notation.error.NotationError.TheVariants.{Memory}
-use Rattle.ciborium_value.specs.declared.from_notation.error.NotationFault.TheVariants.{TooDeep}
 
 -- behind blanks the text t begins with this token, and r follows it
 abbrev pub IsToken : List ℕ → Token → List ℕ → Type 0

@@ -1,8 +1,7 @@
 -- The types that a `Value` holds, as the logic holds them, for the clauses on what a `&mut` lends.
-use Rattle.std.specs.{Prelude.{[], ◌∷◌}, Borrow.u8, contracts.impls.GlobalAllocator.TheImpl.ghosts}
+use Rattle.std.specs.{Borrow.u8, Prelude.{[], ◌∷◌}, contracts.impls.GlobalAllocator.TheImpl.ghosts}
 use Rattle.ciborium_value.specs.contracts.tree.Value.{the_row}
-use denote.RattleType.{RattleType}
-use denote.Struct.Tuple.{Tuple}
+use denote.{RattleType.RattleType, Struct.Tuple.Tuple}
 use Rattle.std.specs.contracts.alloc.Global as global
 use Rattle.std.specs.contracts.vec.Vec as vec
 use Rattle.std.specs.contracts.string.String as string

@@ -3,8 +3,7 @@ use Rattle.std.specs.Prelude.{◌≡◌, Ok, Err}
 use Rattle.ciborium_ll.specs.Item.{Item}
 use Rattle.ciborium_value.specs.{Encoding.item_of, Given.{Outcome, refuses}, Sinks.{Cause, Named, memory, value}}
 use Rattle.ciborium_value.specs.{Sources.{Fault, of_kind, of_memory}, View.tree_of, WrittenTrees.written_tree}
-use Rattle.ciborium_value.specs.{declared.error.Error.Error, declared.error.Error.TheVariants.{Custom, Memory}}
-use Rattle.ciborium_value.specs.declared.tree.Value.{Value}
+use Rattle.ciborium_value.specs.declared.{error.Error.{Error, TheVariants.{Custom, Memory}}, tree.Value.Value}
 
 abbrev pub tree_cause : Error → Cause
 tree_cause (Custom k) = value k

@@ -23,8 +23,7 @@ use Rattle.ciborium_value.specs.Given.{gives, outcome, refuses, take_each, nests
 use Rattle.ciborium_value.specs.{Given.{given_integer, given_byte, given_bytes, bare_bytes, untagged}, Nesting.Limit}
 use Rattle.ciborium_value.specs.{Places.sequence, Sources.{Fault, of_kind, IsFaultOf, TakesAhead, RefusesAhead}}
 use Rattle.ciborium_value.specs.Sources.{TakesItem, TakesTo, GoesOn, Leaves, RefusesNext, OwesLess, OwesNothing}
-use Rattle.ciborium_value.specs.Sources.{HasItem, TakesOneItem, TakesOnly}
-use Rattle.ciborium_value.specs.lemmas.GivenOutcomes.{and_take}
+use Rattle.ciborium_value.specs.{Sources.{HasItem, TakesOneItem, TakesOnly}, lemmas.GivenOutcomes.and_take}
 use Rattle.ciborium_ll.specs.declared.header.Header.TheVariants as header
 use Rattle.ciborium_ll.specs.declared.kind.Kind.TheVariants as kinds
 

@@ -2,14 +2,13 @@
 use Rattle.std.proofs.Common.{◌≡◌, ℕ, Bool, true, false, List, None, Result, Ok, Err, refl, sym, ap, ◌∙◌, subst, ◌==◌}
 use Rattle.std.proofs.{Common.arith, lemmas.Bool.Decides.nat_tests}
 use Rattle.ciborium_ll.specs.{Item.{Item, tag, simple}, declared.{header.Header.Header, kind.Kind.Kind}}
-use Rattle.ciborium_value.specs.{Meaning.is_bignum_tag, Nesting.Limit, Sources.{Fault, IsFaultOf}, Given.gives}
-use Rattle.ciborium_value.specs.Given.{refuses, outcome, settled, untagged, number_of, bignum_of, bare_boolean}
-use Rattle.ciborium_value.specs.Given.{bare_unit, boolean_of, is_null_simple, given_bignum, given_boolean}
-use Rattle.ciborium_value.specs.Given.{given_integer, given_unit, with_sign}
-use Rattle.ciborium_value.proofs.Sources.Sequences.{fault_map}
-use Rattle.ciborium.specs.{inner.FrontItems.{Reads, Denies}, inner.Skips.{under, AreSkipped, IsBare, TakesBare}}
-use Rattle.ciborium.proofs.Items.ItemHeads.{header_of, tag-front, by-shape, no-bare-tag}
-use Rattle.ciborium.proofs.Items.SkippedTags.{ReadsBehind, number-under, untagged-under}
+use Rattle.ciborium_value.{proofs.Sources.Sequences.fault_map, specs.Given.{gives, refuses, outcome, settled, untagged}}
+use Rattle.ciborium_value.specs.Given.{number_of, bignum_of, bare_boolean, bare_unit, boolean_of, is_null_simple}
+use Rattle.ciborium_value.specs.Given.{given_bignum, given_boolean, given_integer, given_unit, with_sign}
+use Rattle.ciborium_value.specs.{Meaning.is_bignum_tag, Nesting.Limit, Sources.{Fault, IsFaultOf}}
+use Rattle.ciborium.proofs.Items.{ItemHeads.{header_of, tag-front, by-shape, no-bare-tag}, SkippedTags.ReadsBehind}
+use Rattle.ciborium.{proofs.Items.SkippedTags.{number-under, untagged-under}, specs.inner.FrontItems.{Reads, Denies}}
+use Rattle.ciborium.specs.inner.Skips.{under, AreSkipped, IsBare, TakesBare}
 use Rattle.ciborium_ll.specs.declared.header.Header.TheVariants as header
 use Rattle.ciborium_ll.specs.declared.kind.Kind.TheVariants as kinds
 

@@ -4,13 +4,12 @@ use Rattle.std.proofs.Common.{Ok, Err, IfSome, refl, sym, ap, ◌∙◌, subst, 
 use Rattle.std.proofs.lemmas.List.{nil_from_length}
 use Rattle.ciborium_ll.{proofs.UniqueSpelling.{one_at_front, one_item}, specs.{Bytes.greatest_offset, Refusal.Refusal}}
 use Rattle.ciborium_ll.specs.{Spells.Spells, declared.kind.Kind.TheVariants.TrailingData}
-use Rattle.ciborium_value.specs.{Readings.Reading, Sources.{IsFaultOf, IsOutsideFault}, Given.outcome}
-use Rattle.ciborium_value.specs.Spelling.{any, IsReadAs}
-use Rattle.ciborium_value.specs.lemmas.GivenOutcomes.{one_given}
-use Rattle.ciborium.specs.{Errors.{HasEndedBy, fault_of}, ValueAnswers.{IsRefusedBy, IsFailed}, SliceAnswers.ReadsAll}
-use Rattle.ciborium.specs.{TypedAnswers.{IsFaultAhead, ReadsAsTypeFrom, TakesGiving}, ValueClauses.ReadsWhole}
+use Rattle.ciborium_value.specs.{Given.outcome, Readings.Reading, Sources.{IsFaultOf, IsOutsideFault}, Spelling.any}
+use Rattle.ciborium_value.specs.{Spelling.IsReadAs, lemmas.GivenOutcomes.one_given}
+use Rattle.ciborium.{proofs.{ReadBack.RoundTrips.not-blamed, Readers.KnownReaders.inside}, specs.Errors.HasEndedBy}
+use Rattle.ciborium.specs.{Errors.fault_of, SliceAnswers.ReadsAll, TypedAnswers.{IsFaultAhead, ReadsAsTypeFrom}}
+use Rattle.ciborium.specs.{TypedAnswers.TakesGiving, ValueAnswers.{IsRefusedBy, IsFailed}, ValueClauses.ReadsWhole}
 use Rattle.ciborium.specs.declared.de.error.Error.{Error}
-use Rattle.ciborium.proofs.{ReadBack.RoundTrips.not-blamed, Readers.KnownReaders.inside}
 use Rattle.ciborium.specs.declared.de.error.Error.TheVariants as errors
 
 both : {A : Type 0} {P Q R : A → Type 0} (o : Option A) → IfSome o P → IfSome o Q → ((v : A) → P v → Q v → R v) →

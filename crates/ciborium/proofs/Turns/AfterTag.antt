@@ -1,22 +1,23 @@
 -- What stands behind the head of a tag, in each spelling.
 use Rattle.std.proofs.Common.{◌≡◌, ℕ, suc, ◌+◌, ◌-◌, ◌≤◌, List, ◌++◌, length, Option, Some, None, MatchOption, Result}
-use Rattle.std.proofs.Common.{Ok, Err, refl, sym, ap, ◌∙◌, subst, arith, inl, inr}
+use Rattle.std.proofs.Common.{Ok, Err, [], length-append, refl, sym, ap, ◌∙◌, subst, arith, inl, inr}
 use Rattle.ciborium_ll.proofs.{Decoders.{unread-left, unread-count}, OneHeader.one_header_at_front}
 use Rattle.ciborium_ll.specs.{Bytes.{AreBytes, greatest_offset}, Decoding.{IsAhead, IsAheadBy, IsMeasured}}
-use Rattle.ciborium_ll.specs.{Decoding.{ReadsNothing, offset_of, left_of}, Header.SpellsHeader, Refusal.Refusal}
-use Rattle.ciborium_ll.specs.Refusal.{semantic, recursion_limit_exceeded, HeadRefuses, IsUsable}
+use Rattle.ciborium_ll.specs.{Decoding.{ReadsNothing, offset_of, left_of}, Header.SpellsHeader, ReaderSteps.IsFillTaken}
+use Rattle.ciborium_ll.specs.Refusal.{Refusal, semantic, recursion_limit_exceeded, HeadRefuses, IsUsable}
 use Rattle.ciborium_ll.specs.{StringRefusal.PayloadRefuses, declared.{decoder.Decoder.Decoder, header.Header.Header}}
-use Rattle.ciborium_ll.specs.declared.{kind.Kind.Kind, strings.StringType.StringType}
-use Rattle.ciborium_value.specs.{declared.tree.Value.Value, Refuses.{HasGoodHead, IsTagAt}}
-use Rattle.ciborium_value.specs.{Refuses.{IsFoldingAt, Refuses}, Spelling.{Spelling, any, deterministic, IsUnwanted}}
-use Rattle.ciborium_value.specs.{View.tree_of, inner.ReadItems.ReadsItem, inner.Stack.begun_frame}
-use Rattle.ciborium_value.proofs.{GoodItems.Bignums.none-large, GoodItems.Introduced.{reads-string, reads-folded}}
-use Rattle.ciborium.specs.{declared.de.error.Error.Error, declared.de.error.Error.TheVariants.Semantic}
-use Rattle.ciborium.specs.{ValueAnswers.IsRefusedBy, inner.Parts.{BignumRefuses, IsBignumRead, IsFolded, IsFolding}}
-use Rattle.ciborium.specs.inner.Parts.{IsFrameBegun, IsHeadAccepted, IsHeadMeasured, RefusesPart}
-use Rattle.ciborium.specs.{inner.Rules.head_fault, inner.ValuesInBytes.{IsAt, IsPulled, IsBreakAt, StandsAt}}
+use Rattle.ciborium_value.proofs.GoodItems.{Bignums.none-large, Introduced.{reads-string, reads-folded}}
+use Rattle.ciborium_value.specs.{Refuses.{HasGoodHead, IsTagAt, IsFoldingAt, Refuses}, Spelling.{Spelling, any}}
+use Rattle.ciborium_value.specs.{Spelling.{deterministic, IsUnwanted}, View.tree_of, declared.tree.Value.Value}
+use Rattle.ciborium_value.specs.inner.{ReadItems.ReadsItem, Stack.begun_frame}
 use Rattle.ciborium.proofs.Turns.Fronts.{Front, front-of, string-room, no-break, ahead-at, offset-at, PullsSo}
-use Rattle.ciborium.proofs.{Turns.Heads.{Got, got, good-head, good-at, bad-at, unpushed}, Turns.Pulled.refused-map}
+use Rattle.ciborium.proofs.Turns.{Heads.{Got, got, good-head, good-at, bad-at, unpushed}, Pulled.refused-map}
+use Rattle.ciborium.specs.{Errors.from_ll, ValueAnswers.IsRefusedBy, declared.de.error.Error.Error}
+use Rattle.ciborium.specs.{declared.de.error.Error.TheVariants.Semantic, inner.Parts.{BignumRefuses, IsBignumRead}}
+use Rattle.ciborium.specs.inner.Parts.{IsFolded, IsFolding, IsFrameBegun, IsHeadAccepted, IsHeadMeasured, RefusesPart}
+use Rattle.ciborium.specs.inner.{Rules.head_fault, ValuesInBytes.{IsAt, IsPulled, IsBreakAt, StandsAt}}
+use Rattle.ciborium_ll.specs.declared.{header.Error.Error as LlError, kind.Kind.Kind, strings.StringType.StringType}
+use Rattle.ciborium_ll.specs.declared.header.Error.TheVariants as ll
 use Rattle.ciborium_ll.specs.declared.header.Header.TheVariants as header
 use Rattle.ciborium_ll.specs.declared.kind.Kind.TheVariants as kinds
 use Rattle.ciborium_value.specs.declared.stack.NewFrame.TheVariants as new_frames
@@ -243,6 +244,19 @@ bignum-unwanted spelling t n at x z xs len low can is = inr (x, z, len, low, sam
   where
     same : (u v : List ℕ) → Some u ≡ Some v → v ≡ u
     same u v e = cc
+
+-- its bytes end early
+pub bignum-cut : {E : Type 0} (spelling : Spelling) (e : LlError E) (t n at p : ℕ) (x z xs buffer : List ℕ) →
+    IsFillTaken x p buffer (Err e) → length buffer ≡ n → Some (x ++ z) ≡ Some xs → p + n ≤ greatest_offset →
+    IsRefusedBy (Some z) (from_ll e) (BignumRefuses spelling t n at xs)
+bignum-cut spelling (ll.Io e) t n at p x z xs buffer (short, fits) len is room = λ none.
+    let whole : xs ≡ x ++ z = cc in
+    let empty : z ≡ [] = cc in
+    let size = ap length whole ∙ length-append x z in
+    let nothing = ap length empty in inl (omega (arith, short, len, size, nothing), refl)
+bignum-cut spelling (ll.Syntax q) t n at p x z xs buffer h len is room = absurd h
+bignum-cut spelling ll.TooLong t n at p x z xs buffer h len is room = absurd (omega (arith, h.1, len, room))
+bignum-cut spelling ll.Memory t n at p x z xs buffer h len is room = absurd h
 
 pub bignum-folded : {E W : Type 0} (spelling : Spelling) (d : Decoder (List ℕ) W) (t n at p : ℕ) (x z xs : List ℕ)
     (r : Result Value (Error E)) → length x ≡ n → AreBytes x → ¬ IsUnwanted spelling x → Some (x ++ z) ≡ Some xs →

@@ -4,18 +4,17 @@ use Rattle.std.proofs.Common.{Some, None, MatchOption, Ok, refl, sym, ap, ◌∙
 use Rattle.std.proofs.lemmas.Bool.{eqb-false}
 use Rattle.ciborium_ll.{proofs.ShortestHead.none_is_shorter, specs.Decoding.{IsAhead, IsMeasured, Takes}}
 use Rattle.ciborium_ll.specs.{Decoding.{TakesBeforeAny, offset_of, with_left}, Head.{IsHead, IsSimple, shortest_head}}
-use Rattle.ciborium_ll.specs.{Header.{SpellsHeader, IsCounted}, Refusal.{HeadRefuses}}
-use Rattle.ciborium_ll.specs.declared.{decoder.Decoder.Decoder, header.Header.Header, kind.Kind.Kind}
+use Rattle.ciborium_ll.specs.{Header.{SpellsHeader, IsCounted}, Refusal.HeadRefuses, declared.decoder.Decoder.Decoder}
+use Rattle.ciborium_ll.specs.declared.{header.Header.Header, kind.Kind.Kind}
 use Rattle.ciborium_value.proofs.GoodItems.Faults.{short-fault, fault-head, fault-open, fault-break, fault-float}
 use Rattle.ciborium_value.{proofs.GoodItems.Faults.{fault-simple, fault-undefined}, specs.Refuses.HasGoodHead}
 use Rattle.ciborium_value.specs.{Refuses.Refuses, Spelling.{Spelling, any, deterministic, spelling_fault}, Tree.Tree}
 use Rattle.ciborium_value.specs.{declared.key_order.KeyOrder.KeyOrder, inner.ReadItems.ReadsItem}
 use Rattle.ciborium.proofs.{Readers.WhateverFollows.so-both, Turns.Fronts.{front-of, IsNoBreak, no-break}}
 use Rattle.ciborium.proofs.Turns.{Fronts.{head-no-break, ahead-at, offset-at, PullsSo}, Pulled.refused-map}
-use Rattle.ciborium.specs.{ValueAnswers.IsRefusedBy, declared.de.error.Error.Error}
-use Rattle.ciborium.specs.{declared.de.error.Error.TheVariants.Semantic, inner.Parts.{IsHeadAccepted, IsHeadMeasured}}
-use Rattle.ciborium.specs.inner.{Parts.RefusesPart, Rules.{long_fault, counted_fault, deterministic_fault, head_fault}}
-use Rattle.ciborium.specs.inner.ValuesInBytes.{IsAt, IsPulled, StandsAt}
+use Rattle.ciborium.specs.{ValueAnswers.IsRefusedBy, declared.de.error.Error.{Error, TheVariants.Semantic}}
+use Rattle.ciborium.specs.inner.{Parts.{IsHeadAccepted, IsHeadMeasured, RefusesPart}, Rules.{long_fault, counted_fault}}
+use Rattle.ciborium.specs.inner.{Rules.{deterministic_fault, head_fault}, ValuesInBytes.{IsAt, IsPulled, StandsAt}}
 use Rattle.ciborium_ll.specs.declared.header.Header.TheVariants as header
 use Rattle.ciborium_ll.specs.declared.kind.Kind.TheVariants as kinds
 

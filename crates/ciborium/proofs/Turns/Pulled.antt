@@ -1,13 +1,12 @@
 -- Heads that are pulled.
 use Rattle.ciborium_ll.proofs.{Decoders.unread-count, HeadAnswers.{header-fits, head-some}}
+use Rattle.ciborium_ll.specs.{Bytes.greatest_offset, Decoding.{ReadsNothing, Takes, left_of}, Header.SpellsHeader}
+use Rattle.ciborium_ll.specs.{ReaderSteps.IsHeadTaken, Refusal.{Refusal, IsUsable}, declared.decoder.Decoder.Decoder}
 use Rattle.std.proofs.Common.{◌≡◌, ℕ, ◌+◌, ◌-◌, ◌<◌, List, ◌++◌, length, Option, Some, None, Result, Ok, IfSome, IfNone}
 use Rattle.std.proofs.Common.{sym, subst, arith}
-use Rattle.ciborium_ll.specs.{declared.header.Header.Header, declared.header.Error.Error as LlError}
-use Rattle.ciborium_ll.specs.{declared.decoder.Decoder.Decoder, Bytes.greatest_offset, Decoding.{ReadsNothing, Takes}}
-use Rattle.ciborium_ll.specs.{Decoding.left_of, Header.SpellsHeader, ReaderSteps.IsHeadTaken, Refusal.Refusal}
-use Rattle.ciborium_ll.specs.Refusal.{IsUsable}
-use Rattle.ciborium.specs.{declared.de.error.Error.Error, Errors.from_ll, ValueAnswers.IsRefusedBy}
+use Rattle.ciborium.specs.{Errors.from_ll, ValueAnswers.IsRefusedBy, declared.de.error.Error.Error}
 use Rattle.ciborium.specs.inner.ValuesInBytes.{IsPulled, heads_by, heads_left}
+use Rattle.ciborium_ll.specs.{declared.header.Header.Header, declared.header.Error.Error as LlError}
 use Rattle.ciborium_ll.specs.declared.header.Error.TheVariants as ll
 use Rattle.ciborium_ll.specs.ReaderSteps as reading
 use Rattle.ciborium.specs.declared.de.error.Error.TheVariants as errors

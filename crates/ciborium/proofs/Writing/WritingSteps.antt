@@ -1,7 +1,7 @@
 -- What calls put out one after the other, and what one of them put out before it failed.
 use Rattle.std.proofs.Common.{ℕ, ◌+◌, List, ◌++◌, length, Option, Result, Ok, Err, OnOk, sym, subst, arith}
-use Rattle.std.proofs.{Common.length-append, Math.Seq.take-append-add, KnownBytes.Appends-trans}
-use Rattle.std.specs.Io.KnownBytes.{Appends}
+use Rattle.std.proofs.{Common.length-append, KnownBytes.Appends-trans, Math.Seq.take-append-add}
+use Rattle.std.{proofs.lemmas.List.take-append-le, specs.Io.KnownBytes.Appends}
 use Rattle.ciborium_ll.specs.Writing.{Writes}
 
 -- bytes that went out whole, and then what a call put out
@@ -12,6 +12,15 @@ Writes-after a b c (Err e) xs ys p q = (
   length xs + q.0,
   omega (arith, length-append xs ys, q.1),
   subst (Appends a c) (sym (take-append-add xs ys q.0)) (Appends-trans a b c xs _ p q.2),
+)
+
+-- a call that failed before them
+pub Writes-before : {E : Type 0} (a b : Option (List ℕ)) (e : E) (xs ys : List ℕ) → Writes a b (Err e) xs →
+    Writes a b (Err e) (xs ++ ys)
+Writes-before a b e xs ys q = (
+  q.0,
+  omega (arith, length-append xs ys, q.1),
+  subst (Appends a b) (sym (take-append-le q.0 xs ys (omega (arith, q.1)))) q.2,
 )
 
 -- a fact that needs no call

@@ -1,13 +1,12 @@
 -- That known bytes and a limit leave one answer, whatever the scratch, the pieces in which the
 -- reader gives them, and the call.
 use Rattle.std.specs.Prelude.{◌≡◌, ℕ, ◌⊎◌, List, Option, Some, None, Result, Ok, Err}
-use Rattle.std.specs.declared.io.Error.{Error as IoError}
 use Rattle.ciborium_ll.specs.{Bytes.AreBytes, Refusal.Refusal}
-use Rattle.ciborium_value.specs.{declared.tree.Value.Value, Refuses.Refuses, View.tree_of}
-use Rattle.ciborium_value.specs.Spelling.{any}
-use Rattle.ciborium.specs.{declared.de.error.Error.Error, declared.de.error.Error.TheVariants.{Io, Syntax, Semantic}}
-use Rattle.ciborium.specs.declared.de.error.Error.TheVariants.{RecursionLimitExceeded, Memory, TooLong}
-use Rattle.ciborium.specs.{ValueAnswers.{IsFailed, IsRefusedBy}, ValueClauses.TakesValue}
+use Rattle.ciborium_value.specs.{Refuses.Refuses, Spelling.any, View.tree_of, declared.tree.Value.Value}
+use Rattle.ciborium.specs.{ValueAnswers.{IsFailed, IsRefusedBy}, ValueClauses.TakesValue, declared.de.error.Error.Error}
+use Rattle.ciborium.specs.declared.de.error.Error.TheVariants.{Io, Syntax, Semantic, RecursionLimitExceeded, Memory}
+use Rattle.ciborium.specs.declared.de.error.Error.TheVariants.{TooLong}
+use Rattle.std.specs.declared.io.Error.{Error as IoError}
 use Rattle.ciborium_ll.specs.Refusal as refusal
 
 -- what the clauses of a call say of its answer: b were the known bytes, within l levels, and this

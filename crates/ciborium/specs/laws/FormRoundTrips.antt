@@ -1,15 +1,14 @@
 -- What was written in its deterministic form is read back (RFC 8949, section 4.2).
 use Rattle.std.specs.Prelude.{◌≡◌, ℕ, ◌≤◌, List, [], ◌++◌, length, Option, Some, None, Result, Ok, Err}
-use Rattle.std.specs.declared.io.Error.{Error as IoError}
 use Rattle.ciborium_ll.specs.Bytes.{greatest_offset}
 use Rattle.ciborium_value.specs.{DeterministicForms.deterministic_form, Encoding.{encoding, item_of}, Given.Given}
 use Rattle.ciborium_value.specs.{Given.{gives, outcome}, Nesting.nesting, ProperTrees.IsProperTree, Readings.Reading}
 use Rattle.ciborium_value.specs.{Sinks.Named, Spelling.deterministic, Tree.Tree, View.tree_of}
-use Rattle.ciborium_value.specs.{WrittenTrees.written_tree, declared.key_order.KeyOrder.KeyOrder}
-use Rattle.ciborium_value.specs.declared.tree.Value.{Value}
-use Rattle.ciborium.specs.{declared.de.error.Error.Error, ValueAnswers.{AnswersGoodItem, GivesTree}}
-use Rattle.ciborium.specs.{ValueClauses.ReadsWhole, DeterministicWrites.{IsFormWritten, WritesForm, named_form}}
-use Rattle.ciborium.specs.TypedAnswers.{TakesGiven}
+use Rattle.ciborium_value.specs.{WrittenTrees.written_tree, declared.{key_order.KeyOrder.KeyOrder, tree.Value.Value}}
+use Rattle.ciborium.specs.{DeterministicWrites.{IsFormWritten, WritesForm, named_form}, TypedAnswers.TakesGiven}
+use Rattle.ciborium.specs.{ValueAnswers.{AnswersGoodItem, GivesTree}, ValueClauses.ReadsWhole}
+use Rattle.ciborium.specs.declared.de.error.Error.{Error}
+use Rattle.std.specs.declared.io.Error.{Error as IoError}
 
 -- of a tree that a program can hold the encoding of its form, whatever follows it, is read by the
 -- deterministic reader of that order, within as many levels as the

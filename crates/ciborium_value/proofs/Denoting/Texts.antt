@@ -113,16 +113,16 @@ pub prepended_twice : (p q : List ℕ) (found : Option (List ℕ × List ℕ)) �
 prepended_twice p q None = refl
 prepended_twice p q (Some r) = ap (λ (x : List ℕ). Some (x, r.1)) (sym (append_assoc p q r.0))
 
+pub none_before : (p : List ℕ) (found : Option (List ℕ × List ℕ)) → p ≡ [] → found ≡ prepended p found
+none_before p None none = refl
+none_before p (Some r) none = ap (λ b. Some (b ++ r.0, r.1)) (sym none)
+
 -- a byte that stands as it is
 pub plain_byte : (b : ℕ) (t : List ℕ) → needs_escape b ≡ false → text_at (b ∷ t) ≡ prepended (b ∷ []) (text_at t)
 plain_byte b t e = search (rules, e)
 
 pub text_plain : (p t : List ℕ) → IsPlain p → text_at (p ++ t) ≡ prepended p (text_at t)
-text_plain [] t plain = nothing (text_at t)
-  where
-    nothing : (found : Option (List ℕ × List ℕ)) → found ≡ prepended [] found
-    nothing None = refl
-    nothing (Some r) = refl
+text_plain [] t plain = none_before [] (text_at t) refl
 text_plain (b ∷ p) t plain = plain_byte b (p ++ t) (All-head (λ x. needs_escape x ≡ false) b p plain) ∙
     ap (prepended (b ∷ [])) (text_plain p t (All-tail (λ x. needs_escape x ≡ false) b p plain)) ∙
     prepended_twice (b ∷ []) p (text_at t)
@@ -203,3 +203,7 @@ plain_part n t plain = ap text_at (sym (take-append-drop n t)) ∙ text_plain (t
 pub front_of : (t : List ℕ) → 1 ≤ length t → t ≡ get_or t 0 0 ∷ drop 1 t
 front_of [] some = absurd (omega (arith, some))
 front_of (b ∷ t) some = refl
+
+-- a text by its first byte and what follows that
+pub begins : (b : ℕ) (t : List ℕ) → 1 ≤ length t → get_or t 0 0 ≡ b → t ≡ b ∷ take (length t - 1) (drop 1 t)
+begins b t some e = front_of t some ∙ ap (λ x. x ∷ drop 1 t) e ∙ ap (λ r. b ∷ r) (sym (whole_rest 1 t))

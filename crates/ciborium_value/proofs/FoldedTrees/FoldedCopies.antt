@@ -2,20 +2,18 @@
 use Rattle.std.proofs.Common.{◌≡◌, ℕ, zero, suc, ◌+◌, ◌<◌, true, false, List, [], ◌∷◌, ◌++◌, map, length, Option, Some}
 use Rattle.std.proofs.Common.{None, option_map, pos, negsuc, Vec, Global, refl, sym, ap, ◌∙◌, arith, append_assoc}
 use Rattle.std.proofs.lemmas.List.{length-map, reverse-append}
-use Rattle.ciborium_value.specs.{Counts.{tree_pairs_node_count, node_count, trees_node_count}, Encoding.item_of}
-use Rattle.ciborium_value.specs.{Encoding.{items_of, pairs_of}, Folded.{folded, trees_folded, tree_pairs_folded}}
-use Rattle.ciborium_value.specs.{Folded.tree_folding_bytes, Given.{Steps, gives, refuses, of_meaning, outcome}}
-use Rattle.ciborium_value.specs.Given.{outcome_map, given_tag, given_value, given_items, given_tree_pairs}
-use Rattle.ciborium_value.specs.{Meaning.{tag_meaning, trees_more, tree_pairs_more, simple_meaning}, Sources.Fault}
-use Rattle.ciborium_value.specs.Sources.{of_kind, of_nesting, of_syntax, of_memory, of_device, of_end, of_length}
-use Rattle.ciborium_value.specs.{Sources.IsFaultOf, Tree.{Tree, Trees, TreePairs}, View.{tree_of, trees_of}}
-use Rattle.ciborium_value.specs.View.{tree_pairs_of, trees_from, tree_pairs_from}
-use Rattle.ciborium_value.specs.{declared.deserialized.folding.Coming.Coming, declared.tree.Value.Value}
+use Rattle.ciborium_value.{proofs.Trees.Views.{tree_of-Array, tree_of-Map}, specs.Counts.tree_pairs_node_count}
+use Rattle.ciborium_value.specs.{Counts.{node_count, trees_node_count}, Encoding.{item_of, items_of, pairs_of}}
+use Rattle.ciborium_value.specs.{Folded.{folded, trees_folded, tree_pairs_folded, tree_folding_bytes}, Given.Steps}
+use Rattle.ciborium_value.specs.Given.{gives, refuses, of_meaning, outcome, outcome_map, given_tag, given_value}
+use Rattle.ciborium_value.specs.{Given.{given_items, given_tree_pairs}, Meaning.{tag_meaning, trees_more}}
+use Rattle.ciborium_value.specs.{Meaning.{tree_pairs_more, simple_meaning}, Sources.{Fault, of_kind, of_nesting}}
+use Rattle.ciborium_value.specs.{Sources.{of_syntax, of_memory, of_device, of_end, of_length, IsFaultOf}, Tree.Tree}
+use Rattle.ciborium_value.specs.{Tree.{Trees, TreePairs}, View.{tree_of, trees_of, tree_pairs_of, trees_from}}
+use Rattle.ciborium_value.specs.{View.tree_pairs_from, declared.{deserialized.folding.Coming.Coming, tree.Value.Value}}
 use Rattle.ciborium_value.specs.inner.FoldedCopies.{where_folded, copied, pairs_in_turn, nodes_of, IsUnfolded}
-use Rattle.ciborium_value.specs.{inner.FoldedCopies.{path_trees, coming_trees, all_coming}, inner.Frames.TreeFrame}
-use Rattle.ciborium_value.specs.{inner.Frames.{Placed, done, more, placed}, lemmas.GivenOutcomes.pair_first}
-use Rattle.ciborium_value.specs.lemmas.GivenOutcomes.{tree_first}
-use Rattle.ciborium_value.proofs.Trees.Views.{tree_of-Array, tree_of-Map}
+use Rattle.ciborium_value.specs.inner.{FoldedCopies.{path_trees, coming_trees, all_coming}, Frames.{TreeFrame, Placed}}
+use Rattle.ciborium_value.specs.{inner.Frames.{done, more, placed}, lemmas.GivenOutcomes.{pair_first, tree_first}}
 use Rattle.ciborium_ll.specs.declared.kind.Kind.{Kind}
 use Rattle.ciborium_value.specs.inner.Frames as frames
 use Rattle.ciborium_value.specs.Tree as trees

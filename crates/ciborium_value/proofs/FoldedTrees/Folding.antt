@@ -1,14 +1,13 @@
 -- What is folded folds no further.
 use Rattle.std.proofs.Common.{le-leb, subst, ◌≡◌, ℕ, ◌^◌, ◌≤◌, cond, ltb, eqb, Bool, true, false, List, length, Option}
 use Rattle.std.proofs.Common.{Some, None, refl, ap, ◌∙◌, arith, pos, negsuc, option_map}
-use Rattle.ciborium_value.specs.{Encoding.item_of, Folded.{folded, short_bytes, tree_folding_bytes, tree_pairs_folded}}
-use Rattle.ciborium_value.specs.{Folded.trees_folded, Meaning.{big_endian, without_zeros, bignum_meaning}}
-use Rattle.ciborium_value.specs.Meaning.{unsigned_bignum, negative_bignum, is_bignum_tag, tag_meaning, simple_meaning}
-use Rattle.ciborium_value.specs.{Meaning.{trees_more, tree_pairs_more}, Tree.{Tree, integer, bytes, boolean, tag}}
-use Rattle.ciborium_value.specs.Tree.{array, map, Trees, no_trees, tree, TreePairs, no_tree_pairs, tree_pair}
-use Rattle.ciborium_value.specs.{laws.FoldingLaws.FoldsOnce, lemmas.ReadsBackBignums.zeros_hold_nothing}
-use Rattle.ciborium_value.specs.lemmas.ReadsBackBignums.{no_zeros_twice, length-without_zeros}
-use Rattle.ciborium_value.proofs.FoldedTrees.Nests.{IsShort, short-bytes}
+use Rattle.ciborium_value.{proofs.FoldedTrees.Nests.{IsShort, short-bytes}, specs.{Encoding.item_of, Folded.folded}}
+use Rattle.ciborium_value.specs.Folded.{short_bytes, tree_folding_bytes, tree_pairs_folded, trees_folded}
+use Rattle.ciborium_value.specs.Meaning.{big_endian, without_zeros, bignum_meaning, unsigned_bignum, negative_bignum}
+use Rattle.ciborium_value.specs.Meaning.{is_bignum_tag, tag_meaning, simple_meaning, trees_more, tree_pairs_more}
+use Rattle.ciborium_value.specs.Tree.{Tree, integer, bytes, boolean, tag, array, map, Trees, no_trees, tree, TreePairs}
+use Rattle.ciborium_value.specs.{Tree.{no_tree_pairs, tree_pair}, laws.FoldingLaws.FoldsOnce}
+use Rattle.ciborium_value.specs.lemmas.ReadsBackBignums.{zeros_hold_nothing, no_zeros_twice, length-without_zeros}
 
 -- the leading zeros of a bignum do not change what it means
 bignum_meaning-without_zeros : (t : ℕ) (b : List ℕ) → bignum_meaning t (without_zeros b) ≡ bignum_meaning t b

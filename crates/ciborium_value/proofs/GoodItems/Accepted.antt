@@ -1,12 +1,11 @@
 -- What the deterministic spelling accepts: the encoding of a deterministic tree.
 use Rattle.std.proofs.Common.{◌≡◌, ℕ, ◌+◌, ◌≤◌, List, length, is_some, sym, ap, ◌∙◌, subst, arith}
 use Rattle.ciborium_ll.{proofs.UniqueSpelling.one_item, specs.{Bytes.greatest_offset, Spells.Spells}}
-use Rattle.ciborium_value.proofs.GoodItems.GoodBytes.{item_bytes}
-use Rattle.ciborium_value.proofs.{GoodItems.ProperMeanings.proper_meaning, Writing.Written.written_spells}
-use Rattle.ciborium_value.{proofs.Writing.Written.IsProperItem-item_of, specs.DeterministicTrees.IsDeterministic}
-use Rattle.ciborium_value.specs.{Encoding.item_of, Meaning.meaning, Nesting.{nesting, Limit, IsWithin}}
-use Rattle.ciborium_value.specs.{Spelling.{Spelling, any, deterministic, IsReadAs}, Tree.Tree}
-use Rattle.ciborium_value.specs.{declared.key_order.KeyOrder.KeyOrder, laws.RefusalLaws.DeterministicReading}
+use Rattle.ciborium_value.proofs.GoodItems.{GoodBytes.item_bytes, ProperMeanings.proper_meaning}
+use Rattle.ciborium_value.proofs.Writing.Written.{written_spells, IsProperItem-item_of}
+use Rattle.ciborium_value.specs.{DeterministicTrees.IsDeterministic, Encoding.item_of, Meaning.meaning, Nesting.nesting}
+use Rattle.ciborium_value.specs.{Nesting.{Limit, IsWithin}, Spelling.{Spelling, any, deterministic, IsReadAs}}
+use Rattle.ciborium_value.specs.{Tree.Tree, declared.key_order.KeyOrder.KeyOrder, laws.RefusalLaws.DeterministicReading}
 
 -- what a spelling accepts is read in any
 pub anyway : (spelling : Spelling) (s : List ℕ) (p : ℕ) (l : Limit) (v : Tree) → IsReadAs spelling s p l v →

@@ -64,7 +64,7 @@ pub refusal_kinds : RefusalKinds
 refusal_kinds spelling b p l e (Refuses.no_head h) = of-head b p e h
 refusal_kinds spelling b p l e (Refuses.bad_head kind h f) = subst MayBe f (in-fault spelling b)
 refusal_kinds spelling b p l e (Refuses.string kind h (n, k, r, st, f)) = of-payload kind f
-refusal_kinds spelling b p l e (Refuses.open_string kind h (r, is, (good, ps, rest, are, fits, split, f))) = of-chunk kind f
+refusal_kinds spelling b p l e (Refuses.open_string kind h (r, is, (good, ps, rest, are, m, eq, f))) = of-chunk kind f
 refusal_kinds spelling b p l e (Refuses.float h lo hi) = tt
 refusal_kinds spelling b p l e (Refuses.simple s n r h is none f) = tt
 refusal_kinds spelling b p l e (Refuses.break h) = tt

@@ -2,37 +2,23 @@
 use Rattle.std.{proofs.Common.{◌≡◌, ℕ, List, [], ◌∷◌, refl, sym, ap}, specs.Box.with_value}
 use Rattle.std.specs.contracts.impls.GlobalAllocator.TheImpl.{ghosts}
 use Rattle.ciborium_value.{proofs.tree.Value.TheLaws.{the_alike, the_loose}, specs.LentParts.value_with_tag}
-use Rattle.ciborium_value.specs.{LentParts.level_with_tag, contracts.tree.Value.{enum, the_type, the_row as R}}
 use Rattle.ciborium_value.specs.declared.tree.Value.{TheOpen.Value-F, TheViews.outs-Tag}
 use Prim.Native.Nat.{◌+◌}
-use base.Fml.{Fml, fex, Lft, GName, Share, flft, fobs, fauth, fres, fobor, fbor}
-use base.Fraction.{full_share}
-use base.Logic.{SProp, ent, sep, wand, ex, all_e, apply∗}
-use base.Stored.{Gv}
-use borrow.Enum.Copied.{fields_at}
-use borrow.Enum.Known.{at, choose}
-use borrow.Enum.LendTwo.{tag_m, VariantBack, variant_parts}
+use base.{Fml.{Fml, fex, Lft, GName, Share, flft, fobs, fauth, fres, fobor, fbor}, Fraction.full_share, Logic.SProp}
+use base.{Logic.{ent, sep, wand, ex, all_e, apply∗}, Stored.Gv}
+use borrow.Enum.{Copied.fields_at, Known.{at, choose}, LendTwo.{tag_m, VariantBack, variant_parts}}
 use borrow.Struct.Alike.{lies_alike}
-use denote.Builtin.{u8, u64}
-use denote.Enum.Declared.{variants, intoss, tag_of}
-use denote.Enum.Enum.{payload, tag, in_a_row}
-use denote.Follow.{follows, followed, both_by, follows_both}
-use denote.Memory.{mem, part_at, lone}
-use denote.Plain.{uint_Lawful}
-use denote.RattleType.{RattleType, Denots, Valss, owns}
-use denote.Ref.{MutRef}
-use denote.Steps.{nothing}
-use denote.Struct.At.{FieldAt}
+use denote.{Builtin.{u8, u64}, Enum.{Declared.{variants, intoss, tag_of}, Enum.{payload, tag, in_a_row}}}
+use denote.{Follow.{follows, followed, both_by, follows_both}, Memory.{mem, part_at, lone}, Plain.uint_Lawful}
+use denote.{RattleType.{RattleType, Denots, Valss, owns}, Ref.MutRef, Steps.nothing, Struct.At.FieldAt}
 use denote.Struct.Members.{Member, rows_of, row_of, parts_at}
 use lib.Dec.{lit<}
-use mir.Syntax.{named, ty_int, w8, w64}
-use mir.Val.{Val, vptr}
+use mir.{Syntax.{named, ty_int, w8, w64}, Val.{Val, vptr}}
 use seplogic.Ra.Ura.{Ura}
-use types.Follow.{after₂, followed₂, takes_two}
-use types.Kit.{‵, raw, ◌⊛◌, some, later, ◌$◌, ◌∵◌, !, qed, by, done, move, keep, use1, use2, split, split3, join}
-use types.Kit.{fsplit, fsplit3, fjoin, fjoin3, feq_i, each, assume, await, pick, rewrite, group, updating, now, show}
-use types.Logic.{Logic, sem}
-use types.SemTy.{Body}
+use types.{Follow.{after₂, followed₂, takes_two}, Kit.{‵, raw, ◌⊛◌, some, later, ◌$◌, ◌∵◌, !, qed, by, done, move}}
+use types.Kit.{keep, use1, use2, split, split3, join, fsplit, fsplit3, fjoin, fjoin3, feq_i, each, assume, await, pick}
+use types.{Kit.{rewrite, group, updating, now, show}, Logic.{Logic, sem}, SemTy.Body}
+use Rattle.ciborium_value.specs.{LentParts.level_with_tag, contracts.tree.Value.{enum, the_type, the_row as R}}
 use Rattle.std.specs.contracts.alloc.Global as global
 use Rattle.std.specs.contracts.boxed.Box as box
 

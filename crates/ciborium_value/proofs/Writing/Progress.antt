@@ -92,34 +92,35 @@ module _ {S : Type 0} (StandsAt : S → Place → Type 0) (out : S → Out) (s :
       by (Ok is) h = h is refl
       by (Err k) h = tt
 
-  pub owes_begin : (new : S) (m : Option ℕ) → m ≡ n → IsSized s n parts → Begins StandsAt s old new m →
+  pub owes_broken_begin : (new : S) {m : Option ℕ} → m ≡ n → IsSized s n parts → BreaksBegin StandsAt out s old new m →
+      BreaksNamed StandsAt out old new (contained s (is_open n) (all_named parts))
+  owes_broken_begin new same size h = named_by new (λ is e p st room.
+      cut_wider (out new) p p (within s n [] p) _ (before_itself p) refl
+      (before_full p s n [] is (full_of s n parts is size (length-named parts is e)))
+      (subst (BreaksBegin StandsAt out s old new) same h p st room))
+
+module _ {S : Type 0} {StandsAt : S → Place → Type 0} {s : Shape} {n : Option ℕ} {parts : List Named} {old : S} where
+  pub owes_begin : {new : S} {m : Option ℕ} → m ≡ n → IsSized s n parts → Begins StandsAt s old new m →
       Owes StandsAt s n parts old new parts
-  owes_begin new m same size h = record {
+  owes_begin {new} same size h = record {
     done = [];
     split = refl;
     size = size;
     inside = subst (Begins StandsAt s old new) same h;
   }
 
-  pub owes_broken_begin : (new : S) (m : Option ℕ) → m ≡ n → IsSized s n parts → BreaksBegin StandsAt out s old new m →
-      BreaksNamed StandsAt out old new (contained s (is_open n) (all_named parts))
-  owes_broken_begin new m same size h = named_by new (λ is e p st room.
-      cut_wider (out new) p p (within s n [] p) _ (before_itself p) refl
-      (before_full p s n [] is (full_of s n parts is size (length-named parts is e)))
-      (subst (BreaksBegin StandsAt out s old new) same h p st room))
-
-  pub owes_ready : (mid : S) (x : Named) (rest : List Named) → IsReady StandsAt old →
+  pub owes_ready : {mid : S} {x : Named} {rest : List Named} → IsReady StandsAt old →
       Owes StandsAt s n parts old mid (x ∷ rest) → IsReady StandsAt mid
-  owes_ready mid x rest h w = (
+  owes_ready {mid} {x} {rest} h w = (
     within s n w.done h.0,
     w.inside h.0 h.1 h.2,
     room_for s n parts w.done x rest h.0 w.size w.split,
   )
 
-  pub owes_more : (mid new : S) (x : Named) (rest : List Named) → Owes StandsAt s n parts old mid (x ∷ rest) →
+  one_more : (mid new : S) (x : Named) (rest : List Named) → Owes StandsAt s n parts old mid (x ∷ rest) →
       AddsNamed StandsAt mid new x → Owes StandsAt s n parts old new rest
-  owes_more mid new (Err k) rest w h = absurd h
-  owes_more mid new (Ok i) rest w h = record {
+  one_more mid new (Err k) rest w h = absurd h
+  one_more mid new (Ok i) rest w h = record {
     done = w.done ++ i ∷ [];
     split = w.split ∙ sym (oks-snoc w.done i rest);
     size = w.size;
@@ -127,9 +128,14 @@ module _ {S : Type 0} (StandsAt : S → Place → Type 0) (out : S → Out) (s :
         (room_for s n parts w.done (Ok i) rest p w.size w.split);
   }
 
-  pub owes_broken : (mid new : S) (x : Named) (rest : List Named) → Owes StandsAt s n parts old mid (x ∷ rest) →
-      BreaksNamed StandsAt out mid new x → BreaksNamed StandsAt out old new (contained s (is_open n) (all_named parts))
-  owes_broken mid new x rest w h = named_by new (λ is e p st room.
+  pub owes_more : {mid new : S} {x : Named} {rest : List Named} → Owes StandsAt s n parts old mid (x ∷ rest) →
+      AddsNamed StandsAt mid new x → Owes StandsAt s n parts old new rest
+  owes_more {mid} {new} {x} {rest} = one_more mid new x rest
+
+  pub owes_broken : (out : S → Out) {mid : S} (new : S) {x : Named} {rest : List Named} →
+      Owes StandsAt s n parts old mid (x ∷ rest) → BreaksNamed StandsAt out mid new x →
+      BreaksNamed StandsAt out old new (contained s (is_open n) (all_named parts))
+  owes_broken out {mid} new {x} {rest} w h = named_by StandsAt out s n parts old new (λ is e p st room.
       let a = named_after w.done (x ∷ rest) is (ap all_named (sym w.split) ∙ e) in
       let b = and_then_is x (all_named rest) a.0 a.1 in
       let same : is ≡ (w.done ++ b.0 ∷ []) ++ b.1 = a.2 ∙ ap (λ l. w.done ++ l) b.4 ∙
@@ -144,12 +150,12 @@ module _ {S : Type 0} (StandsAt : S → Place → Type 0) (out : S → Out) (s :
       cut_wider (out new) p q (added q b.0) _ (before_within p s n w.done) refl last
       (broken q (w.inside p st room) (room_for s n parts w.done x rest p w.size w.split)))
 
-  pub owes_owed : (mid : S) (x : Named) (rest : List Named) (cause : Cause) →
+  pub owes_owed : {mid : S} {x : Named} {rest : List Named} (cause : Cause) →
       Owes StandsAt s n parts old mid (x ∷ rest) → IsOwed cause x →
       IsOwed cause (contained s (is_open n) (all_named parts))
-  owes_owed mid x rest (value k) w h = ap (contained s (is_open n))
+  owes_owed {mid} {x} {rest} (value k) w h = ap (contained s (is_open n))
       (ap all_named (w.split ∙ ap (λ y. oks w.done ++ y ∷ rest) h) ∙ refused_at w.done rest k)
-  owes_owed mid x rest u w h = tt
+  owes_owed u w h = tt
 
   oks-named : (mid : S) (w : Owes StandsAt s n parts old mid []) → all_named parts ≡ Ok w.done
   oks-named mid w = ap all_named (w.split ∙ append-nil (oks w.done)) ∙ each w.done
@@ -161,19 +167,20 @@ module _ {S : Type 0} (StandsAt : S → Place → Type 0) (out : S → Out) (s :
   full : (mid : S) (w : Owes StandsAt s n parts old mid []) → IsFull s n w.done
   full mid w = full_of s n parts w.done w.size (length-named parts w.done (oks-named mid w))
 
-  pub owes_can_end : (mid : S) (m : Option ℕ) → m ≡ n → IsReady StandsAt old → Owes StandsAt s n parts old mid [] →
+  pub owes_can_end : {mid : S} {m : Option ℕ} → m ≡ n → IsReady StandsAt old → Owes StandsAt s n parts old mid [] →
       CanEnd StandsAt mid m
-  owes_can_end mid m same h w = (within s n w.done h.0, w.inside h.0 h.1 h.2, (sym same, full mid w))
+  owes_can_end {mid} same h w = (within s n w.done h.0, w.inside h.0 h.1 h.2, (sym same, full mid w))
 
-  pub owes_ends : (mid new : S) (m : Option ℕ) → m ≡ n → Owes StandsAt s n parts old mid [] → Ends StandsAt mid new m →
-      AddsNamed StandsAt old new (contained s (is_open n) (all_named parts))
-  owes_ends mid new m same w h =
+  pub owes_ends : {mid : S} (new : S) {m : Option ℕ} → m ≡ n → Owes StandsAt s n parts old mid [] →
+      Ends StandsAt mid new m → AddsNamed StandsAt old new (contained s (is_open n) (all_named parts))
+  owes_ends {mid} new same w h =
       subst (AddsNamed StandsAt old new) (ap (contained s (is_open n)) (sym (oks-named mid w)))
       (λ p st room. h (within s n w.done p) (w.inside p st room) (sym same, full mid w))
 
-  pub owes_broken_end : (mid new : S) (m : Option ℕ) → m ≡ n → Owes StandsAt s n parts old mid [] →
-      BreaksEnd StandsAt out mid new m → BreaksNamed StandsAt out old new (contained s (is_open n) (all_named parts))
-  owes_broken_end mid new m same w h =
+  pub owes_broken_end : (out : S → Out) {mid : S} (new : S) {m : Option ℕ} → m ≡ n →
+      Owes StandsAt s n parts old mid [] → BreaksEnd StandsAt out mid new m →
+      BreaksNamed StandsAt out old new (contained s (is_open n) (all_named parts))
+  owes_broken_end out {mid} new same w h =
       subst (BreaksNamed StandsAt out old new) (ap (contained s (is_open n)) (sym (oks-named mid w)))
       (λ p st room. cut_wider (out new) p (within s n w.done p) _ _ (before_within p s n w.done) refl (before_itself _)
       (h (within s n w.done p) (w.inside p st room) (sym same, full mid w)))
@@ -215,12 +222,12 @@ module _ {S : Type 0} (StandsAt : S → Place → Type 0) (out : S → Out) (s :
 
   begun : (mid : S) → Begins StandsAt s old mid (Some count) → Owes StandsAt s (Some count) parts old mid (parts ++ [])
   begun mid h = subst (Owes StandsAt s (Some count) parts old mid) (sym (append-nil parts))
-      (owes_begin StandsAt out s (Some count) parts old mid (Some count) refl fits h)
+      (owes_begin refl fits h)
 
   pub parts_begin_broken : (new : S) → BreaksBegin StandsAt out s old new (Some count) →
       BreaksNamed StandsAt out old new (counted_of s number parts)
   parts_begin_broken new h = subst (BreaksNamed StandsAt out old new) whole
-      (owes_broken_begin StandsAt out s (Some count) parts old new (Some count) refl fits h)
+      (owes_broken_begin StandsAt out s (Some count) parts old new refl fits h)
 
   pub parts_ahead : (mid : S) → IsReady StandsAt old → Begins StandsAt s old mid (Some count) →
       CanTake s StandsAt mid parts
@@ -233,28 +240,26 @@ module _ {S : Type 0} (StandsAt : S → Place → Type 0) (out : S → Out) (s :
 
   pub parts_can_end : (mid last : S) → IsReady StandsAt old → Begins StandsAt s old mid (Some count) →
       TakesAll s StandsAt mid last parts → CanEnd StandsAt last (Some count)
-  parts_can_end mid last ready h taken = owes_can_end StandsAt out s (Some count) parts old last (Some count) refl ready
+  parts_can_end mid last ready h taken = owes_can_end refl ready
       (taken (Some count) parts old [] (begun mid h))
 
   pub parts_added : (mid last new : S) → Begins StandsAt s old mid (Some count) → TakesAll s StandsAt mid last parts →
       Ends StandsAt last new (Some count) → AddsNamed StandsAt old new (counted_of s number parts)
   parts_added mid last new h taken ends = subst (AddsNamed StandsAt old new) whole
-      (owes_ends StandsAt out s (Some count) parts old last new (Some count) refl
-      (taken (Some count) parts old [] (begun mid h)) ends)
+      (owes_ends new refl (taken (Some count) parts old [] (begun mid h)) ends)
 
   pub parts_end_broken : (mid last new : S) → Begins StandsAt s old mid (Some count) →
       TakesAll s StandsAt mid last parts → BreaksEnd StandsAt out last new (Some count) →
       BreaksNamed StandsAt out old new (counted_of s number parts)
   parts_end_broken mid last new h taken broken = subst (BreaksNamed StandsAt out old new) whole
-      (owes_broken_end StandsAt out s (Some count) parts old last new (Some count) refl
-      (taken (Some count) parts old [] (begun mid h)) broken)
+      (owes_broken_end out new refl (taken (Some count) parts old [] (begun mid h)) broken)
 
 -- ---- one part, and the parts behind it
 
 module _ {S : Type 0} (StandsAt : S → Place → Type 0) (out : S → Out) (s : Shape) (old : S) (x : Named)
     (rest : List Named) where
   pub ready_for_one : CanTake s StandsAt old (x ∷ rest) → IsReady StandsAt old
-  ready_for_one h = owes_ready StandsAt out s h.0 h.1 h.2 old x (rest ++ h.3) h.4 h.5
+  ready_for_one h = owes_ready h.4 h.5
 
   pub one_taken : (mid : S) → CanTake s StandsAt old (x ∷ rest) → AddsNamed StandsAt old mid x →
       CanTake s StandsAt mid rest
@@ -264,21 +269,21 @@ module _ {S : Type 0} (StandsAt : S → Place → Type 0) (out : S → Out) (s :
     h.2,
     h.3,
     h.4,
-    owes_more StandsAt out s h.0 h.1 h.2 old mid x (rest ++ h.3) h.5 first,
+    owes_more h.5 first,
   )
 
   pub breaks_at_one : (new : S) → BreaksNamed StandsAt out old new x → BreaksAll s StandsAt out old new (x ∷ rest)
-  breaks_at_one new h = λ n whole begun more w. owes_broken StandsAt out s n whole begun old new x (rest ++ more) w h
+  breaks_at_one new h = λ n whole begun more w. owes_broken out new w h
 
   pub takes_one_more : (mid new : S) → AddsNamed StandsAt old mid x → TakesAll s StandsAt mid new rest →
       TakesAll s StandsAt old new (x ∷ rest)
   takes_one_more mid new first h = λ n whole begun more w.
-      h n whole begun more (owes_more StandsAt out s n whole begun old mid x (rest ++ more) w first)
+      h n whole begun more (owes_more w first)
 
   pub breaks_behind_one : (mid new : S) → AddsNamed StandsAt old mid x → BreaksAll s StandsAt out mid new rest →
       BreaksAll s StandsAt out old new (x ∷ rest)
   breaks_behind_one mid new first h = λ n whole begun more w.
-      h n whole begun more (owes_more StandsAt out s n whole begun old mid x (rest ++ more) w first)
+      h n whole begun more (owes_more w first)
 
 -- ---- one pair, and the parts behind it
 
@@ -328,6 +333,35 @@ next_pair f g es k e lt is =
 pub no_pair : {A B : Type 0} (f : A → Named) (g : B → Named) (es : List (A × B)) (k : ℕ) → length es ≤ k →
     in_turn f g (drop k es) ≡ []
 no_pair f g es k le = ap (in_turn f g) (drop_all k es le)
+
+module _ {S : Type 0} {StandsAt : S → Place → Type 0} {s : Shape} {n : Option ℕ} {parts : List Named}
+    {old mid : S} where
+  pub owes_part : {A : Type 0} (f : A → Named) (xs : List A) (k : ℕ) {x : A} → k < length xs → x ≡ get_or xs k x →
+      Owes StandsAt s n parts old mid (map f (drop k xs)) →
+      Owes StandsAt s n parts old mid (f x ∷ map f (drop (k + 1) xs))
+  owes_part f xs k {x} less is = subst (Owes StandsAt s n parts old mid) (next_part f xs k x less is)
+
+  pub owes_no_part : {A : Type 0} (f : A → Named) (xs : List A) (k : ℕ) → length xs ≤ k →
+      Owes StandsAt s n parts old mid (map f (drop k xs)) → Owes StandsAt s n parts old mid []
+  owes_no_part f xs k all = subst (Owes StandsAt s n parts old mid) (no_part f xs k all)
+
+  pub owes_pair : {A B : Type 0} (f : A → Named) (g : B → Named) (es : List (A × B)) (k : ℕ) {e : A × B} →
+      k < length es → e ≡ get_or es k e → Owes StandsAt s n parts old mid (in_turn f g (drop k es)) →
+      Owes StandsAt s n parts old mid (f e.0 ∷ g e.1 ∷ in_turn f g (drop (k + 1) es))
+  owes_pair f g es k {e} less is = subst (Owes StandsAt s n parts old mid) (next_pair f g es k e less is)
+
+  pub owes_no_pair : {A B : Type 0} (f : A → Named) (g : B → Named) (es : List (A × B)) (k : ℕ) → length es ≤ k →
+      Owes StandsAt s n parts old mid (in_turn f g (drop k es)) → Owes StandsAt s n parts old mid []
+  owes_no_pair f g es k all = subst (Owes StandsAt s n parts old mid) (no_pair f g es k all)
+
+  pub owes_entry : {A B : Type 0} (f : A → Named) (g : B → Named) {es rest : List (A × B)} {e : A × B} → es ≡ e ∷ rest →
+      Owes StandsAt s n parts old mid (in_turn f g es) →
+      Owes StandsAt s n parts old mid (f e.0 ∷ g e.1 ∷ in_turn f g rest)
+  owes_entry f g is = subst (λ l. Owes StandsAt s n parts old mid (in_turn f g l)) is
+
+  pub owes_no_entry : {A B : Type 0} (f : A → Named) (g : B → Named) {es : List (A × B)} → es ≡ [] →
+      Owes StandsAt s n parts old mid (in_turn f g es) → Owes StandsAt s n parts old mid []
+  owes_no_entry f g is = subst (λ l. Owes StandsAt s n parts old mid (in_turn f g l)) is
 
 -- ---- a refusal before anything was written
 

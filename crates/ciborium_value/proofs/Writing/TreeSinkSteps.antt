@@ -4,15 +4,13 @@ use Rattle.std.proofs.Common.{negsuc, ℤ, ◌^◌, nat_lt, if◌then◌else◌,
 use Rattle.std.proofs.lemmas.Result.{on_ok_weaker}
 use Rattle.ciborium_ll.specs.Item.{Item}
 use Rattle.ciborium_value.proofs.Writing.Growing.{still_open, built-added, sound-added, built-ended, built-broken}
-use Rattle.ciborium_value.specs.{Encoding.boolean_item, Number.{number_tree, shortest_bytes}, Places.{Shape, sequence}}
-use Rattle.ciborium_value.specs.Places.{dictionary, Place, top, within, HasRoom, added, container, IsComplete}
-use Rattle.ciborium_value.specs.{Places.writer_at, Sinks.{Named, number_item, Adds, Begins, Ends, AddsNamed}, Tree.Tree}
-use Rattle.ciborium_value.specs.{TreeAnswers.IsTreeOf, View.tree_of, WrittenTrees.written_tree}
-use Rattle.ciborium_value.specs.{declared.serialized.TreeSink.TreeSink, declared.tree.Value.Value}
-use Rattle.ciborium_value.specs.{inner.Frames.{TreeFrame, done, more, placed, closed}, inner.Stack.frames_of}
-use Rattle.ciborium_value.specs.{inner.Stack.placed_of, inner.TreeSinks.{put_tree, empty_container, begun, built}}
-use Rattle.ciborium_value.specs.inner.TreeSinks.{state_of, IsBuiltAt}
-use Rattle.ciborium_value.proofs.Writing.Standing.{writer_at-added}
+use Rattle.ciborium_value.{proofs.Writing.Standing.writer_at-added, specs.{Encoding.boolean_item, Number.number_tree}}
+use Rattle.ciborium_value.specs.{Number.shortest_bytes, Places.{Shape, sequence, dictionary, Place, top, within}}
+use Rattle.ciborium_value.specs.{Places.{HasRoom, added, container, IsComplete, writer_at}, Sinks.{Named, number_item}}
+use Rattle.ciborium_value.specs.{Sinks.{Adds, Begins, Ends, AddsNamed}, Tree.Tree, TreeAnswers.IsTreeOf, View.tree_of}
+use Rattle.ciborium_value.specs.{WrittenTrees.written_tree, declared.{serialized.TreeSink.TreeSink, tree.Value.Value}}
+use Rattle.ciborium_value.specs.inner.{Frames.{TreeFrame, done, more, placed, closed}, Stack.{frames_of, placed_of}}
+use Rattle.ciborium_value.specs.inner.TreeSinks.{put_tree, empty_container, begun, built, state_of, IsBuiltAt}
 use Rattle.ciborium_ll.specs.Item as item
 use Rattle.ciborium_value.specs.Places as places
 use Rattle.ciborium_value.specs.Tree as trees

@@ -12,11 +12,10 @@ use Rattle.ciborium_value.specs.{Readings.Reading, ReadsBack.{IsItemRead, IsName
 use Rattle.ciborium_value.specs.{ReadsBack.{met-text, name-back}, Sinks.{Named, all_named, and_then, bignum_item}}
 use Rattle.ciborium_value.specs.{Sinks.{contained, in_turn}, StructReadings.{Fields, FieldsGiven, end_of_fields, field}}
 use Rattle.ciborium_value.specs.StructReadings.{field_filled, field_or, field_given, given_struct, no_field}
-use Rattle.ciborium_value.specs.StructReadings.{no_field_given, required, take_fields}
-use Rattle.ciborium_value.specs.lemmas.{GivenOutcomes.one_given, MetItems.{ArePairsMet, inside, map-met}}
-use Rattle.ciborium_value.specs.lemmas.{ReadsBackParts.{within-left, within-right}, Reordered.{AreEach, AreReordered}}
-use Rattle.ciborium_value.specs.lemmas.Reordered.{all-reordered, as_they_are, each-reordered, first_stays, neighbours}
-use Rattle.ciborium_value.specs.lemmas.Reordered.{then_again}
+use Rattle.ciborium_value.specs.{StructReadings.{no_field_given, required, take_fields}, lemmas.GivenOutcomes.one_given}
+use Rattle.ciborium_value.specs.lemmas.{MetItems.{ArePairsMet, inside, map-met}, ReadsBackParts.within-left}
+use Rattle.ciborium_value.specs.lemmas.{ReadsBackParts.within-right, Reordered.{AreEach, AreReordered, all-reordered}}
+use Rattle.ciborium_value.specs.lemmas.Reordered.{as_they_are, each-reordered, first_stays, neighbours, then_again}
 use Rattle.ciborium_ll.specs.Item as items
 use Rattle.ciborium_ll.specs.declared.kind.Kind.TheVariants as kinds
 

@@ -1,7 +1,7 @@
 -- What is written of a `Value` is read back, where folding changes nothing in it (RFC 8949, section
 -- 3.4.3).
-use Rattle.std.specs.Prelude.{Option, Some, None, option_map, refl, ◌≡◌, ℕ, suc, max, pos, negsuc, false, true, List}
-use Rattle.std.proofs.Common.{ap, ◌∙◌, arith, zero}
+use Rattle.std.{proofs.Common.{ap, ◌∙◌, arith, zero}, specs.Prelude.{Option, Some, None, option_map, refl, ◌≡◌, ℕ, suc}}
+use Rattle.std.specs.Prelude.{max, pos, negsuc, false, true, List}
 use Rattle.ciborium_value.specs.{Encoding.{item_of, items_of, pairs_of}, Folded.{folded, trees_folded}}
 use Rattle.ciborium_value.specs.{Folded.tree_pairs_folded, Given.{Outcome, Steps, gives, leveled, mapped, of_meaning}}
 use Rattle.ciborium_value.specs.Given.{outcome, outcome_map, given_items, given_tag, given_tree_pairs, given_value}
@@ -9,9 +9,8 @@ use Rattle.ciborium_value.specs.{Given.then_read, Meaning.{folding_bytes, simple
 use Rattle.ciborium_value.specs.{Meaning.trees_more, Nesting.{Limit, IsWithin, items_nesting, nesting, pairs_nesting}}
 use Rattle.ciborium_value.specs.{Nesting.tag_nesting, ReadsBack.{IsNameRead, IsPlain, Way, by_bytes, by_form, by_tree}}
 use Rattle.ciborium_value.specs.{ReadsBack.{item-back, met, named}, Tree.{Tree, Trees, TreePairs}}
-use Rattle.ciborium_value.specs.lemmas.GivenOutcomes.{pair_first, tree_first}
-use Rattle.ciborium_value.specs.{lemmas.ItemsOfTrees.tree_is_written_as_itself, lemmas.ReadsBackParts.within-left}
-use Rattle.ciborium_value.specs.lemmas.ReadsBackParts.{within-right}
+use Rattle.ciborium_value.specs.lemmas.{GivenOutcomes.{pair_first, tree_first}, ItemsOfTrees.tree_is_written_as_itself}
+use Rattle.ciborium_value.specs.lemmas.ReadsBackParts.{within-left, within-right}
 use Rattle.ciborium_value.specs.Tree as trees
 use Rattle.ciborium_ll.specs.declared.kind.Kind.TheVariants as kinds
 

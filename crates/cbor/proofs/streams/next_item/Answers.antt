@@ -11,3 +11,10 @@ returns-in-Some-clause-next g c b e =
 pub returns-then-branch-clause-next : goal.returns-then-branch-clause-next
 returns-then-branch-clause-next g c b e =
     rw c.if-branch.true at (c.in_ok-is_at_end.ensures.end b (c.in_default.ensures.item b e))
+
+pub returns-clause-next : goal.returns-clause-next
+returns-clause-next g c b e =
+    let left = c.in_default.ensures.item b e in (
+      rw c.if-branch.false at (c.in_ok-is_at_end.ensures.end b left),
+      c.in_ok-next.ensures b (c.in_ok-is_at_end.ensures.kept b left),
+    )

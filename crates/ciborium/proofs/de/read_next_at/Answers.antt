@@ -1,7 +1,6 @@
 -- What the first head and what follows it took was taken from the reader that was lent.
-use Rattle.std.proofs.{Common.{None, arith, rules, sym, ◌∙◌}, lemmas.Result.err_from_is_err_and}
-use Rattle.std.specs.declared.io.Error.{Error}
-use Rattle.ciborium.proofs.Readers.NextReaders.{reads-next, refuses-first, refuses-full}
+use Rattle.std.{proofs.Common.{None, arith, rules, sym, ◌∙◌}, specs.declared.io.Error.Error}
+use Rattle.ciborium.proofs.{Exits.passed_on, Readers.NextReaders.{reads-next, refuses-first, refuses-full}}
 use Rattle.ciborium.proofs.de.read_next_at.Goals as goal
 
 pub returns-then-begin-clause-next : goal.returns-then-begin-clause-next
@@ -10,8 +9,8 @@ returns-then-begin-clause-next g c =
 
 pub returns-in_err-first-clause-next : goal.returns-in_err-first-clause-next
 returns-in_err-first-clause-next g c =
-    let exit = err_from_is_err_and c.from_residual.result c.from_residual.ensures.1 in
-    rw (exit.1, exit.2) (refuses-first Error g.A.Access.can_fail g.A.Access.remaining c.begin.result
+    rw (passed_on c.from_residual.result _ c.from_residual.ensures.1)
+    (refuses-first Error g.A.Access.can_fail g.A.Access.remaining c.begin.result
     c.pull_first.new.self c.args.reader.now _
     c.begin.ensures.begins c.pull_first.ensures.same_reader c.in_err-first.field-0.0 c.in_err-first.ensures.ended
     c.in_err-first.ensures.taken

@@ -1,4 +1,4 @@
-use Rattle.std.proofs.Common.{◌≡◌, ◌<◌, ◌≤◌, length, get_or, rules, refl, sym, ap, ◌∙◌, subst, arith}
+use Rattle.std.proofs.Common.{◌≡◌, ◌<◌, ◌≤◌, List, ℕ, length, get_or, rules, refl, sym, ap, ◌∙◌, subst, arith}
 use Rattle.ciborium_value.specs.{Encoding.encoding, declared.tree.Value.the_lemmas}
 use Rattle.ciborium_value.proofs.Orders.VisitCounts.{items_visits-differ, items_visits-same, keys_visits-differ}
 use Rattle.ciborium_value.proofs.Orders.VisitCounts.{values_visits-differ, pairs_visits-same}
@@ -10,6 +10,14 @@ use Rattle.ciborium_value.proofs.Orders.TreeEncodings.{content_bytes-Bytes, cont
 use Rattle.ciborium_value.proofs.Orders.TreeEncodings.{content_bytes-Array, content_bytes-Map, argument_of-Bytes}
 use Rattle.ciborium_value.proofs.Orders.TreeEncodings.{argument_of-Text}
 use Rattle.ciborium_value.proofs.canonical.+compare.Goals as goal
+
+-- a walk over the left list stands inside both
+stands : {A : Type 0} (i : ℕ) (start left right : List A) (x : A) (m n : ℕ) → start ≡ left → x ≡ get_or start i x →
+    i < length start → m ≡ n → m ≡ length left → n ≡ length right →
+    (x ≡ get_or left i x) × (i < length left) × (i < length right)
+stands i start left right x m n same is less as_many first second =
+    let within : i < length left = subst (λ l. i < length l) same less in
+    (subst (λ l. x ≡ get_or l i x) same is, within, omega (arith, within, as_many, first, second))
 
 pub compare-returns-then-is_ne-clause-decides : goal.compare-returns-then-is_ne-clause-decides
 compare-returns-then-is_ne-clause-decides t c =
@@ -87,33 +95,24 @@ compare-returns-in_default-6-clause-decides t c =
 pub compare_items-returns-then-is_ne-clause-decides : goal.compare_items-returns-then-is_ne-clause-decides
 compare_items-returns-then-is_ne-clause-decides t c =
     let i = c.loop-index.index in
-    let list = c.deref-item-items.ensures.value in
-    let item = subst (λ l. c.item-item.result ≡ get_or l i c.item-item.result) list c.item-item.is in
-    let within : i < length c.args.left.now.items = subst (λ l. i < length l) list c.loop-index-test.true in
-    let other_within : i < length c.args.right.now.items =
-    omega (arith, within, c.requires.as_many, c.args.left.now.ok.0, c.args.right.now.ok.0) in
+    let (item, within, other_within) = stands i _ _ _ _ _ _ c.deref-item-items.ensures.value c.item-item.is
+    c.loop-index-test.true c.requires.as_many c.args.left.now.ok.0 c.args.right.now.ok.0 in
     items_differ i _ _ _ _ _ _ within item other_within c.index.ensures c.loop-index.invariant.same c.is_ne.ensures
     c.if-is_ne.true c.compare-order.ensures.decides
 
 pub compare_items-returns-then-is_ne-clause-visits : goal.compare_items-returns-then-is_ne-clause-visits
 compare_items-returns-then-is_ne-clause-visits t c =
     let i = c.loop-index.index in
-    let list = c.deref-item-items.ensures.value in
-    let item = subst (λ l. c.item-item.result ≡ get_or l i c.item-item.result) list c.item-item.is in
-    let within : i < length c.args.left.now.items = subst (λ l. i < length l) list c.loop-index-test.true in
-    let other_within : i < length c.args.right.now.items =
-    omega (arith, within, c.requires.as_many, c.args.left.now.ok.0, c.args.right.now.ok.0) in
+    let (item, within, other_within) = stands i _ _ _ _ _ _ c.deref-item-items.ensures.value c.item-item.is
+    c.loop-index-test.true c.requires.as_many c.args.left.now.ok.0 c.args.right.now.ok.0 in
     items_visits-differ i _ _ _ _ within item other_within c.index.ensures _ _ _ _ _ c.args.visits.now.in_range
     c.is_ne.ensures c.if-is_ne.true c.loop-index.invariant.visits c.compare-order.ensures.visits
 
 pub compare_items-loop-index-preserved : goal.compare_items-loop-index-preserved
 compare_items-loop-index-preserved t c =
     let i = c.loop-index.index in
-    let list = c.deref-item-items.ensures.value in
-    let item = subst (λ l. c.item-item.result ≡ get_or l i c.item-item.result) list c.item-item.is in
-    let within : i < length c.args.left.now.items = subst (λ l. i < length l) list c.loop-index-test.true in
-    let other_within : i < length c.args.right.now.items =
-    omega (arith, within, c.requires.as_many, c.args.left.now.ok.0, c.args.right.now.ok.0) in
+    let (item, within, other_within) = stands i _ _ _ _ _ _ c.deref-item-items.ensures.value c.item-item.is
+    c.loop-index-test.true c.requires.as_many c.args.left.now.ok.0 c.args.right.now.ok.0 in
     record {
       same = items_same i _ _ _ _ within item other_within c.index.ensures c.loop-index.invariant.same
           (c.compare-order.ensures.equal (tied _ _ c.is_ne.ensures c.if-is_ne.false));
@@ -132,33 +131,24 @@ compare_items-returns-clause-decides t c =
 pub compare_pairs-returns-then-is_ne-clause-decides : goal.compare_pairs-returns-then-is_ne-clause-decides
 compare_pairs-returns-then-is_ne-clause-decides t c =
     let i = c.loop-index.index in
-    let list = c.deref-pair-items.ensures.value in
-    let item = subst (λ l. c.pair-item.result ≡ get_or l i c.pair-item.result) list c.pair-item.is in
-    let within : i < length c.args.left.now.items = subst (λ l. i < length l) list c.loop-index-test.true in
-    let other_within : i < length c.args.right.now.items =
-    omega (arith, within, c.requires.as_many, c.args.left.now.ok.0, c.args.right.now.ok.0) in
+    let (item, within, other_within) = stands i _ _ _ _ _ _ c.deref-pair-items.ensures.value c.pair-item.is
+    c.loop-index-test.true c.requires.as_many c.args.left.now.ok.0 c.args.right.now.ok.0 in
     keys_differ i _ _ _ _ _ _ within item other_within c.index-other.ensures c.loop-index.invariant.same c.is_ne.ensures
     c.if-is_ne.true c.compare-keys.ensures.decides
 
 pub compare_pairs-returns-then-is_ne-clause-visits : goal.compare_pairs-returns-then-is_ne-clause-visits
 compare_pairs-returns-then-is_ne-clause-visits t c =
     let i = c.loop-index.index in
-    let list = c.deref-pair-items.ensures.value in
-    let item = subst (λ l. c.pair-item.result ≡ get_or l i c.pair-item.result) list c.pair-item.is in
-    let within : i < length c.args.left.now.items = subst (λ l. i < length l) list c.loop-index-test.true in
-    let other_within : i < length c.args.right.now.items =
-    omega (arith, within, c.requires.as_many, c.args.left.now.ok.0, c.args.right.now.ok.0) in
+    let (item, within, other_within) = stands i _ _ _ _ _ _ c.deref-pair-items.ensures.value c.pair-item.is
+    c.loop-index-test.true c.requires.as_many c.args.left.now.ok.0 c.args.right.now.ok.0 in
     keys_visits-differ i _ _ _ _ within item other_within c.index-other.ensures _ _ _ _ _ c.args.visits.now.in_range
     c.is_ne.ensures c.if-is_ne.true c.loop-index.invariant.visits c.compare-keys.ensures.visits
 
 pub compare_pairs-returns-then-is_ne-2-clause-decides : goal.compare_pairs-returns-then-is_ne-2-clause-decides
 compare_pairs-returns-then-is_ne-2-clause-decides t c =
     let i = c.loop-index.index in
-    let list = c.deref-pair-items.ensures.value in
-    let item = subst (λ l. c.pair-item.result ≡ get_or l i c.pair-item.result) list c.pair-item.is in
-    let within : i < length c.args.left.now.items = subst (λ l. i < length l) list c.loop-index-test.true in
-    let other_within : i < length c.args.right.now.items =
-    omega (arith, within, c.requires.as_many, c.args.left.now.ok.0, c.args.right.now.ok.0) in
+    let (item, within, other_within) = stands i _ _ _ _ _ _ c.deref-pair-items.ensures.value c.pair-item.is
+    c.loop-index-test.true c.requires.as_many c.args.left.now.ok.0 c.args.right.now.ok.0 in
     values_differ i _ _ _ _ _ _ within item other_within c.index-other.ensures c.loop-index.invariant.same
     (c.compare-keys.ensures.equal (tied _ _ c.is_ne.ensures c.if-is_ne.false))
     c.is_ne-in-loop-index.ensures c.if-is_ne-2.true c.compare-values.ensures.decides
@@ -166,11 +156,8 @@ compare_pairs-returns-then-is_ne-2-clause-decides t c =
 pub compare_pairs-returns-then-is_ne-2-clause-visits : goal.compare_pairs-returns-then-is_ne-2-clause-visits
 compare_pairs-returns-then-is_ne-2-clause-visits t c =
     let i = c.loop-index.index in
-    let list = c.deref-pair-items.ensures.value in
-    let item = subst (λ l. c.pair-item.result ≡ get_or l i c.pair-item.result) list c.pair-item.is in
-    let within : i < length c.args.left.now.items = subst (λ l. i < length l) list c.loop-index-test.true in
-    let other_within : i < length c.args.right.now.items =
-    omega (arith, within, c.requires.as_many, c.args.left.now.ok.0, c.args.right.now.ok.0) in
+    let (item, within, other_within) = stands i _ _ _ _ _ _ c.deref-pair-items.ensures.value c.pair-item.is
+    c.loop-index-test.true c.requires.as_many c.args.left.now.ok.0 c.args.right.now.ok.0 in
     values_visits-differ i _ _ _ _ within item other_within c.index-other.ensures _ _ _ _ _ _ _ _
     c.args.visits.now.in_range c.is_ne.ensures c.if-is_ne.false c.is_ne-in-loop-index.ensures c.if-is_ne-2.true
     c.loop-index.invariant.visits c.compare-keys.ensures.visits c.compare-values.ensures.visits
@@ -178,11 +165,8 @@ compare_pairs-returns-then-is_ne-2-clause-visits t c =
 pub compare_pairs-loop-index-preserved : goal.compare_pairs-loop-index-preserved
 compare_pairs-loop-index-preserved t c =
     let i = c.loop-index.index in
-    let list = c.deref-pair-items.ensures.value in
-    let item = subst (λ l. c.pair-item.result ≡ get_or l i c.pair-item.result) list c.pair-item.is in
-    let within : i < length c.args.left.now.items = subst (λ l. i < length l) list c.loop-index-test.true in
-    let other_within : i < length c.args.right.now.items =
-    omega (arith, within, c.requires.as_many, c.args.left.now.ok.0, c.args.right.now.ok.0) in
+    let (item, within, other_within) = stands i _ _ _ _ _ _ c.deref-pair-items.ensures.value c.pair-item.is
+    c.loop-index-test.true c.requires.as_many c.args.left.now.ok.0 c.args.right.now.ok.0 in
     record {
       same = pairs_same i _ _ _ _ within item other_within c.index-other.ensures c.loop-index.invariant.same
           (c.compare-keys.ensures.equal (tied _ _ c.is_ne.ensures c.if-is_ne.false))

@@ -1,4 +1,5 @@
-use Rattle.std.proofs.Common.{◌≡◌, ◌<◌, length, get_or, set, Some, None, rules, refl, sym, ap, ◌∙◌, subst, arith}
+use Rattle.std.proofs.Common.{◌≡◌, ◌<◌, ◌≤◌, List, ℕ, length, get_or, set, Some, None, rules, refl, sym, ap, ◌∙◌}
+use Rattle.std.proofs.Common.{subst, arith}
 use Rattle.std.proofs.lemmas.{List.{get_or_default, get_or-set_other, length-set}, Result.{IfOk-weaker, IfErr-weaker}}
 use Rattle.ciborium_value.proofs.Forms.MadeForms.{AreAlike-refl, AreAlike-set, PairsAreAlike-set, all_made}
 use Rattle.ciborium_value.proofs.Forms.MadeForms.{all_pairs_made, one_refused, one_key_refused, one_value_refused}
@@ -13,6 +14,16 @@ use Rattle.ciborium_value.specs.{View.{trees_of, tree_pairs_of}, declared.tree.V
 use Rattle.ciborium_value.specs.SameContents as same
 use Rattle.ciborium_value.specs.Tree as trees
 use Rattle.ciborium_value.proofs.deterministic.+make.Goals as goal
+
+-- what a walk has not visited stands there as before
+stood : {A : Type 0} (i : ℕ) (old start now : List A) (x : A) → start ≡ old → (length now ≡ length start) ×
+    ((k : ℕ) (d : A) → i ≤ k → get_or now k d ≡ get_or start k d) → i < length start →
+    (length now ≡ length old) × (i < length now) × ((d : A) → get_or now i x ≡ get_or old i d)
+stood i old start now x same (long, rest) less = let within : i < length now = omega (arith, long, less) in (
+  long ∙ ap length same,
+  within,
+  λ d. get_or_default now i x d within ∙ (rest i d (omega arith) ∙ ap (λ l. get_or l i d) same),
+)
 
 pub make-returns-in_err-number-in-Some-clause-alike : goal.make-returns-in_err-number-in-Some-clause-alike
 make-returns-in_err-number-in-Some-clause-alike t c = alike_as (search (rules, the_lemmas)) same.itself
@@ -134,12 +145,8 @@ make_items-returns-in_err-make-clause-refused t c =
     let i = c.loop-item.item-index in
     let old = c.args.items.now.items in
     let now = c.loop-item.item-items in
-    let list : c.deref_mut-item-items.result.now ≡ old = c.deref_mut-item-items.ensures.value in
-    let long : length now ≡ length old = c.loop-item.invariant.unvisited.0 ∙ ap length list in
-    let within : i < length now = omega (arith, c.loop-item-test.true, c.loop-item.invariant.unvisited.0) in
-    let there : (d : Value) → get_or now i c.item-item.result ≡ get_or old i d =
-    λ d. get_or_default now i c.item-item.result d within ∙ c.loop-item.invariant.unvisited.1 i d (omega arith) ∙
-    ap (λ l. get_or l i d) list in
+    let (long, within, there) = stood i old _ now c.item-item.result c.deref_mut-item-items.ensures.value
+    c.loop-item.invariant.unvisited c.loop-item-test.true in
     let here : (d : Value) → deterministic_form c.args.order (tree_of (get_or old i d)) ≡ refuses
     c.in_err-make.field-0.0 =
     λ d. subst (λ v. deterministic_form c.args.order (tree_of v) ≡ refuses c.in_err-make.field-0.0) (there d)
@@ -153,12 +160,8 @@ make_items-returns-in_err-make-clause-alike t c =
     let i = c.loop-item.item-index in
     let old = c.args.items.now.items in
     let now = c.loop-item.item-items in
-    let list : c.deref_mut-item-items.result.now ≡ old = c.deref_mut-item-items.ensures.value in
-    let long : length now ≡ length old = c.loop-item.invariant.unvisited.0 ∙ ap length list in
-    let within : i < length now = omega (arith, c.loop-item-test.true, c.loop-item.invariant.unvisited.0) in
-    let there : (d : Value) → get_or now i c.item-item.result ≡ get_or old i d =
-    λ d. get_or_default now i c.item-item.result d within ∙ c.loop-item.invariant.unvisited.1 i d (omega arith) ∙
-    ap (λ l. get_or l i d) list in
+    let (long, within, there) = stood i old _ now c.item-item.result c.deref_mut-item-items.ensures.value
+    c.loop-item.invariant.unvisited c.loop-item-test.true in
     let wrote : length (set now i c.make.new.value) ≡ length old = length-set now i c.make.new.value ∙ long in
     let all = all_written c.args.items.now.len (set now i c.make.new.value) old wrote c.args.items.now.ok.0 in
     let alike = AreAlike-set i c.item-item.result c.make.new.value old now (sym long) c.loop-item.invariant.alike
@@ -171,12 +174,8 @@ make_items-loop-item-preserved t c =
     let i = c.loop-item.item-index in
     let old = c.args.items.now.items in
     let now = c.loop-item.item-items in
-    let list : c.deref_mut-item-items.result.now ≡ old = c.deref_mut-item-items.ensures.value in
-    let long : length now ≡ length old = c.loop-item.invariant.unvisited.0 ∙ ap length list in
-    let within : i < length now = omega (arith, c.loop-item-test.true, c.loop-item.invariant.unvisited.0) in
-    let there : (d : Value) → get_or now i c.item-item.result ≡ get_or old i d =
-    λ d. get_or_default now i c.item-item.result d within ∙ c.loop-item.invariant.unvisited.1 i d (omega arith) ∙
-    ap (λ l. get_or l i d) list in
+    let (long, within, there) = stood i old _ now c.item-item.result c.deref_mut-item-items.ensures.value
+    c.loop-item.invariant.unvisited c.loop-item-test.true in
     record {
       unvisited = (
         length-set now i c.make.new.value ∙ c.loop-item.invariant.unvisited.0,
@@ -218,12 +217,8 @@ make_pairs-returns-in_err-make-clause-refused t c =
     let i = c.loop-pair.pair-index in
     let old = c.args.pairs.now.items in
     let now = c.loop-pair.pair-items in
-    let list : c.deref_mut-pair-items.result.now ≡ old = c.deref_mut-pair-items.ensures.value in
-    let long : length now ≡ length old = c.loop-pair.invariant.unvisited.0 ∙ ap length list in
-    let within : i < length now = omega (arith, c.loop-pair-test.true, c.loop-pair.invariant.unvisited.0) in
-    let there : (d : Value × Value) → get_or now i c.pair-item.result ≡ get_or old i d =
-    λ d. get_or_default now i c.pair-item.result d within ∙ c.loop-pair.invariant.unvisited.1 i d (omega arith) ∙
-    ap (λ l. get_or l i d) list in
+    let (long, within, there) = stood i old _ now c.pair-item.result c.deref_mut-pair-items.ensures.value
+    c.loop-pair.invariant.unvisited c.loop-pair-test.true in
     let here : (d : Value × Value) → deterministic_form c.args.order (tree_of (get_or old i d).0) ≡ refuses
     c.in_err-make.field-0.0 =
     λ d. subst (λ p. deterministic_form c.args.order (tree_of p.0) ≡ refuses c.in_err-make.field-0.0) (there d)
@@ -237,12 +232,8 @@ make_pairs-returns-in_err-make-clause-alike t c =
     let i = c.loop-pair.pair-index in
     let old = c.args.pairs.now.items in
     let now = c.loop-pair.pair-items in
-    let list : c.deref_mut-pair-items.result.now ≡ old = c.deref_mut-pair-items.ensures.value in
-    let long : length now ≡ length old = c.loop-pair.invariant.unvisited.0 ∙ ap length list in
-    let within : i < length now = omega (arith, c.loop-pair-test.true, c.loop-pair.invariant.unvisited.0) in
-    let there : (d : Value × Value) → get_or now i c.pair-item.result ≡ get_or old i d =
-    λ d. get_or_default now i c.pair-item.result d within ∙ c.loop-pair.invariant.unvisited.1 i d (omega arith) ∙
-    ap (λ l. get_or l i d) list in
+    let (long, within, there) = stood i old _ now c.pair-item.result c.deref_mut-pair-items.ensures.value
+    c.loop-pair.invariant.unvisited c.loop-pair-test.true in
     let pair : Value × Value = (c.make.new.value, (get_or now i c.pair-item.result).1) in
     let wrote : length (set now i pair) ≡ length old = length-set now i pair ∙ long in
     let all = all_written c.args.pairs.now.len (set now i pair) old wrote c.args.pairs.now.ok.0 in
@@ -255,12 +246,8 @@ make_pairs-returns-in_err-make-2-clause-refused t c =
     let i = c.loop-pair.pair-index in
     let old = c.args.pairs.now.items in
     let now = c.loop-pair.pair-items in
-    let list : c.deref_mut-pair-items.result.now ≡ old = c.deref_mut-pair-items.ensures.value in
-    let long : length now ≡ length old = c.loop-pair.invariant.unvisited.0 ∙ ap length list in
-    let within : i < length now = omega (arith, c.loop-pair-test.true, c.loop-pair.invariant.unvisited.0) in
-    let there : (d : Value × Value) → get_or now i c.pair-item.result ≡ get_or old i d =
-    λ d. get_or_default now i c.pair-item.result d within ∙ c.loop-pair.invariant.unvisited.1 i d (omega arith) ∙
-    ap (λ l. get_or l i d) list in
+    let (long, within, there) = stood i old _ now c.pair-item.result c.deref_mut-pair-items.ensures.value
+    c.loop-pair.invariant.unvisited c.loop-pair-test.true in
     let key : (d : Value × Value) → deterministic_form c.args.order (tree_of (get_or old i d).0) ≡ gives
     (tree_of c.make.new.value) =
     λ d. subst (λ p. deterministic_form c.args.order (tree_of p.0) ≡ gives (tree_of c.make.new.value)) (there d)
@@ -278,12 +265,8 @@ make_pairs-returns-in_err-make-2-clause-alike t c =
     let i = c.loop-pair.pair-index in
     let old = c.args.pairs.now.items in
     let now = c.loop-pair.pair-items in
-    let list : c.deref_mut-pair-items.result.now ≡ old = c.deref_mut-pair-items.ensures.value in
-    let long : length now ≡ length old = c.loop-pair.invariant.unvisited.0 ∙ ap length list in
-    let within : i < length now = omega (arith, c.loop-pair-test.true, c.loop-pair.invariant.unvisited.0) in
-    let there : (d : Value × Value) → get_or now i c.pair-item.result ≡ get_or old i d =
-    λ d. get_or_default now i c.pair-item.result d within ∙ c.loop-pair.invariant.unvisited.1 i d (omega arith) ∙
-    ap (λ l. get_or l i d) list in
+    let (long, within, there) = stood i old _ now c.pair-item.result c.deref_mut-pair-items.ensures.value
+    c.loop-pair.invariant.unvisited c.loop-pair-test.true in
     let pair : Value × Value = (c.make.new.value, c.make-in-loop-pair.new.value) in
     let wrote : length (set now i pair) ≡ length old = length-set now i pair ∙ long in
     let all = all_written c.args.pairs.now.len (set now i pair) old wrote c.args.pairs.now.ok.0 in
@@ -296,12 +279,8 @@ make_pairs-loop-pair-preserved t c =
     let i = c.loop-pair.pair-index in
     let old = c.args.pairs.now.items in
     let now = c.loop-pair.pair-items in
-    let list : c.deref_mut-pair-items.result.now ≡ old = c.deref_mut-pair-items.ensures.value in
-    let long : length now ≡ length old = c.loop-pair.invariant.unvisited.0 ∙ ap length list in
-    let within : i < length now = omega (arith, c.loop-pair-test.true, c.loop-pair.invariant.unvisited.0) in
-    let there : (d : Value × Value) → get_or now i c.pair-item.result ≡ get_or old i d =
-    λ d. get_or_default now i c.pair-item.result d within ∙ c.loop-pair.invariant.unvisited.1 i d (omega arith) ∙
-    ap (λ l. get_or l i d) list in
+    let (long, within, there) = stood i old _ now c.pair-item.result c.deref_mut-pair-items.ensures.value
+    c.loop-pair.invariant.unvisited c.loop-pair-test.true in
     let pair : Value × Value = (c.make.new.value, c.make-in-loop-pair.new.value) in
     record {
       unvisited = (

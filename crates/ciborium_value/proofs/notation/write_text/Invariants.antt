@@ -1,8 +1,7 @@
-use Rattle.std.proofs.Common.{◌≡◌, ℕ, List, ◌++◌, codes, length}
-use Rattle.std.specs.{Fmt.{HasWrittenStyled, IsFlush}, List.flat_map}
+use Rattle.std.{proofs.Common.{◌≡◌, ℕ, List, ◌++◌, codes, length}, specs.Fmt.{HasWrittenStyled, IsFlush}}
+use Rattle.std.specs.List.{flat_map}
 use Rattle.ciborium_value.specs.Notation.{escaped}
-use denote.Text.{Utf8}
-use denote.Shadow.{shadow}
+use denote.{Shadow.shadow, Text.Utf8}
 use Rattle.ciborium_value.proofs.notation.write_text.Given as goal
 
 -- the text before the rest is written, escaped

@@ -1,15 +1,15 @@
-use Rattle.std.proofs.{Common.{◌++◌, ◌-◌, ◌∙◌, Some, Ok, Err, ap, refl}, lemmas.Result.err_from_is_err_and}
+use Rattle.std.proofs.{Common.{◌++◌, ◌-◌, ◌∙◌, Some, Ok, Err, ap, refl}}
 use Rattle.ciborium_ll.specs.Decoding.{with_left}
 use Rattle.ciborium_value.specs.{View.tree_of, inner.Stack.frames_of}
 use Rattle.ciborium.proofs.Turns.Turned.{turn-refused, turn-whole, turn-begun, turn-ended, turn-break, depth-placed}
 use Rattle.ciborium.{proofs.Turns.Turned.depth-closed, specs.declared.de.front.Part.TheVariants.{Whole, Begun, Ended}}
+use Rattle.ciborium.proofs.Exits.{passed_on}
 use Rattle.ciborium.proofs.de.building.turn.Goals as goal
 
 pub returns-in_err-value-clause-turn : goal.returns-in_err-value-clause-turn
 returns-in_err-value-clause-turn g c =
-    let exit = err_from_is_err_and c.from_residual.result c.from_residual.ensures.1 in
     let t = c.in_err-value.ensures.part in
-    rw (exit.1, exit.2) (
+    rw (passed_on c.from_residual.result _ c.from_residual.ensures.1) (
       t.0,
       t.1,
       t.2,
@@ -87,3 +87,11 @@ returns-in-None-clause-turn g c =
           (c.saturating_sub-offset.ensures ∙ ap (λ n. n - 1) c.offset-in-None.ensures),
       t.4,
     )
+
+pub returns-in_err-value-clause-ended : goal.returns-in_err-value-clause-ended
+returns-in_err-value-clause-ended g c =
+    rw (passed_on c.from_residual.result _ c.from_residual.ensures.1) c.in_err-value.ensures.ended
+
+pub returns-in-Err-clause-turn : goal.returns-in-Err-clause-turn
+returns-in-Err-clause-turn g c =
+    let t = c.in_ok-value.ensures.part in (t.0, t.1, t.2, λ z xs p s. tt, t.4)

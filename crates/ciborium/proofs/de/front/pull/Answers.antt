@@ -1,13 +1,13 @@
-use Rattle.std.proofs.{Common.{Some, Ok, Err}, lemmas.Result.err_from_is_err_and}
+use Rattle.std.proofs.Common.{Some, Ok, Err}
 use Rattle.ciborium_ll.specs.{Decoding.with_left, Refusal.HeadRefuses}
-use Rattle.ciborium.proofs.{Readers.WhateverFollows.{so-map, head-pulled, PullsAll}, Turns.Fronts.PullsSo}
-use Rattle.ciborium.{proofs.Turns.Pulled.{refused-from, head-read, fewer-heads}, specs.Errors.from_ll}
+use Rattle.ciborium.proofs.{Exits.passed_on, Readers.WhateverFollows.{so-map, head-pulled, PullsAll}}
+use Rattle.ciborium.{proofs.Turns.{Fronts.PullsSo, Pulled.{refused-from, head-read, fewer-heads}}, specs.Errors.from_ll}
 use Rattle.ciborium.proofs.de.front.pull.Goals as goal
 
 pub returns-in_err-pull_keeping-clause-head : goal.returns-in_err-pull_keeping-clause-head
 returns-in_err-pull_keeping-clause-head g c =
-    let exit = err_from_is_err_and c.from_residual.result c.from_residual.ensures.1 in
-    rw (exit.1, exit.2) (so-map g.A.Access.remaining c.args.decoder.now c.pull_keeping.new.self
+    rw (passed_on c.from_residual.result _ c.from_residual.ensures.1)
+    (so-map g.A.Access.remaining c.args.decoder.now c.pull_keeping.new.self
     (λ d e. PullsAll {E = g.row.K-Kept.Denot} d e (Err c.in_err-pull_keeping.field-0.0))
     (λ d e. PullsSo {E = g.row.K-Kept.Denot} Some d e (Err (from_ll c.in_err-pull_keeping.field-0.0)))
     (λ u v h xs p s. refused-from (Some v) c.in_err-pull_keeping.field-0.0 (λ r. HeadRefuses xs p r) (h xs p s))

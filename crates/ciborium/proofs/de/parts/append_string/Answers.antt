@@ -1,7 +1,7 @@
-use Rattle.std.proofs.{Common.{rules, ◌≡◌, ◌++◌, string_bytes}, lemmas.Result.err_from_is_err_and}
+use Rattle.std.proofs.Common.{rules, ◌≡◌, ◌++◌, string_bytes}
 use Rattle.ciborium_ll.specs.declared.strings.StringType.{StringType}
 use Rattle.ciborium_value.proofs.Trees.Views.{tree_of-Bytes, tree_of-Text}
-use Rattle.ciborium.proofs.Readers.WhateverFollows.{string-refused, string-taken}
+use Rattle.ciborium.proofs.{Exits.passed_on, Readers.WhateverFollows.{string-refused, string-taken}}
 use Rattle.ciborium_value.specs.declared.tree.Value as value
 use Rattle.ciborium.proofs.de.parts.append_string.Goals as goal
 
@@ -15,17 +15,17 @@ returns-then-is_text-clause-content g c =
 
 pub returns-in_err-text_into_keeping-clause-content : goal.returns-in_err-text_into_keeping-clause-content
 returns-in_err-text_into_keeping-clause-content g c =
-    let exit = err_from_is_err_and c.from_residual.result c.from_residual.ensures.1 in
-    rw (exit.1, exit.2) (rw c.if-is_text.true (string-refused (Unit {0}) g.A.Access.remaining c.args.decoder.now
+    rw (passed_on c.from_residual.result _ c.from_residual.ensures.1)
+    (rw c.if-is_text.true (string-refused (Unit {0}) g.A.Access.remaining c.args.decoder.now
     c.text_into_keeping.new.self StringType.Text c.args.len c.in_err-text_into_keeping.field-0.0
     (λ added y. string_bytes c.text_into_keeping.new.out ≡ string_bytes c.new-text.result ++ added)
     c.in_err-text_into_keeping.ensures.taken))
 
 pub returns-in_err-bytes_into_keeping-clause-content : goal.returns-in_err-bytes_into_keeping-clause-content
 returns-in_err-bytes_into_keeping-clause-content g c =
-    let exit = err_from_is_err_and c.from_residual-in_err-bytes_into_keeping.result
-    c.from_residual-in_err-bytes_into_keeping.ensures.1 in
-    rw (exit.1, exit.2) (rw c.if-is_text.false (string-refused (Unit {0}) g.A.Access.remaining c.args.decoder.now
+    rw (passed_on c.from_residual-in_err-bytes_into_keeping.result _
+    c.from_residual-in_err-bytes_into_keeping.ensures.1)
+    (rw c.if-is_text.false (string-refused (Unit {0}) g.A.Access.remaining c.args.decoder.now
     c.bytes_into_keeping.new.self StringType.Bytes c.args.len c.in_err-bytes_into_keeping.field-0.0
     (λ added y. c.bytes_into_keeping.new.out.items ≡ c.new-bytes.result.items ++ added)
     c.in_err-bytes_into_keeping.ensures.taken))

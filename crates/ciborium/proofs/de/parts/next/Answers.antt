@@ -1,22 +1,33 @@
-use Rattle.std.proofs.Common.{◌≡◌, ℕ, List, ◌++◌, ap, sym, ◌∙◌, Some, Ok, Err, subst, false, true}
-use Rattle.std.proofs.lemmas.Result.{err_from_is_err_and}
-use Rattle.ciborium_ll.specs.{Decoding.with_left, Refusal.semantic, declared.strings.StringType.StringType}
+use Rattle.std.proofs.Common.{◌≡◌, ℕ, List, ◌++◌, ap, sym, ◌∙◌, Some, Ok, Err, subst, false, true, lt_of_le_of_lt, Bool}
+use Rattle.std.proofs.{Common.{IfOk, None, Option, Result}, lemmas.Result.on_ok_weaker}
+use Rattle.ciborium_ll.specs.{Decoding.with_left, Refusal.semantic, declared.header.Header.Header}
+use Rattle.ciborium_ll.specs.declared.strings.StringType.{StringType}
 use Rattle.ciborium_value.{proofs.Trees.Views.tree_of-Integer, specs.View.tree_of}
-use Rattle.ciborium.proofs.{Readers.WhateverFollows.StringSo, Turns.Contents.{got-string, string-fault}}
-use Rattle.ciborium.proofs.Turns.Heads.{ahead-of, faulty-head, head-refused, part-behind-head, part-of-head}
-use Rattle.ciborium.proofs.Turns.Leaves.{container-part, float-refuses, got-end, got-negative, got-positive, got-simple}
-use Rattle.ciborium.{proofs.Turns.Leaves.simple-refuses, specs.{ValueAnswers.IsRefusedBy, inner.Parts.IsHeadAccepted}}
-use Rattle.ciborium.specs.inner.{Parts.{IsPartRead, RefusesPart}, Rules.head_fault}
+use Rattle.ciborium.proofs.{Exits.passed_on, Readers.WhateverFollows.StringSo, Turns.Contents.got-string}
+use Rattle.ciborium.proofs.Turns.{Contents.string-fault, Heads.{ahead-of, faulty-head, head-refused, part-behind-head}}
+use Rattle.ciborium.proofs.Turns.{Heads.part-of-head, Leaves.{container-part, float-refuses, got-end, got-negative}}
+use Rattle.ciborium.{proofs.Turns.Leaves.{got-positive, got-simple, simple-refuses}, specs.ValueAnswers.IsRefusedBy}
+use Rattle.ciborium.specs.declared.de.{error.Error.Error, front.Part.{Part, TheVariants.{Begun, Ended, Whole}}}
+use Rattle.ciborium.specs.inner.Parts.{IsHeadAccepted, IsPartRead, RefusesPart, HasLevel, IsAtRest, IsContainerBegun}
+use Rattle.ciborium.specs.inner.Rules.{head_fault}
 use Rattle.ciborium_ll.specs.declared.header.Header.TheVariants as header
 use Rattle.ciborium_ll.specs.declared.kind.Kind.TheVariants as kinds
 use Rattle.ciborium_value.specs.Tree as trees
 use Rattle.ciborium.proofs.de.parts.next.Goals as goal
 
+-- a container that begins has a level, and no head is pushed behind one that is whole
+container-rests : {E : Type 0} (is_map : Bool) (count : Option ℕ) (l : ℕ) (pushed : Option (Header × ℕ))
+    (r : Result Part (Error E)) → pushed ≡ None → IsContainerBegun is_map count l r →
+    IfOk r (λ part. HasLevel part l) × IfOk r (λ part. IsAtRest part pushed)
+container-rests is_map count l pushed (Ok (Whole v)) none h = (tt, none)
+container-rests is_map count l pushed (Ok (Begun f)) none h = (h.0, tt)
+container-rests is_map count l pushed (Ok Ended) none h = absurd h
+container-rests is_map count l pushed (Err e) none h = (tt, tt)
+
 pub returns-in_err-header-clause-part : goal.returns-in_err-header-clause-part
 returns-in_err-header-clause-part g c =
-    let exit = err_from_is_err_and c.from_residual.result c.from_residual.ensures.1 in
     let t = c.in_err-header.ensures.head in
-    rw (exit.1, exit.2) (
+    rw (passed_on c.from_residual.result _ c.from_residual.ensures.1) (
       t.0,
       t.1,
       t.2,
@@ -75,9 +86,8 @@ returns-in_ok-value-in-Bytes-clause-part g c =
 
 pub returns-in_err-value-in-Bytes-clause-part : goal.returns-in_err-value-in-Bytes-clause-part
 returns-in_err-value-in-Bytes-clause-part g c =
-    let exit = err_from_is_err_and c.from_residual-in_err-value-in-Bytes.result
-    c.from_residual-in_err-value-in-Bytes.ensures.1 in
-    rw (exit.1, exit.2) (part-behind-head g.S.Rules.spelling g.A.Access.remaining c.args.decoder.now c.pull.new.decoder
+    rw (passed_on c.from_residual-in_err-value-in-Bytes.result _ c.from_residual-in_err-value-in-Bytes.ensures.1)
+    (part-behind-head g.S.Rules.spelling g.A.Access.remaining c.args.decoder.now c.pull.new.decoder
     c.in_ok-header.header c.in_ok-header.ensures.measured
     (sym (c.find_head_fault.ensures ∙ ap (head_fault g.S.Rules.spelling c.in_ok-header.header) c.head_len.ensures) ∙
     c.in_default.is) c.in_ok-header.ensures.head c.read_string.new.decoder _
@@ -102,9 +112,8 @@ returns-in_ok-value-in-Text-clause-part g c =
 
 pub returns-in_err-value-in-Text-clause-part : goal.returns-in_err-value-in-Text-clause-part
 returns-in_err-value-in-Text-clause-part g c =
-    let exit = err_from_is_err_and c.from_residual-in_err-value-in-Text.result
-    c.from_residual-in_err-value-in-Text.ensures.1 in
-    rw (exit.1, exit.2) (part-behind-head g.S.Rules.spelling g.A.Access.remaining c.args.decoder.now c.pull.new.decoder
+    rw (passed_on c.from_residual-in_err-value-in-Text.result _ c.from_residual-in_err-value-in-Text.ensures.1)
+    (part-behind-head g.S.Rules.spelling g.A.Access.remaining c.args.decoder.now c.pull.new.decoder
     c.in_ok-header.header c.in_ok-header.ensures.measured
     (sym (c.find_head_fault.ensures ∙ ap (head_fault g.S.Rules.spelling c.in_ok-header.header) c.head_len.ensures) ∙
     c.in_default.is) c.in_ok-header.ensures.head c.read_string-in-Text.new.decoder _
@@ -146,9 +155,9 @@ returns-in_ok-read_simple-in-Simple-clause-part g c =
 
 pub returns-in_err-read_simple-in-Simple-clause-part : goal.returns-in_err-read_simple-in-Simple-clause-part
 returns-in_err-read_simple-in-Simple-clause-part g c =
-    let exit = err_from_is_err_and c.from_residual-in_err-read_simple-in-Simple.result
-    c.from_residual-in_err-read_simple-in-Simple.ensures.1 in
-    rw (exit.1, exit.2) (part-of-head g.S.Rules.spelling g.A.Access.remaining c.args.decoder.now c.pull.new.decoder
+    rw (passed_on c.from_residual-in_err-read_simple-in-Simple.result _
+    c.from_residual-in_err-read_simple-in-Simple.ensures.1)
+    (part-of-head g.S.Rules.spelling g.A.Access.remaining c.args.decoder.now c.pull.new.decoder
     c.in_ok-header.header c.in_ok-header.ensures.measured
     (sym (c.find_head_fault.ensures ∙ ap (head_fault g.S.Rules.spelling c.in_ok-header.header) c.head_len.ensures) ∙
     c.in_default.is) c.in_ok-header.ensures.head _
@@ -191,3 +200,39 @@ returns-in-Tag-clause-part g c =
     c.read_tag.result) c.read_tag.ensures.part
     (λ m z xs p a read. read xs p (subst (λ h. IsHeadAccepted g.S.Rules.spelling Some
     (with_left c.pull.new.decoder m) h xs p) c.in-Tag.is a) (c.last_offset-offset.ensures ∙ a.pulled.5))
+
+pub returns-in_err-header-clause-ended : goal.returns-in_err-header-clause-ended
+returns-in_err-header-clause-ended g c =
+    rw (passed_on c.from_residual.result _ c.from_residual.ensures.1) c.in_err-header.ensures.ended
+
+pub returns-in_err-value-in-Bytes-clause-ended : goal.returns-in_err-value-in-Bytes-clause-ended
+returns-in_err-value-in-Bytes-clause-ended g c =
+    rw (passed_on c.from_residual-in_err-value-in-Bytes.result _ c.from_residual-in_err-value-in-Bytes.ensures.1)
+    c.in_err-value-in-Bytes.ensures.ended
+
+pub returns-in_err-value-in-Text-clause-ended : goal.returns-in_err-value-in-Text-clause-ended
+returns-in_err-value-in-Text-clause-ended g c =
+    rw (passed_on c.from_residual-in_err-value-in-Text.result _ c.from_residual-in_err-value-in-Text.ensures.1)
+    c.in_err-value-in-Text.ensures.ended
+
+pub returns-in-Tag-clause-fewer : goal.returns-in-Tag-clause-fewer
+returns-in-Tag-clause-fewer g c =
+    on_ok_weaker c.read_tag.result (λ less. lt_of_le_of_lt less c.in_ok-header.ensures.fewer) c.read_tag.ensures.fewer
+
+pub returns-in-Array-clause-room : goal.returns-in-Array-clause-room
+returns-in-Array-clause-room g c =
+    (container-rests false _ c.args.levels _ c.begin_container.result c.pull.ensures.pushed c.begin_container.ensures).0
+
+pub returns-in-Array-clause-rests : goal.returns-in-Array-clause-rests
+returns-in-Array-clause-rests g c =
+    (container-rests false _ c.args.levels _ c.begin_container.result c.pull.ensures.pushed c.begin_container.ensures).1
+
+pub returns-in-Map-clause-room : goal.returns-in-Map-clause-room
+returns-in-Map-clause-room g c =
+    (container-rests true _ c.args.levels _ c.begin_container-in-Map.result c.pull.ensures.pushed
+    c.begin_container-in-Map.ensures).0
+
+pub returns-in-Map-clause-rests : goal.returns-in-Map-clause-rests
+returns-in-Map-clause-rests g c =
+    (container-rests true _ c.args.levels _ c.begin_container-in-Map.result c.pull.ensures.pushed
+    c.begin_container-in-Map.ensures).1

@@ -1,9 +1,9 @@
 -- A sequence is read item by item.
 use Rattle.std.proofs.{Common.{◌∷◌, [], Some, map, sym, ap, ◌∙◌, subst}, lemmas.List.map-append}
-use Rattle.std.{proofs.lemmas.Result.err_from_is_err_and, specs.declared.io.Error.Error as IoError}
 use Rattle.ciborium_ll.specs.Accesses.{left_at_failure}
-use Rattle.ciborium.proofs.Readers.ReadSequences.{HasRead, more-taken, no-memory-behind, none-read, none-taken}
-use Rattle.ciborium.proofs.Readers.ReadSequences.{one-more-read, refused-behind}
+use Rattle.ciborium.proofs.{Exits.passed_on, Readers.ReadSequences.{HasRead, more-taken, no-memory-behind, none-read}}
+use Rattle.ciborium.proofs.Readers.ReadSequences.{none-taken, one-more-read, refused-behind}
+use Rattle.std.specs.declared.io.Error.{Error as IoError}
 use Rattle.ciborium.proofs.de.sequence.read_items.Goals as goal
 
 pub loop-init : goal.loop-init
@@ -29,8 +29,8 @@ loop-preserved g c = record {
 
 pub returns-in_err-item-clause-refused : goal.returns-in_err-item-clause-refused
 returns-in_err-item-clause-refused g c =
-    let exit = err_from_is_err_and c.from_residual.result c.from_residual.ensures.1 in
-    rw (exit.1, exit.2) (refused-behind (Some 256) g.T.Deserialize.reading.taken
+    rw (passed_on c.from_residual.result _ c.from_residual.ensures.1)
+    (refused-behind (Some 256) g.T.Deserialize.reading.taken
     (g.A.Access.remaining c.args.reader.now)
     g.row.T.Denot IoError _ (left_at_failure g.A.Access.can_fail (g.A.Access.remaining c.read_next-next.new.reader))
     (map g.T.Deserialize.reading.content c.loop.items.items) c.in_err-item.field-0.0 c.loop.invariant.read
@@ -43,8 +43,8 @@ pub returns-in_err-push-clause-refused : goal.returns-in_err-push-clause-refused
 returns-in_err-push-clause-refused g c =
     let before = g.A.Access.remaining c.args.reader.now in
     let content = g.T.Deserialize.reading.content in
-    let exit = err_from_is_err_and c.from_residual-in_err-push.result c.from_residual-in_err-push.ensures.1 in
-    rw (exit.1, exit.2) (no-memory-behind (Some 256) g.T.Deserialize.reading.taken before IoError _ _
+    rw (passed_on c.from_residual-in_err-push.result _ c.from_residual-in_err-push.ensures.1)
+    (no-memory-behind (Some 256) g.T.Deserialize.reading.taken before IoError _ _
     (one-more-read (Some 256) g.T.Deserialize.reading.taken before IoError _
     (g.A.Access.remaining c.read_next-next.new.reader) (map content c.loop.items.items) (content c.in-Some.item)
     c.loop.invariant.read (rw c.in-Some.is at c.in_ok-item.ensures.ok)))

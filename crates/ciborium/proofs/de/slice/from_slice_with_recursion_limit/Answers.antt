@@ -1,12 +1,12 @@
 -- What is left behind the item decides.
-use Rattle.std.{proofs.{Common.rules, lemmas.Result.err_from_is_err_and}, specs.declared.io.Error.Error}
-use Rattle.ciborium.proofs.Readers.WholeSlices.{all-given, all-refused, all-trailing}
+use Rattle.std.{proofs.Common.rules, specs.declared.io.Error.Error}
+use Rattle.ciborium.proofs.{Exits.passed_on, Readers.WholeSlices.{all-given, all-refused, all-trailing}}
 use Rattle.ciborium.proofs.de.slice.from_slice_with_recursion_limit.Goals as goal
 
 pub returns-in_err-value : goal.returns-in_err-value
 returns-in_err-value g c =
-    let exit = err_from_is_err_and c.from_residual.result c.from_residual.ensures.1 in
-    rw (exit.1, exit.2) (all-refused Error c.args.limit g.T.Deserialize.reading c.args.bytes.now
+    rw (passed_on c.from_residual.result _ c.from_residual.ensures.1)
+    (all-refused Error c.args.limit g.T.Deserialize.reading c.args.bytes.now
     c.read.new.reader.now (search rules) c.in_err-value.field-0.0 c.in_err-value.ensures.reads
     c.in_err-value.ensures.ended)
 

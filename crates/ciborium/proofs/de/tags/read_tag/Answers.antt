@@ -1,15 +1,14 @@
-use Rattle.std.proofs.{Common.{◌++◌, Some, Ok, Err, ap, sym, ◌∙◌, subst}, lemmas.Result.err_from_is_err_and}
+use Rattle.std.proofs.Common.{◌++◌, Some, Ok, Err, ap, sym, ◌∙◌, subst}
 use Rattle.ciborium_ll.{proofs.Decoders.unread-with, specs.Decoding.{ReadsNothing, with_left}}
-use Rattle.ciborium.proofs.{Readers.WhateverFollows.{so-both, so-unread}, Turns.AfterTag.{BignumSo, bignum-refused}}
-use Rattle.ciborium.proofs.Turns.AfterTag.{got-bignum, tag-faulty, tag-no-level, tag-begun, tag-refused}
+use Rattle.ciborium.proofs.{Exits.passed_on, Readers.WhateverFollows.{so-both, so-unread}, Turns.AfterTag.BignumSo}
+use Rattle.ciborium.proofs.Turns.AfterTag.{bignum-refused, got-bignum, tag-faulty, tag-no-level, tag-begun, tag-refused}
 use Rattle.ciborium.{proofs.Turns.Fronts.PullsSo, specs.inner.{Parts.IsFolding, Rules.head_fault}}
 use Rattle.ciborium.proofs.de.tags.read_tag.Goals as goal
 
 pub returns-in_err-next-clause-part : goal.returns-in_err-next-clause-part
 returns-in_err-next-clause-part g c =
-    let exit = err_from_is_err_and c.from_residual.result c.from_residual.ensures.1 in
     let t = c.in_err-next.ensures.head in
-    rw (exit.1, exit.2) (
+    rw (passed_on c.from_residual.result _ c.from_residual.ensures.1) (
       t.0,
       t.1,
       t.2,
@@ -35,12 +34,11 @@ returns-in-Some-find_head_fault-clause-part g c =
 
 pub returns-in_err-value-clause-part : goal.returns-in_err-value-clause-part
 returns-in_err-value-clause-part g c =
-    let exit = err_from_is_err_and c.from_residual-in_err-value.result c.from_residual-in_err-value.ensures.1 in
     let t = so-both g.A.Access.remaining c.args.decoder.now c.pull.new.decoder c.read_bignum.new.decoder
     (λ d e. PullsSo {E = Unit} Some d e (Ok c.in_ok-next.next))
     (λ d e. BignumSo {E = Unit} g.S.Rules.spelling Some d e c.args.tag c.in-Some.n c.args.offset
     (Err c.in_err-value.field-0.0)) c.in_ok-next.ensures.head c.in_err-value.ensures.bignum in
-    rw (exit.1, exit.2) (
+    rw (passed_on c.from_residual-in_err-value.result _ c.from_residual-in_err-value.ensures.1) (
       t.0,
       t.1,
       t.2,

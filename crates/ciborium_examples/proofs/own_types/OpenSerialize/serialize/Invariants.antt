@@ -5,5 +5,5 @@ use Rattle.ciborium_examples.proofs.own_types.OpenSerialize.serialize.Given as g
 
 -- the numbers from here on are left
 abbrev pub invariant-loop-number : goal.invariant-loop-number
-invariant-loop-number g l = Owes g.S.Sink.stands_at sequence None (map named_number l.number-items) l.fn.sink l.sink
+invariant-loop-number g l = Owes g.S.Sink.stands_at sequence None (map named_number l.self.0.items) l.fn.sink l.sink
     (map named_number (drop l.number-index l.number-items))

@@ -1,13 +1,13 @@
-use Rattle.std.proofs.{Common.{refl, arith, rules}, lemmas.Result.err_from_is_err_and}
+use Rattle.std.proofs.{Common.{refl, rules}, lemmas.Result.err_from_is_err_and}
 use Rattle.ciborium_ll.proofs.OpenStrings.{parts-none, parts-more, parts-end, parts-refused, part-head-refused}
 use Rattle.ciborium_ll.proofs.OpenStrings.{other-refused, payload-fits, payload-refused}
 use Rattle.ciborium_ll.proofs.cursor.Cursor.append_chunks.Goals as goal
 
 pub chunks-init : goal.chunks-init
 chunks-init g c = record {
-  same = search rules;
+  same = record { reader = refl; counter = refl; keep = refl };
   head = refl;
-  good = parts-none _ _ _ _ (let fits = c.args.self.now.counter.now.fits in omega (arith, fits));
+  good = parts-none _ _ _ _ c.args.self.now.counter.now.fits;
 }
 
 pub returns-in_err-header-clause-bytes : goal.returns-in_err-header-clause-bytes
@@ -29,7 +29,7 @@ chunks-preserved g c = record {
   head = refl;
   good = parts-more _ _ _ _ _ _ _ _ _ _ _ _ _ _ c.in-Definite.ensures c.chunks.invariant.good
       c.in_ok-header.ensures.head c.in_ok-append_payload-in-Definite.ensures.bytes
-      (let fits = c.append_payload.new.self.counter.now.fits in omega (arith, fits));
+      c.append_payload.new.self.counter.now.fits;
 }
 
 pub returns-in_err-append_payload-in-Definite-clause-bytes : goal.returns-in_err-append_payload-in-Definite-clause-bytes

@@ -1,7 +1,7 @@
 -- What stands for itself is folded, and a container that is not empty is entered.
 use Rattle.std.proofs.Common.{rules, arith, ap, sym, ◌∙◌, Some}
-use Rattle.ciborium_value.proofs.{FoldedTrees.FoldedCopies.{opens_array, opens_map}, Trees.Views.{tree_of-Bool, tree_of-Null}}
-use Rattle.ciborium_value.specs.{Folded.folded, Meaning.simple_meaning, View.tree_of}
+use Rattle.ciborium_value.proofs.{FoldedTrees.FoldedCopies.{opens_array, opens_map}, Trees.Views.tree_of-Bool}
+use Rattle.ciborium_value.{proofs.Trees.Views.tree_of-Null, specs.{Folded.folded, Meaning.simple_meaning, View.tree_of}}
 use Rattle.ciborium_value.specs.lemmas.ItemsOfTrees.{boolean-folded}
 use Rattle.ciborium_value.proofs.deserialized.folding.begin.Goals as goal
 

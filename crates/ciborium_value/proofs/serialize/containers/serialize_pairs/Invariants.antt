@@ -4,6 +4,6 @@ use Rattle.ciborium_value.proofs.serialize.containers.serialize_pairs.Given as g
 
 -- the pairs from here on are left
 abbrev pub invariant-loop-pair : goal.invariant-loop-pair
-invariant-loop-pair g l = Owes g.S.Sink.stands_at dictionary (Some (length l.pair-items))
-    (in_turn g.K.Serialize.written g.V.Serialize.written l.pair-items) l.fn.sink l.sink
+invariant-loop-pair g l = Owes g.S.Sink.stands_at dictionary (Some (length l.pairs.items))
+    (in_turn g.K.Serialize.written g.V.Serialize.written l.pairs.items) l.fn.sink l.sink
     (in_turn g.K.Serialize.written g.V.Serialize.written (drop l.pair-index l.pair-items))

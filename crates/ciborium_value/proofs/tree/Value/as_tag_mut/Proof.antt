@@ -4,47 +4,26 @@ use Rattle.std.specs.{Box.with_value, Prelude.⊤, declared.option.Option.TheVar
 use Rattle.ciborium_value.proofs.Trees.{TagParts.{B, Tag, tag_with, tags, lends_two, then₂}, Views.tree_of-Tag}
 use Rattle.ciborium_value.proofs.tree.{Value.as_tag_mut.Statement.statement, accessors.lend_content.Met.met}
 use Rattle.ciborium_value.specs.{LentParts.value_with_tag, Tree.Tree, TreeVariants.IsTagTree, Variants.{IsTag, IsTagOf}}
-use Rattle.ciborium_value.specs.{View.{tree_of, level_tree}, contracts.tree.Value.{the_type, the_row as R, enum}}
 use Rattle.ciborium_value.specs.declared.tree.Value.{the_lemmas, TheFolds.map-Value, TheOpen.Value-F}
 use Rattle.ciborium_value.specs.declared.tree.Value.TheViews.{out-Value, roll-Value}
 use Prim.Native.Nat.{◌+◌}
-use base.Fml.{ftrue, flft, GName, fsep, feq, fex}
-use base.Fraction.{full_share}
-use base.Logic.{sep, ent, emp, id⊢}
-use borrow.Enum.Known.{lives_at}
-use borrow.Enum.Refused.{not_key}
-use contract.Lifetimes.{Lfts}
-use contract.Monad.{fact_i, fact}
-use contract.Running.{tables}
-use denote.Builtin.{u64}
-use denote.Enum.Declared.{tag_of}
-use denote.Enum.Enum.{in_a_row}
-use denote.Exit.{no}
-use denote.Follow.{follows, follows_both, both_if_by}
-use denote.Laws.{Is, shows}
-use denote.Memory.{cell_at, part_at, part_of}
-use denote.RattleType.{flat, Valss, owns}
-use denote.Ref.{MutRef, mut_vals, mut_Tells, MutBor}
-use denote.Signature.{plain, mut_ref_to, type_at}
-use denote.Steps.{opens, closes, peeks, nothing, only, heard}
-use denote.Struct.Tuple.{Tuple}
-use denote.Triple.Call.{calls_at}
-use denote.Triple.Clauses.{lasts}
-use denote.Triple.Spec.{triple_of}
-use denote.Triple.Table.{framed}
-use denote.Triple.Walked.{Stays, walk_of, stay_dropped, Goes-spent_ref, ends_at, says}
+use base.{Fml.{ftrue, flft, GName, fsep, feq, fex}, Fraction.full_share, Logic.{sep, ent, emp, id⊢}}
+use borrow.Enum.{Known.lives_at, Refused.not_key}
+use contract.{Lifetimes.Lfts, Monad.{fact_i, fact}, Running.tables}
+use denote.{Builtin.u64, Enum.{Declared.tag_of, Enum.in_a_row}, Exit.no, Follow.{follows, follows_both, both_if_by}}
+use denote.{Laws.{Is, shows}, Memory.{cell_at, part_at, part_of}, RattleType.{flat, Valss, owns}, Ref.MutRef}
+use denote.{Ref.{mut_vals, mut_Tells, MutBor}, Signature.{plain, mut_ref_to, type_at}, Steps.{opens, closes, peeks}}
+use denote.{Steps.{nothing, only, heard}, Struct.Tuple.Tuple, Triple.{Call.calls_at, Clauses.lasts, Spec.triple_of}}
+use denote.Triple.{Table.framed, Walked.{Stays, walk_of, stay_dropped, Goes-spent_ref, ends_at, says}}
 use lib.Dec.{lit<}
-use mir.Syntax.{named, w8}
-use mir.Val.{Val, vptr, vint, vstruct, vcons, vnil, of_list}
+use mir.{Syntax.{named, w8}, Val.{Val, vptr, vint, vstruct, vcons, vnil, of_list}}
 use seplogic.Ra.Ura.{Ura}
-use types.ByLocal.{alloc_all, pass_all, free_all, through, env, sets, sets_last, get, look_at, lands_as}
-use types.Kit.{frame, ‵, raw, ◌⊛◌, some, later, at_ret, ◌$◌, ◌∵◌, !, qed, done, move, keep, drop, use1, use2, split}
-use types.Kit.{split3, join, fsplit, fsplit3, fjoin, feq_i, feq_l, fpack, pick, await, rewrite, suffices, group, use0}
-use types.Logic.{Logic, sem}
-use types.Match.{vrt, look_tag, by_variants, live}
-use types.Part.{whole, agg}
-use types.Run.{enter, first, stop, fld, load, addr, exec, no_more, and_then, lit, of_opd, returns, OneOf}
-use types.Tokens.{name_done}
+use types.{ByLocal.{alloc_all, pass_all, free_all, through, env, sets, sets_last, get, look_at, lands_as}, Kit.frame}
+use types.Kit.{‵, raw, ◌⊛◌, some, later, at_ret, ◌$◌, ◌∵◌, !, qed, done, move, keep, drop, use1, use2, split, split3}
+use types.Kit.{join, fsplit, fsplit3, fjoin, feq_i, feq_l, fpack, pick, await, rewrite, suffices, group, use0}
+use types.{Logic.{Logic, sem}, Match.{vrt, look_tag, by_variants, live}, Part.{whole, agg}, Run.{enter, first, stop}}
+use types.{Run.{fld, load, addr, exec, no_more, and_then, lit, of_opd, returns, OneOf}, Tokens.name_done}
+use Rattle.ciborium_value.specs.{View.{tree_of, level_tree}, contracts.tree.Value.{the_type, the_row as R, enum}}
 use Rattle.ciborium_value.proofs.tree.Value.as_tag_mut.Code as code
 use Rattle.ciborium_value.specs.Tree as trees
 use Rattle.ciborium_value.specs.contracts.tree.Value.as_tag_mut as f

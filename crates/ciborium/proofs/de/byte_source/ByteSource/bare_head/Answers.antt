@@ -1,16 +1,16 @@
-use Rattle.std.proofs.{Common.{subst, refl}, lemmas.Result.err_from_is_err_and}
+use Rattle.std.proofs.Common.{subst, refl}
 use Rattle.ciborium_value.specs.Sources.{of_kind}
-use Rattle.ciborium.proofs.Items.SkippedTags.{bare-head, bare-behind, skips-none, skips-more, denies-item, denies-break}
-use Rattle.ciborium.{proofs.Items.{SkippedTags.denies-behind, TakenOnly.same-end}, specs.inner.ByteSources.IsUnread}
-use Rattle.ciborium.specs.inner.{ByteSources.{end_at, fault_at}, FrontItems.TakesHead, Skips.IsEndTag}
+use Rattle.ciborium.proofs.{Exits.passed_on, Items.SkippedTags.{bare-head, bare-behind, skips-none, skips-more}}
+use Rattle.ciborium.proofs.Items.{SkippedTags.{denies-item, denies-break, denies-behind}, TakenOnly.same-end}
+use Rattle.ciborium.specs.inner.{ByteSources.{IsUnread, end_at, fault_at}, FrontItems.TakesHead, Skips.IsEndTag}
 use Rattle.ciborium_ll.specs.declared.header.Header.TheVariants as header
 use Rattle.ciborium_ll.specs.declared.kind.Kind.TheVariants as kinds
 use Rattle.ciborium.proofs.de.byte_source.ByteSource.bare_head.Goals as goal
 
 pub returns-in_err-header-clause-denied : goal.returns-in_err-header-clause-denied
 returns-in_err-header-clause-denied g c =
-    let exit = err_from_is_err_and c.from_residual.result c.from_residual.ensures.1 in
-    rw (exit.1, exit.2) (denies-item (IsUnread g.A.Access.remaining) (end_at g.A.Access.remaining) c.args.self.now
+    rw (passed_on c.from_residual.result _ c.from_residual.ensures.1)
+    (denies-item (IsUnread g.A.Access.remaining) (end_at g.A.Access.remaining) c.args.self.now
     c.args.self.now c.args.numbers (fault_at g.A.Access.can_fail g.A.Access.remaining c.next_head.new.self
     c.in_err-header.field-0.0)
     (λ b u. refl)
@@ -29,9 +29,8 @@ returns-in_err-bare-in-Tag-clause-denied g c =
     (subst (IsEndTag c.args.numbers c.in-Tag.tag) c.if-is_end_tag.false c.is_end_tag.ensures)
     (skips-none I c.args.self.now c.args.numbers) (subst (TakesHead I c.args.self.now c.next_head.new.self) c.in-Tag.is
     c.in_ok-header.ensures.head) in
-    let exit = err_from_is_err_and c.from_residual-in_err-bare-in-Tag.result
-    c.from_residual-in_err-bare-in-Tag.ensures.1 in
-    rw (exit.1, exit.2) (denies-behind I (end_at g.A.Access.remaining) c.args.self.now c.next_head.new.self
+    rw (passed_on c.from_residual-in_err-bare-in-Tag.result _ c.from_residual-in_err-bare-in-Tag.ensures.1)
+    (denies-behind I (end_at g.A.Access.remaining) c.args.self.now c.next_head.new.self
     c.args.numbers
     (fault_at g.A.Access.can_fail g.A.Access.remaining c.skip_tags.new.self c.in_err-bare-in-Tag.field-0.0)
     (same-end g.A.Access.remaining c.args.self.now c.next_head.new.self

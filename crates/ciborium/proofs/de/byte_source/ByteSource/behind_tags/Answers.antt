@@ -1,8 +1,8 @@
-use Rattle.std.proofs.{Common.{refl, ◌∙◌, arith, subst}, lemmas.Result.err_from_is_err_and}
+use Rattle.std.proofs.Common.{refl, ◌∙◌, arith, subst}
 use Rattle.ciborium_value.specs.Sources.{of_kind}
-use Rattle.ciborium.proofs.Items.{FrontReads.weighs-none, SkippedTags.{skips-none, skips-more, denies-item}}
-use Rattle.ciborium.{proofs.Items.{SkippedTags.denies-break, TakenOnly.same-end}, specs.inner.ByteSources.IsUnread}
-use Rattle.ciborium.specs.inner.{ByteSources.{end_at, fault_at}, FrontItems.TakesHead, Skips.IsEndTag}
+use Rattle.ciborium.proofs.{Exits.passed_on, Items.{FrontReads.weighs-none, SkippedTags.{skips-none, skips-more}}}
+use Rattle.ciborium.proofs.Items.{SkippedTags.{denies-item, denies-break}, TakenOnly.same-end}
+use Rattle.ciborium.specs.inner.{ByteSources.{IsUnread, end_at, fault_at}, FrontItems.TakesHead, Skips.IsEndTag}
 use Rattle.ciborium_ll.specs.declared.kind.Kind.TheVariants as kinds
 use Rattle.ciborium.proofs.de.byte_source.ByteSource.behind_tags.Goals as goal
 
@@ -17,8 +17,8 @@ tags-init g c = record {
 
 pub returns-in_err-header-clause-denied : goal.returns-in_err-header-clause-denied
 returns-in_err-header-clause-denied g c =
-    let exit = err_from_is_err_and c.from_residual.result c.from_residual.ensures.1 in
-    rw (exit.1, exit.2) (denies-item (IsUnread g.A.Access.remaining) (end_at g.A.Access.remaining) c.args.self.now
+    rw (passed_on c.from_residual.result _ c.from_residual.ensures.1)
+    (denies-item (IsUnread g.A.Access.remaining) (end_at g.A.Access.remaining) c.args.self.now
     c.tags.self c.args.numbers (fault_at g.A.Access.can_fail g.A.Access.remaining c.next_head.new.self
     c.in_err-header.field-0.0)
     (same-end g.A.Access.remaining c.args.self.now c.tags.self c.tags.invariant.only) c.tags.invariant.skipped

@@ -1,13 +1,12 @@
-use Rattle.std.proofs.lemmas.Result.{err_from_is_err_and}
 use Rattle.ciborium_ll.specs.declared.strings.StringType.{StringType}
-use Rattle.ciborium.proofs.{Payloads.SpelledStrings.content-denied, Payloads.StringPayloads.content-taken}
-use Rattle.ciborium.proofs.{Payloads.StringPayloads.content-fewer, Items.TakenOnly.takes-only}
+use Rattle.ciborium.proofs.{Exits.passed_on, Items.TakenOnly.takes-only, Payloads.SpelledStrings.content-denied}
+use Rattle.ciborium.proofs.Payloads.StringPayloads.{content-taken, content-fewer}
 use Rattle.ciborium.proofs.de.byte_source.ByteSource.bytes_content.Goals as goal
 
 pub returns-in_err-bytes_into_keeping-clause-denied : goal.returns-in_err-bytes_into_keeping-clause-denied
 returns-in_err-bytes_into_keeping-clause-denied g c =
-    let exit = err_from_is_err_and c.from_residual.result c.from_residual.ensures.1 in
-    rw (exit.1, exit.2) (content-denied g.A.Access.can_fail g.A.Access.remaining c.args.self.now.decoder
+    rw (passed_on c.from_residual.result _ c.from_residual.ensures.1)
+    (content-denied g.A.Access.can_fail g.A.Access.remaining c.args.self.now.decoder
     c.bytes_into_keeping.new.self
     c.args.self.now.pending c.in_err-bytes_into_keeping.field-0.0 StringType.Bytes c.args.len c.requires
     c.in_err-bytes_into_keeping.ensures.refused c.in_err-bytes_into_keeping.ensures.ended)

@@ -1,7 +1,8 @@
-use Rattle.std.proofs.{Common.{arith, subst, false}, lemmas.Result.err_from_is_err_and}
+use Rattle.std.proofs.{Common.{arith, subst, false}}
 use Rattle.ciborium_ll.specs.Accesses.{left_at_failure}
 use Rattle.ciborium.proofs.{Items.{FrontReads.granted-fill, TakenOnly.takes-only}, Payloads.LoneCharacters.just-taken}
 use Rattle.ciborium.{proofs.Payloads.ReadDigits.{fill-fewer, fill-outside}, specs.inner.ByteSources.IsUnreadBy}
+use Rattle.ciborium.proofs.Exits.{passed_on}
 use Rattle.ciborium.proofs.de.byte_source.ByteSource.fill.Goals as goal
 
 pub returns-clause-ok : goal.returns-clause-ok
@@ -23,9 +24,8 @@ returns-clause-only g c = takes-only g.A.Access.remaining c.args.self.now.decode
 
 pub returns-in_err-read_exact_keeping-clause-outside : goal.returns-in_err-read_exact_keeping-clause-outside
 returns-in_err-read_exact_keeping-clause-outside g c =
-    let exit = err_from_is_err_and c.from_residual.result c.from_residual.ensures.1 in
     let d = c.args.self.now.decoder in
-    rw (exit.1, exit.2) (λ y m end u there fits.
+    rw (passed_on c.from_residual.result _ c.from_residual.ensures.1) (λ y m end u there fits.
     let same = c.read_exact_keeping.auto.buffer in
     fill-outside g.A.Access.can_fail g.A.Access.remaining d c.read_exact_keeping.new.self
     c.read_exact_keeping.new.buffer y m end
@@ -35,9 +35,8 @@ returns-in_err-read_exact_keeping-clause-outside g c =
 
 pub returns-in_err-read_exact_keeping-clause-memory : goal.returns-in_err-read_exact_keeping-clause-memory
 returns-in_err-read_exact_keeping-clause-memory g c =
-    let exit = err_from_is_err_and c.from_residual.result c.from_residual.ensures.1 in
     let taken = c.in_err-read_exact_keeping.ensures.taken in
-    rw (exit.1, exit.2) (granted-fill
+    rw (passed_on c.from_residual.result _ c.from_residual.ensures.1) (granted-fill
     (left_at_failure g.A.Access.can_fail (g.A.Access.remaining c.read_exact_keeping.new.self.reader.now))
     c.in_err-read_exact_keeping.field-0.0 taken.0 c.read_exact_keeping.new.buffer c.args.self.now.decoder.counter.count
     false taken.3)

@@ -1,8 +1,8 @@
-use Rattle.std.proofs.{Common.{◌≡◌, ap, sym, Some, false, subst, string_bytes}, lemmas.Result.err_from_is_err_and}
-use Rattle.std.{proofs.lemmas.Str.IsUtf8-string_bytes, specs.Str.IsUtf8}
+use Rattle.std.proofs.{Common.{◌≡◌, ap, sym, Some, false, subst, string_bytes}, lemmas.Str.IsUtf8-string_bytes}
+use Rattle.std.specs.Str.{IsUtf8}
 use Rattle.ciborium_ll.specs.declared.strings.StringType.{StringType}
 use Rattle.ciborium_value.specs.{Given.{bare_name, given_name, outcome, settled}, Places.is_open}
-use Rattle.ciborium.proofs.Containers.NamedVariants.{bytes-name, bytes-no-name, name-other}
+use Rattle.ciborium.proofs.{Containers.NamedVariants.{bytes-name, bytes-no-name, name-other}, Exits.passed_on}
 use Rattle.ciborium.proofs.Items.BareHeads.{head-denied, other-denied, string-denied, string-read}
 use Rattle.ciborium.{proofs.Items.SkippedTags.untagged-under, specs.inner.ByteSources.{IsUnread, end_at, fault_at}}
 use Rattle.ciborium.specs.inner.{Skips.TakesBare, StringContents.string_item}
@@ -11,16 +11,15 @@ use Rattle.ciborium.proofs.de.byte_source.ByteSource.name.Goals as goal
 
 pub returns-in_err-header-clause-answer : goal.returns-in_err-header-clause-answer
 returns-in_err-header-clause-answer g c =
-    let exit = err_from_is_err_and c.from_residual.result c.from_residual.ensures.1 in
-    rw (exit.1, exit.2) (head-denied g.A.Access.remaining c.args.self.now given_name
+    rw (passed_on c.from_residual.result _ c.from_residual.ensures.1)
+    (head-denied g.A.Access.remaining c.args.self.now given_name
     (fault_at g.A.Access.can_fail g.A.Access.remaining c.bare_head.new.self c.in_err-header.field-0.0)
     c.in_err-header.ensures.denied)
 
 pub returns-in_err-name-in-Text-clause-answer : goal.returns-in_err-name-in-Text-clause-answer
 returns-in_err-name-in-Text-clause-answer g c =
-    let exit = err_from_is_err_and c.from_residual-in_err-name-in-Text.result
-    c.from_residual-in_err-name-in-Text.ensures.1 in
-    rw (exit.1, exit.2) (string-denied g.A.Access.remaining c.args.self.now given_name c.bare_head.new.self
+    rw (passed_on c.from_residual-in_err-name-in-Text.result _ c.from_residual-in_err-name-in-Text.ensures.1)
+    (string-denied g.A.Access.remaining c.args.self.now given_name c.bare_head.new.self
     c.in_ok-header.header c.in_ok-header.ensures.head StringType.Text c.in-Text.len c.in-Text.is
     c.in_ok-header.ensures.reads.only (fault_at g.A.Access.can_fail g.A.Access.remaining c.text_content.new.self
     c.in_err-name-in-Text.field-0.0) c.in_err-name-in-Text.ensures.denied)
@@ -35,9 +34,8 @@ returns-in-Text-clause-answer g c =
 
 pub returns-in_err-bytes-in-Bytes-clause-answer : goal.returns-in_err-bytes-in-Bytes-clause-answer
 returns-in_err-bytes-in-Bytes-clause-answer g c =
-    let exit = err_from_is_err_and c.from_residual-in_err-bytes-in-Bytes.result
-    c.from_residual-in_err-bytes-in-Bytes.ensures.1 in
-    rw (exit.1, exit.2) (string-denied g.A.Access.remaining c.args.self.now given_name c.bare_head.new.self
+    rw (passed_on c.from_residual-in_err-bytes-in-Bytes.result _ c.from_residual-in_err-bytes-in-Bytes.ensures.1)
+    (string-denied g.A.Access.remaining c.args.self.now given_name c.bare_head.new.self
     c.in_ok-header.header c.in_ok-header.ensures.head StringType.Bytes c.in-Bytes.len c.in-Bytes.is
     c.in_ok-header.ensures.reads.only (fault_at g.A.Access.can_fail g.A.Access.remaining c.bytes_content.new.self
     c.in_err-bytes-in-Bytes.field-0.0)

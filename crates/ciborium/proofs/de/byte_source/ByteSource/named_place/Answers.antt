@@ -1,10 +1,9 @@
-use Rattle.std.proofs.{Common.{◌≡◌, ◌∙◌, ap, sym, Some, false, subst}, lemmas.Result.err_from_is_err_and}
-use Rattle.std.specs.Str.{IsUtf8}
+use Rattle.std.{proofs.Common.{◌≡◌, ◌∙◌, ap, sym, Some, false, subst}, specs.Str.IsUtf8}
 use Rattle.ciborium_ll.specs.declared.strings.StringType.{StringType}
 use Rattle.ciborium_value.{proofs.Sources.Sequences.fault_map, specs.Given.{bare_name, gives, outcome_map, given_name}}
 use Rattle.ciborium_value.specs.{Given.{outcome, settled}, Labels.{name_place, placed}, Places.is_open, Sources.of_kind}
 use Rattle.ciborium_value.specs.declared.labels.LabelType.TheVariants.{Name}
-use Rattle.ciborium.proofs.Containers.NamedVariants.{bytes-name, bytes-no-name, name-other}
+use Rattle.ciborium.proofs.{Containers.NamedVariants.{bytes-name, bytes-no-name, name-other}, Exits.passed_on}
 use Rattle.ciborium.proofs.Items.BareHeads.{head-denied, other-denied, string-denied, string-read}
 use Rattle.ciborium.{proofs.Items.SkippedTags.untagged-under, specs.inner.ByteSources.{IsUnread, end_at, fault_at}}
 use Rattle.ciborium.specs.inner.{Skips.TakesBare, StringContents.string_item}
@@ -13,17 +12,15 @@ use Rattle.ciborium.proofs.de.byte_source.ByteSource.named_place.Goals as goal
 
 pub returns-in_err-header-clause-answer : goal.returns-in_err-header-clause-answer
 returns-in_err-header-clause-answer g c =
-    let exit = err_from_is_err_and c.from_residual.result c.from_residual.ensures.1 in
-    rw (exit.1, exit.2) (head-denied g.A.Access.remaining c.args.self.now
+    rw (passed_on c.from_residual.result _ c.from_residual.ensures.1) (head-denied g.A.Access.remaining c.args.self.now
     (placed (g.N.Labels.place_of c.args.labels.now) Name)
     (fault_at g.A.Access.can_fail g.A.Access.remaining c.bare_head.new.self c.in_err-header.field-0.0)
     c.in_err-header.ensures.denied)
 
 pub returns-in_err-place-in-Text-clause-answer : goal.returns-in_err-place-in-Text-clause-answer
 returns-in_err-place-in-Text-clause-answer g c =
-    let exit = err_from_is_err_and c.from_residual-in_err-place-in-Text.result
-    c.from_residual-in_err-place-in-Text.ensures.1 in
-    rw (exit.1, exit.2) (string-denied g.A.Access.remaining c.args.self.now
+    rw (passed_on c.from_residual-in_err-place-in-Text.result _ c.from_residual-in_err-place-in-Text.ensures.1)
+    (string-denied g.A.Access.remaining c.args.self.now
     (placed (g.N.Labels.place_of c.args.labels.now) Name) c.bare_head.new.self
     c.in_ok-header.header c.in_ok-header.ensures.head StringType.Text c.in-Text.len c.in-Text.is
     c.in_ok-header.ensures.reads.only (fault_at g.A.Access.can_fail g.A.Access.remaining c.text_place.new.self
@@ -41,9 +38,8 @@ returns-in-Text-clause-answer g c =
 
 pub returns-in_err-bytes-in-Bytes-clause-answer : goal.returns-in_err-bytes-in-Bytes-clause-answer
 returns-in_err-bytes-in-Bytes-clause-answer g c =
-    let exit = err_from_is_err_and c.from_residual-in_err-bytes-in-Bytes.result
-    c.from_residual-in_err-bytes-in-Bytes.ensures.1 in
-    rw (exit.1, exit.2) (string-denied g.A.Access.remaining c.args.self.now
+    rw (passed_on c.from_residual-in_err-bytes-in-Bytes.result _ c.from_residual-in_err-bytes-in-Bytes.ensures.1)
+    (string-denied g.A.Access.remaining c.args.self.now
     (placed (g.N.Labels.place_of c.args.labels.now) Name) c.bare_head.new.self
     c.in_ok-header.header c.in_ok-header.ensures.head StringType.Bytes c.in-Bytes.len c.in-Bytes.is
     c.in_ok-header.ensures.reads.only (fault_at g.A.Access.can_fail g.A.Access.remaining c.bytes_content.new.self

@@ -1,18 +1,18 @@
-use Rattle.std.proofs.{Common.{◌∙◌, sym, subst, ◌≡◌, ◌≤◌, arith, false, ◌+◌}, lemmas.Result.err_from_is_err_and}
+use Rattle.std.proofs.{Common.{◌∙◌, sym, subst, ◌≡◌, ◌≤◌, arith, false, ◌+◌}}
 use Rattle.ciborium.proofs.Items.FrontReads.{ahead-unpushed, counted-pending, counted-pulled, fewer-bytes, head-outside}
 use Rattle.ciborium.proofs.Items.{FrontReads.{ended-ll, failed-fault, granted-head, weighs-none}, TakenOnly.takes-only}
 use Rattle.ciborium.specs.{Errors.from_ll, inner.ByteSources.{IsUnreadBy, bytes_weight, weight_left, known_end}}
 use Rattle.ciborium_ll.specs.{Accesses.left_at_failure, Decoding.left_of}
 use Rattle.ciborium_value.specs.Sources.{IsOutsideFault}
+use Rattle.ciborium.proofs.Exits.{passed_on}
 use Rattle.ciborium.proofs.de.byte_source.ByteSource.next_head.Goals as goal
 
 pub returns-in_err-header-clause-denied : goal.returns-in_err-header-clause-denied
 returns-in_err-header-clause-denied g c =
-    let exit = err_from_is_err_and c.from_residual.result c.from_residual.ensures.1 in
     let d = c.args.self.now.decoder in
     let e = c.pull_next_keeping.new.self in
     let error = c.in_err-header.field-0.0 in
-    rw (exit.1, exit.2) (λ b x y h n end u s f there fits.
+    rw (passed_on c.from_residual.result _ c.from_residual.ensures.1) (λ b x y h n end u s f there fits.
     let left = subst (λ o. IsUnreadBy g.A.Access.remaining d o b) c.in_default.is u in
     subst (IsOutsideFault end) (failed-fault g.A.Access.can_fail
     (left_of g.A.Access.remaining e) (from_ll error) (ended-ll g.A.Access.can_fail (left_of g.A.Access.remaining e)
@@ -24,9 +24,8 @@ returns-in_err-header-clause-denied g c =
 
 pub returns-in_err-header-clause-memory : goal.returns-in_err-header-clause-memory
 returns-in_err-header-clause-memory g c =
-    let exit = err_from_is_err_and c.from_residual.result c.from_residual.ensures.1 in
     let taken = c.in_err-header.ensures.taken in
-    rw (exit.1, exit.2) (granted-head
+    rw (passed_on c.from_residual.result _ c.from_residual.ensures.1) (granted-head
     (left_at_failure g.A.Access.can_fail (g.A.Access.remaining c.pull_next_keeping.new.self.reader.now))
     c.in_err-header.field-0.0 taken.0 c.args.self.now.decoder.counter.count false taken.3)
 

@@ -1,25 +1,24 @@
-use Rattle.std.proofs.{Common.subst, lemmas.Result.err_from_is_err_and}
+use Rattle.std.proofs.Common.{subst}
 use Rattle.ciborium_value.specs.Sources.{of_kind}
-use Rattle.ciborium.specs.{inner.ByteSources.{IsUnread, end_at, fault_at}, inner.FrontItems.TakesHead}
-use Rattle.ciborium.specs.inner.StringContents.{TakesNumber}
-use Rattle.ciborium.proofs.Payloads.OpenNumbers.{bignum-reads, bignum-large, bignum-content, bignum-no-head}
-use Rattle.ciborium.proofs.{Payloads.OpenNumbers.{bignum-break, bignum-other}, Items.TakenOnly.same-end}
+use Rattle.ciborium.proofs.{Exits.passed_on, Items.TakenOnly.same-end, Payloads.OpenNumbers.bignum-reads}
+use Rattle.ciborium.proofs.Payloads.OpenNumbers.{bignum-large, bignum-content, bignum-no-head, bignum-break}
+use Rattle.ciborium.{proofs.Payloads.OpenNumbers.bignum-other, specs.inner.ByteSources.{IsUnread, end_at, fault_at}}
+use Rattle.ciborium.specs.inner.{FrontItems.TakesHead, StringContents.TakesNumber}
 use Rattle.ciborium_ll.specs.declared.kind.Kind.TheVariants as kinds
 use Rattle.ciborium.proofs.de.byte_source.ByteSource.read_bignum.Goals as goal
 
 pub returns-in_err-header-clause-answer : goal.returns-in_err-header-clause-answer
 returns-in_err-header-clause-answer g c =
-    let exit = err_from_is_err_and c.from_residual.result c.from_residual.ensures.1 in
-    rw (exit.1, exit.2) (bignum-no-head (IsUnread g.A.Access.remaining) (end_at g.A.Access.remaining) c.args.self.now
+    rw (passed_on c.from_residual.result _ c.from_residual.ensures.1)
+    (bignum-no-head (IsUnread g.A.Access.remaining) (end_at g.A.Access.remaining) c.args.self.now
     c.next_head.new.self (fault_at g.A.Access.can_fail g.A.Access.remaining c.next_head.new.self
     c.in_err-header.field-0.0)
     c.in_err-header.ensures.denied)
 
 pub returns-in_err-number-in-Bytes-clause-answer : goal.returns-in_err-number-in-Bytes-clause-answer
 returns-in_err-number-in-Bytes-clause-answer g c =
-    let exit = err_from_is_err_and c.from_residual-in_err-number-in-Bytes.result
-    c.from_residual-in_err-number-in-Bytes.ensures.1 in
-    rw (exit.1, exit.2) (bignum-content (IsUnread g.A.Access.remaining) (end_at g.A.Access.remaining) c.args.self.now
+    rw (passed_on c.from_residual-in_err-number-in-Bytes.result _ c.from_residual-in_err-number-in-Bytes.ensures.1)
+    (bignum-content (IsUnread g.A.Access.remaining) (end_at g.A.Access.remaining) c.args.self.now
     c.next_head.new.self c.in-Bytes.len (fault_at g.A.Access.can_fail g.A.Access.remaining c.read_number.new.self
     c.in_err-number-in-Bytes.field-0.0)
     (same-end g.A.Access.remaining c.args.self.now c.next_head.new.self c.in_ok-header.ensures.only)

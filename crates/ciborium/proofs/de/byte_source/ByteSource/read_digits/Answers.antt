@@ -1,9 +1,8 @@
 use Rattle.std.proofs.Common.{sym, ap, ◌∙◌, subst, arith, length, length-append, ◌+◌, ◌≡◌, ◌≤◌, false}
-use Rattle.std.proofs.lemmas.Result.{err_from_is_err_and}
 use Rattle.ciborium_ll.specs.Accesses.{left_at_failure}
+use Rattle.ciborium.proofs.{Exits.passed_on, Items.{FrontReads.granted-fill, TakenOnly.{takes-only, same-end}}}
+use Rattle.ciborium.proofs.Payloads.ReadDigits.{digit-more, fill-fewer, fill-outside}
 use Rattle.ciborium.specs.inner.ByteSources.{IsUnreadBy}
-use Rattle.ciborium.proofs.{Items.FrontReads.granted-fill, Payloads.ReadDigits.{digit-more, fill-fewer, fill-outside}}
-use Rattle.ciborium.proofs.Items.TakenOnly.{takes-only, same-end}
 use Rattle.ciborium.proofs.de.byte_source.ByteSource.read_digits.Goals as goal
 
 pub loop-left-preserved : goal.loop-left-preserved
@@ -38,9 +37,8 @@ returns-in_err-read_exact_keeping-clause-only g c first h =
 
 pub returns-in_err-read_exact_keeping-clause-outside : goal.returns-in_err-read_exact_keeping-clause-outside
 returns-in_err-read_exact_keeping-clause-outside g c =
-    let exit = err_from_is_err_and c.from_residual.result c.from_residual.ensures.1 in
     let d = c.loop-left.self.decoder in
-    rw (exit.1, exit.2) (λ y m end u there fits.
+    rw (passed_on c.from_residual.result _ c.from_residual.ensures.1) (λ y m end u there fits.
     let (t, z, len, bytes, val, split, un) = c.loop-left.invariant.took y u in
     let more : length y ≡ length t + length z = ap length split ∙ length-append t z in
     let one = c.read_exact_keeping.auto.buffer in
@@ -54,9 +52,8 @@ returns-in_err-read_exact_keeping-clause-outside g c =
 
 pub returns-in_err-read_exact_keeping-clause-memory : goal.returns-in_err-read_exact_keeping-clause-memory
 returns-in_err-read_exact_keeping-clause-memory g c =
-    let exit = err_from_is_err_and c.from_residual.result c.from_residual.ensures.1 in
     let taken = c.in_err-read_exact_keeping.ensures.taken in
-    rw (exit.1, exit.2) (granted-fill
+    rw (passed_on c.from_residual.result _ c.from_residual.ensures.1) (granted-fill
     (left_at_failure g.A.Access.can_fail (g.A.Access.remaining c.read_exact_keeping.new.self.reader.now))
     c.in_err-read_exact_keeping.field-0.0 taken.0 c.read_exact_keeping.new.buffer c.loop-left.self.decoder.counter.count
     false taken.3)

@@ -1,19 +1,18 @@
 use Rattle.std.proofs.Common.{◌≡◌, ◌⊎◌, Bool, Ok, ℕ, inl, inr, sym, ap, ◌∙◌, subst, Some, true, ◌==◌}
-use Rattle.std.proofs.lemmas.Result.{err_from_is_err_and}
 use Rattle.ciborium_ll.specs.{Item.{unsigned, negative}, declared.header.Header.Header}
 use Rattle.ciborium_value.specs.{Given.given_integer, Sources.of_kind}
-use Rattle.ciborium.proofs.Items.{BareHeads.head-denied, BareScalars.{integer-gives, integer-other, bignum-behind}}
-use Rattle.ciborium.proofs.Items.{BareScalars.bignum-denied, SkippedTags.{denies-bare, reads-bare, reads-whole}}
-use Rattle.ciborium.{proofs.Items.TakenOnly.same-end, specs.inner.ByteSources.{IsUnread, end_at, fault_at}}
-use Rattle.ciborium.specs.inner.{FrontItems.Reads, Skips.{TakesBare, IsBare}}
+use Rattle.ciborium.proofs.{Exits.passed_on, Items.{BareHeads.head-denied, BareScalars.{integer-gives, integer-other}}}
+use Rattle.ciborium.proofs.Items.{BareScalars.{bignum-behind, bignum-denied}, SkippedTags.{denies-bare, reads-bare}}
+use Rattle.ciborium.{proofs.Items.{SkippedTags.reads-whole, TakenOnly.same-end}, specs.inner.ByteSources.IsUnread}
+use Rattle.ciborium.specs.inner.{ByteSources.{end_at, fault_at}, FrontItems.Reads, Skips.{TakesBare, IsBare}}
 use Rattle.ciborium_ll.specs.declared.header.Header.TheVariants as header
 use Rattle.ciborium_ll.specs.declared.kind.Kind.TheVariants as kinds
 use Rattle.ciborium.proofs.de.byte_source.ByteSource.read_integer.Goals as goal
 
 pub returns-in_err-header-clause-answer : goal.returns-in_err-header-clause-answer
 returns-in_err-header-clause-answer g c =
-    let exit = err_from_is_err_and c.from_residual.result c.from_residual.ensures.1 in
-    rw (exit.1, exit.2) (head-denied g.A.Access.remaining c.args.self.now given_integer
+    rw (passed_on c.from_residual.result _ c.from_residual.ensures.1)
+    (head-denied g.A.Access.remaining c.args.self.now given_integer
     (fault_at g.A.Access.can_fail g.A.Access.remaining c.bare_head.new.self c.in_err-header.field-0.0)
     c.in_err-header.ensures.denied)
 
@@ -58,10 +57,9 @@ pub returns-in_err-number-in-Tag-clause-answer : goal.returns-in_err-number-in-T
 returns-in_err-number-in-Tag-clause-answer g c =
     let l = Some c.args.self.now.levels in
     let t = c.in-Tag.tag in
-    let exit = err_from_is_err_and c.from_residual-in_err-number-in-Tag.result
-    c.from_residual-in_err-number-in-Tag.ensures.1 in
     let bare : IsBare true (header.Tag t) = subst (IsBare true) c.in-Tag.is c.in_ok-header.ensures.reads.bare in
-    rw (exit.1, exit.2) (bignum-denied (IsUnread g.A.Access.remaining) t l bare.1 (end_at g.A.Access.remaining)
+    rw (passed_on c.from_residual-in_err-number-in-Tag.result _ c.from_residual-in_err-number-in-Tag.ensures.1)
+    (bignum-denied (IsUnread g.A.Access.remaining) t l bare.1 (end_at g.A.Access.remaining)
     c.args.self.now c.bare_head.new.self (fault_at g.A.Access.can_fail g.A.Access.remaining c.read_tagged.new.self
     c.in_err-number-in-Tag.field-0.0)
     (same-end g.A.Access.remaining c.args.self.now c.bare_head.new.self c.in_ok-header.ensures.reads.only)

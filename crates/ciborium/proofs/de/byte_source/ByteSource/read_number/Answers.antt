@@ -1,32 +1,43 @@
-use Rattle.std.proofs.{Common.{Some, sym, ap, ◌∙◌, subst, arith}, lemmas.Result.err_from_is_err_and}
-use Rattle.ciborium_ll.specs.declared.strings.StringType.{StringType}
+use Rattle.std.proofs.Common.{Some, List, Option, [], ap, arith, le_refl, refl, subst, sym, ℕ, ◌∙◌, ◌<◌}
+use Rattle.std.proofs.lemmas.Result.{IfOk-from_err}
+use Rattle.ciborium_ll.specs.{Head.IsHead, declared.strings.StringType.StringType}
+use Rattle.ciborium.proofs.{Exits.passed_on, Items.{FrontReads.weighs-none, TakenOnly.same-end, Weights.taken-less}}
+use Rattle.ciborium.proofs.Payloads.OpenNumbers.{parts-more, parts-end, parts-no-head, parts-other, no-break}
+use Rattle.ciborium.proofs.Payloads.{OpenNumbers.{no-definite, parts-cut}, ShortNames.just-denied}
+use Rattle.ciborium.specs.inner.{ByteSources.{IsUnread, bytes_weight, end_at, fault_at}, FrontItems.TakesHead}
+use Rattle.ciborium.specs.inner.StringContents.{DeniesContent, TakesDigits, TakesNumber, TakesParts}
 use Rattle.ciborium_value.specs.Sources.{of_syntax}
-use Rattle.ciborium.specs.{inner.ByteSources.{IsUnread, end_at, fault_at}, inner.FrontItems.TakesHead}
-use Rattle.ciborium.specs.inner.StringContents.{DeniesContent, TakesNumber}
-use Rattle.ciborium.proofs.{Items.FrontReads.weighs-none, Payloads.OpenNumbers.{parts-more, parts-end, parts-no-head}}
-use Rattle.ciborium.proofs.Payloads.OpenNumbers.{parts-other, no-break, no-definite, parts-cut}
-use Rattle.ciborium.proofs.{Payloads.ShortNames.just-denied, Items.TakenOnly.same-end}
 use Rattle.ciborium_ll.specs.declared.header.Header.TheVariants as header
 use Rattle.ciborium.proofs.de.byte_source.ByteSource.read_number.Goals as goal
 
+-- all bytes of a definite string
+whole-number : (P Q : List ℕ → Type 0) (n : ℕ) (v : Option ℕ) → TakesDigits P Q n (Some 0) v →
+    TakesNumber P Q (Some n) v
+whole-number P Q n v took y p =
+    let (b, z, size, are, is, whole, q) = took y p in
+    (b, b, z, λ x head. (x, subst (IsHead x 2) (sym size) head, are, refl), is, are, whole, q)
+
+-- none of its parts yet
+no-parts : (P : List ℕ → Type 0) → TakesParts P P (Some 0)
+no-parts P y p = ([], [], y, refl, refl, λ k d below. absurd (omega arith), refl, p)
+
 pub returns-in_err-number-in-Some-clause-denied : goal.returns-in_err-number-in-Some-clause-denied
 returns-in_err-number-in-Some-clause-denied g c =
-    let exit = err_from_is_err_and c.from_residual.result c.from_residual.ensures.1 in
     let P = IsUnread g.A.Access.remaining c.args.self.now in
     let end = end_at g.A.Access.remaining c.args.self.now in
     let at = fault_at g.A.Access.can_fail g.A.Access.remaining c.read_digits.new.self in
     let fault = at c.in_err-number-in-Some.field-0.0 in
-    rw (exit.1, exit.2) (subst (λ l. DeniesContent P end StringType.Bytes l fault) (sym c.in-Some.is)
+    rw (passed_on c.from_residual.result _ c.from_residual.ensures.1)
+    (subst (λ l. DeniesContent P end StringType.Bytes l fault) (sym c.in-Some.is)
     (just-denied P end c.in-Some.n fault StringType.Bytes c.in_err-number-in-Some.ensures.outside))
 
 pub returns-in_err-header-in-None-clause-denied : goal.returns-in_err-header-in-None-clause-denied
 returns-in_err-header-in-None-clause-denied g c =
-    let exit = err_from_is_err_and c.from_residual-in_err-header-in-None.result
-    c.from_residual-in_err-header-in-None.ensures.1 in
     let P = IsUnread g.A.Access.remaining c.args.self.now in
     let fault = fault_at g.A.Access.can_fail g.A.Access.remaining c.next_head.new.self c.in_err-header-in-None.field-0.0
     in
-    rw (exit.1, exit.2) (subst (λ l. DeniesContent P (end_at g.A.Access.remaining c.args.self.now) StringType.Bytes l
+    rw (passed_on c.from_residual-in_err-header-in-None.result _ c.from_residual-in_err-header-in-None.ensures.1)
+    (subst (λ l. DeniesContent P (end_at g.A.Access.remaining c.args.self.now) StringType.Bytes l
     fault)
     (sym c.in-None.is) (parts-no-head P (IsUnread g.A.Access.remaining c.parts.self) c.parts.number
     c.parts.invariant.took (end_at g.A.Access.remaining c.parts.self) (end_at g.A.Access.remaining c.args.self.now)
@@ -92,14 +103,14 @@ returns-in_default-clause-denied g c =
 
 pub returns-in_err-number-in-Some-part-clause-denied : goal.returns-in_err-number-in-Some-part-clause-denied
 returns-in_err-number-in-Some-part-clause-denied g c =
-    let exit = err_from_is_err_and c.from_residual-in_err-number-in-Some-part.result
-    c.from_residual-in_err-number-in-Some-part.ensures.1 in
     let U = IsUnread g.A.Access.remaining in
     let fault =
     fault_at g.A.Access.can_fail g.A.Access.remaining c.read_digits-in-Some-part.new.self
     c.in_err-number-in-Some-part.field-0.0 in
     let mid = c.next_head.new.self in
-    rw (exit.1, exit.2) (subst (λ l. DeniesContent (U c.args.self.now) (end_at g.A.Access.remaining c.args.self.now)
+    rw (passed_on c.from_residual-in_err-number-in-Some-part.result _
+    c.from_residual-in_err-number-in-Some-part.ensures.1)
+    (subst (λ l. DeniesContent (U c.args.self.now) (end_at g.A.Access.remaining c.args.self.now)
     StringType.Bytes l fault) (sym c.in-None.is)
     (parts-cut (U c.args.self.now) (U c.parts.self) c.parts.number c.parts.invariant.took (U mid)
     (end_at g.A.Access.remaining mid) (end_at g.A.Access.remaining c.args.self.now) c.in-Some-part.n fault
@@ -107,3 +118,40 @@ returns-in_err-number-in-Some-part-clause-denied g c =
     (c.parts.invariant.only first h)))
     (subst (TakesHead U c.parts.self mid) (c.in-Bytes.is ∙ ap header.Bytes c.in-Some-part.is)
     c.in_ok-header-in-None.ensures.head) c.in_err-number-in-Some-part.ensures.outside))
+
+pub returns-in_err-number-in-Some-clause-ok : goal.returns-in_err-number-in-Some-clause-ok
+returns-in_err-number-in-Some-clause-ok g c =
+    IfOk-from_err c.from_residual.result _ c.from_residual.ensures.0
+
+pub returns-in_err-header-in-None-clause-ok : goal.returns-in_err-header-in-None-clause-ok
+returns-in_err-header-in-None-clause-ok g c =
+    IfOk-from_err c.from_residual-in_err-header-in-None.result _ c.from_residual-in_err-header-in-None.ensures.0
+
+pub returns-in_err-number-in-Some-part-clause-ok : goal.returns-in_err-number-in-Some-part-clause-ok
+returns-in_err-number-in-Some-part-clause-ok g c =
+    IfOk-from_err c.from_residual-in_err-number-in-Some-part.result _
+    c.from_residual-in_err-number-in-Some-part.ensures.0
+
+pub returns-clause-ok : goal.returns-clause-ok
+returns-clause-ok g c =
+    let P = IsUnread g.A.Access.remaining c.args.self.now in
+    let Q = IsUnread g.A.Access.remaining c.read_digits.new.self in
+    let number = c.in_ok-number-in-Some.number in
+    subst (λ l. TakesNumber P Q l number) (sym c.in-Some.is)
+    (whole-number P Q c.in-Some.n number c.in_ok-number-in-Some.ensures.ok)
+
+pub parts-init : goal.parts-init
+parts-init g c = record {
+  same_reader = refl;
+  only = λ first h. h;
+  levels = refl;
+  pending = c.requires;
+  fewer = le_refl _;
+  took = no-parts (IsUnread g.A.Access.remaining c.args.self.now);
+}
+
+pub parts-smaller : goal.parts-smaller
+parts-smaller g c =
+    subst (λ n. bytes_weight c.read_digits-in-Some-part.new.self < n)
+    (weighs-none c.parts.self c.parts.invariant.pending) (taken-less _ _ _ c.in_ok-header-in-None.header
+    c.in_ok-header-in-None.ensures.fewer c.in_ok-number-in-Some-part.ensures.fewer)

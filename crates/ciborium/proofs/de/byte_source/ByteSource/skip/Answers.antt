@@ -1,10 +1,9 @@
-use Rattle.std.proofs.{Common.{[], ◌∷◌, IfOk, OnOk, Result, Ok, Err, refl}, lemmas.Result.err_from_is_err_and}
-use Rattle.std.proofs.lemmas.Result.{MatchResult-from_both}
+use Rattle.std.proofs.{Common.{[], ◌∷◌, IfOk, OnOk, Result, Ok, Err, refl}, lemmas.Result.MatchResult-from_both}
 use Rattle.ciborium_ll.specs.declared.levels.Level.TheVariants.{Items}
 use Rattle.ciborium_value.{proofs.Sources.TreeReading.if_err_so, specs.Given.given_skip}
-use Rattle.ciborium.proofs.{Containers.HeadsAside.answers-aside, Items.PassedOver.{head-denied, item-denied}}
-use Rattle.ciborium.proofs.Items.{PassedOver.{item-passed, lone-passed, payload-denied}, TakenOnly.same-end}
-use Rattle.ciborium.specs.inner.ByteSources.{IsUnread, end_at, fault_at}
+use Rattle.ciborium.proofs.{Containers.HeadsAside.answers-aside, Exits.passed_on, Items.PassedOver.head-denied}
+use Rattle.ciborium.proofs.Items.PassedOver.{item-denied, item-passed, lone-passed, payload-denied}
+use Rattle.ciborium.{proofs.Items.TakenOnly.same-end, specs.inner.ByteSources.{IsUnread, end_at, fault_at}}
 use Rattle.ciborium.proofs.de.byte_source.ByteSource.skip.Goals as goal
 
 ok-if : {T E Q : Type 0} {P : T → Type 0} (r : Result T E) → (Q → (v : T) → P v) → OnOk r Q → IfOk r P
@@ -13,10 +12,10 @@ ok-if (Err e) f q = tt
 
 pub returns-in_err-header-clause-answer : goal.returns-in_err-header-clause-answer
 returns-in_err-header-clause-answer g c =
-    let exit = err_from_is_err_and c.from_residual.result c.from_residual.ensures.1 in
     let old = c.args.self.now in
     let fault = fault_at g.A.Access.can_fail g.A.Access.remaining c.next_head.new.self c.in_err-header.field-0.0 in
-    rw (exit.1, exit.2) (item-denied (IsUnread g.A.Access.remaining old) (end_at g.A.Access.remaining old) old.levels
+    rw (passed_on c.from_residual.result _ c.from_residual.ensures.1)
+    (item-denied (IsUnread g.A.Access.remaining old) (end_at g.A.Access.remaining old) old.levels
     fault
     (head-denied (IsUnread g.A.Access.remaining old) (end_at g.A.Access.remaining old) old.levels (Items 1 ∷ []) fault
     tt

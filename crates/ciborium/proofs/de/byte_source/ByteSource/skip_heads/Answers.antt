@@ -1,8 +1,9 @@
-use Rattle.std.proofs.{Common.{◌∷◌, [], sym, ◌∙◌, subst, arith}, lemmas.Result.err_from_is_err_and}
+use Rattle.std.proofs.{Common.{◌∷◌, [], sym, ◌∙◌, subst, arith}}
 use Rattle.ciborium_ll.specs.declared.levels.Level.TheVariants.{Items}
 use Rattle.ciborium.proofs.Items.PassedOver.{denied-before, item-denied, item-passed, passed-incomplete, passed-then}
 use Rattle.ciborium.{proofs.Items.TakenOnly.same-end, specs.inner.ByteSources.{IsUnread, end_at, fault_at}}
 use Rattle.ciborium.specs.inner.PassedOver.{DeniesLevels, PassesHeads, levels_in}
+use Rattle.ciborium.proofs.Exits.{passed_on}
 use Rattle.ciborium.proofs.de.byte_source.ByteSource.skip_heads.Goals as goal
 
 pub heads-preserved : goal.heads-preserved
@@ -48,12 +49,12 @@ returns-then-drop_complete-clause-answer g c =
 
 pub returns-in_err-skip_head-clause-answer : goal.returns-in_err-skip_head-clause-answer
 returns-in_err-skip_head-clause-answer g c =
-    let exit = err_from_is_err_and c.from_residual.result c.from_residual.ensures.1 in
     let old = c.args.self.now in
     let mid = c.heads.self in
     let before = levels_in c.heads.unfinished in
     let fault = fault_at g.A.Access.can_fail g.A.Access.remaining c.skip_head.new.self c.in_err-skip_head.field-0.0 in
-    rw (exit.1, exit.2) (item-denied (IsUnread g.A.Access.remaining old) (end_at g.A.Access.remaining old) old.levels
+    rw (passed_on c.from_residual.result _ c.from_residual.ensures.1)
+    (item-denied (IsUnread g.A.Access.remaining old) (end_at g.A.Access.remaining old) old.levels
     fault
     (denied-before (IsUnread g.A.Access.remaining old) (IsUnread g.A.Access.remaining mid) old.levels
     (end_at g.A.Access.remaining old) (end_at g.A.Access.remaining mid) (Items 1 ∷ []) before fault

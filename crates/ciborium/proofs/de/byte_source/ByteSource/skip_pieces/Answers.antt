@@ -1,13 +1,12 @@
 use Rattle.std.proofs.Common.{◌≡◌, ◌∙◌, arith, rules, length, length-take-le, subst, Some}
-use Rattle.std.proofs.lemmas.Result.{err_from_is_err_and}
 use Rattle.ciborium.specs.{inner.ByteSources.{IsUnread, end_at, fault_at}, inner.StringContents.DeniesJust}
 use Rattle.ciborium.proofs.{Items.TakenOnly.same-end, Payloads.SkippedPayloads.{bytes-taken, piece-denied, some-more}}
 use Rattle.ciborium_ll.specs.declared.header.Header.TheVariants as header
+use Rattle.ciborium.proofs.Exits.{passed_on}
 use Rattle.ciborium.proofs.de.byte_source.ByteSource.skip_pieces.Goals as goal
 
 pub returns-in_err-fill-clause-denied : goal.returns-in_err-fill-clause-denied
 returns-in_err-fill-clause-denied g c =
-    let exit = err_from_is_err_and c.from_residual.result c.from_residual.ensures.1 in
     let old = c.args.self.now in
     let mid = c.loop-left.self in
     let size = c.min-size.result in
@@ -15,7 +14,8 @@ returns-in_err-fill-clause-denied g c =
     let fault = fault_at g.A.Access.can_fail g.A.Access.remaining c.fill.new.self c.in_err-fill.field-0.0 in
     let least = c.min-size.ensures in
     let long : length c.loop-left.buffer ≡ 64 = search rules in
-    rw (exit.1, exit.2) (piece-denied (IsUnread g.A.Access.remaining old) (IsUnread g.A.Access.remaining mid)
+    rw (passed_on c.from_residual.result _ c.from_residual.ensures.1)
+    (piece-denied (IsUnread g.A.Access.remaining old) (IsUnread g.A.Access.remaining mid)
     (end_at g.A.Access.remaining old) end fault (header.Bytes (Some c.args.len)) c.args.len c.loop-left.left size
     (λ p is. is.0) (omega (arith, least)) (same-end g.A.Access.remaining old mid c.loop-left.invariant.only)
     c.loop-left.invariant.took (subst (λ k. DeniesJust (IsUnread g.A.Access.remaining mid) end k fault)

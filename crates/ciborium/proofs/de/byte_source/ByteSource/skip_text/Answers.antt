@@ -1,15 +1,16 @@
-use Rattle.std.proofs.{Common.{◌≡◌, Some, false, ap, ◌∙◌}, lemmas.Result.err_from_is_err_and}
+use Rattle.std.proofs.{Common.{◌≡◌, Some, false, ap, ◌∙◌}}
 use Rattle.ciborium_value.specs.Sources.{of_syntax}
 use Rattle.ciborium.specs.inner.ByteSources.{IsUnread, end_at, fault_at}
 use Rattle.ciborium.proofs.Payloads.VisitedPayloads.{payload-denied, payload-denied-then, no-text-there}
 use Rattle.ciborium_ll.specs.declared.header.Header.TheVariants as header
+use Rattle.ciborium.proofs.Exits.{passed_on}
 use Rattle.ciborium.proofs.de.byte_source.ByteSource.skip_text.Goals as goal
 
 pub returns-in_err-visit-clause-denied : goal.returns-in_err-visit-clause-denied
 returns-in_err-visit-clause-denied g c =
-    let exit = err_from_is_err_and c.from_residual.result c.from_residual.ensures.1 in
     let fault = fault_at g.A.Access.can_fail g.A.Access.remaining c.visit.new.self c.in_err-visit.field-0.0 in
-    rw (exit.1, exit.2) (payload-denied (IsUnread g.A.Access.remaining c.args.self.now)
+    rw (passed_on c.from_residual.result _ c.from_residual.ensures.1)
+    (payload-denied (IsUnread g.A.Access.remaining c.args.self.now)
     (end_at g.A.Access.remaining c.args.self.now) c.args.len fault (header.Text (Some c.args.len)) (λ p is. is.0)
     c.in_err-visit.ensures.outside)
 

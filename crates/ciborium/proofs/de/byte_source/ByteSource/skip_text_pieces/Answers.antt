@@ -1,16 +1,15 @@
-use Rattle.std.proofs.Common.{◌≡◌, ◌≤◌, ◌+◌, ◌-◌, ◌++◌, ◌∙◌, ℕ, IsUtf8, List, Some, arith, drop, length, subst, sym}
-use Rattle.std.proofs.{Common.take, lemmas.List.take-append-le, lemmas.Result.err_from_is_err_and}
+use Rattle.std.proofs.Common.{◌≡◌, ◌≤◌, ◌+◌, ◌-◌, ◌++◌, ◌∙◌, ℕ, IsUtf8, List, Some, arith, drop, length, rules, subst}
+use Rattle.std.proofs.{Common.{sym, refl, [], le_refl, take}, lemmas.{List.take-append-le, Result.IfOk-from_err}}
 use Rattle.ciborium_value.specs.Sources.{of_syntax}
-use Rattle.ciborium.specs.{inner.ByteSources.{IsUnread, end_at, fault_at}, inner.StringContents.DeniesJust}
-use Rattle.ciborium.proofs.{Items.TakenOnly.same-end, Payloads.SkippedPayloads.{TookText, cut-text, no-text}}
-use Rattle.ciborium.proofs.Payloads.SkippedPayloads.{part-filled, part-size, piece-denied, text-more, text-some}
-use Rattle.ciborium.proofs.Payloads.SkippedPayloads.{text-taken}
+use Rattle.ciborium.proofs.{Exits.passed_on, Items.TakenOnly.same-end, Payloads.SkippedPayloads.{TookText, cut-text}}
+use Rattle.ciborium.proofs.Payloads.SkippedPayloads.{no-text, part-filled, part-size, piece-denied, text-more}
+use Rattle.ciborium.{proofs.Payloads.SkippedPayloads.{text-some, text-taken}, specs.inner.ByteSources.IsUnread}
+use Rattle.ciborium.specs.inner.{ByteSources.{end_at, fault_at}, StringContents.DeniesJust}
 use Rattle.ciborium_ll.specs.declared.header.Header.TheVariants as header
 use Rattle.ciborium.proofs.de.byte_source.ByteSource.skip_text_pieces.Goals as goal
 
 pub returns-in_err-fill-clause-denied : goal.returns-in_err-fill-clause-denied
 returns-in_err-fill-clause-denied g c =
-    let exit = err_from_is_err_and c.from_residual.result c.from_residual.ensures.1 in
     let old = c.args.self.now in
     let mid = c.loop-left.self in
     let room = c.loop-left.buffer in
@@ -22,7 +21,8 @@ returns-in_err-fill-clause-denied g c =
     let fault = fault_at g.A.Access.can_fail g.A.Access.remaining c.fill.new.self c.in_err-fill.field-0.0 in
     let least = c.min-size.ensures in
     let long : length room ≡ 64 = c.min-size.array_long in
-    rw (exit.1, exit.2) (piece-denied P Q (end_at g.A.Access.remaining old) end fault (header.Text (Some c.args.len))
+    rw (passed_on c.from_residual.result _ c.from_residual.ensures.1)
+    (piece-denied P Q (end_at g.A.Access.remaining old) end fault (header.Text (Some c.args.len))
     c.args.len c.loop-left.left size (λ p is. is.0) (omega (arith, least))
     (same-end g.A.Access.remaining old mid c.loop-left.invariant.only)
     (text-some P Q c.args.len c.loop-left.left (take kept room) c.loop-left.invariant.took)
@@ -93,8 +93,6 @@ returns-clause-ok g c =
 
 pub returns-in_err-skip_pieces-in-None-clause-denied : goal.returns-in_err-skip_pieces-in-None-clause-denied
 returns-in_err-skip_pieces-in-None-clause-denied g c =
-    let exit = err_from_is_err_and c.from_residual-in_err-skip_pieces-in-None.result
-    c.from_residual-in_err-skip_pieces-in-None.ensures.1 in
     let room = c.loop-left.buffer in
     let kept = c.loop-left.kept in
     let size = c.min-size.result in
@@ -103,10 +101,34 @@ returns-in_err-skip_pieces-in-None-clause-denied g c =
     let long : length room ≡ 64 = c.min-size.array_long in
     let fits : kept + size ≤ length room = omega (arith, least, long, c.loop-left.invariant.few) in
     let len : length buffer ≡ size = c.fill.auto.buffer ∙ part-size room kept size fits in
-    rw (exit.1, exit.2) (no-text (IsUnread g.A.Access.remaining c.args.self.now)
+    rw (passed_on c.from_residual-in_err-skip_pieces-in-None.result _
+    c.from_residual-in_err-skip_pieces-in-None.ensures.1)
+    (no-text (IsUnread g.A.Access.remaining c.args.self.now)
     (IsUnread g.A.Access.remaining c.loop-left.self) (IsUnread g.A.Access.remaining c.fill.new.self)
     (end_at g.A.Access.remaining c.args.self.now) c.args.len c.loop-left.left size
     (fault_at g.A.Access.can_fail g.A.Access.remaining c.skip_pieces.new.self c.in_err-skip_pieces-in-None.field-0.0)
     (take kept room) buffer (omega (arith, least)) len
     (λ t utf8. c.in-None.ensures.none t (subst (λ (l : List ℕ). IsUtf8 (l ++ t))
     (sym (part-filled room buffer kept size fits len)) utf8)) c.in_ok-fill.ensures.ok c.loop-left.invariant.took)
+
+pub loop-left-init : goal.loop-left-init
+loop-left-init g c = record {
+  same_reader = refl;
+  only = λ first h. h;
+  levels = refl;
+  pending = c.requires;
+  fewer = le_refl _;
+  few = search rules;
+  cut = λ utf8. refl;
+  took = λ y u. ([], y, ([], (refl, refl)), search rules, refl, u);
+}
+
+pub returns-in_err-fill-clause-ok : goal.returns-in_err-fill-clause-ok
+returns-in_err-fill-clause-ok g c = IfOk-from_err c.from_residual.result _ c.from_residual.ensures.0
+
+pub returns-in_err-fill-clause-only : goal.returns-in_err-fill-clause-only
+returns-in_err-fill-clause-only g c first h = c.fill.ensures.only first (c.loop-left.invariant.only first h)
+
+pub returns-in_err-skip_pieces-in-None-clause-only : goal.returns-in_err-skip_pieces-in-None-clause-only
+returns-in_err-skip_pieces-in-None-clause-only g c first h =
+    c.skip_pieces.ensures.only first (c.in_ok-fill.ensures.only first (c.loop-left.invariant.only first h))

@@ -4,6 +4,6 @@ use Rattle.ciborium_value.proofs.serialize.containers.VecSerialize.serialize.Giv
 
 -- the items from here on are left
 abbrev pub invariant-loop-item : goal.invariant-loop-item
-invariant-loop-item g l = Owes g.S.Sink.stands_at sequence (Some (length l.item-items))
-    (map g.T.Serialize.written l.item-items) l.fn.sink l.sink
+invariant-loop-item g l = Owes g.S.Sink.stands_at sequence (Some (length l.self.items))
+    (map g.T.Serialize.written l.self.items) l.fn.sink l.sink
     (map g.T.Serialize.written (drop l.item-index l.item-items))

@@ -1,16 +1,16 @@
-use Rattle.std.proofs.{Common.{arith, Some, false, sym, subst, ◌∙◌}, lemmas.Result.err_from_is_err_and}
-use Rattle.ciborium_value.specs.{Given.{given_pairs, give}, Ahead.takes_level}
-use Rattle.ciborium.specs.{inner.ByteSources.IsUnread, inner.Skips.TakesBare}
+use Rattle.std.proofs.Common.{arith, Some, false, sym, subst, ◌∙◌}
+use Rattle.ciborium_value.specs.{Ahead.takes_level, Given.{given_pairs, give}}
+use Rattle.ciborium.proofs.Containers.ByteItems.{head-refuses, nested-refuses, other-refuses}
 use Rattle.ciborium.proofs.Containers.EnteredContainers.{IsEntered, entered-kept, map-entered, map-nests, map-other}
-use Rattle.ciborium.proofs.{Containers.EnteredContainers.{pairs-given, pairs-stand}, Containers.ByteItems.head-refuses}
-use Rattle.ciborium.proofs.Containers.ByteItems.{nested-refuses, other-refuses}
+use Rattle.ciborium.proofs.{Containers.EnteredContainers.{pairs-given, pairs-stand}, Exits.passed_on}
+use Rattle.ciborium.specs.inner.{ByteSources.IsUnread, Skips.TakesBare}
 use Rattle.ciborium_ll.specs.declared.header.Header.TheVariants as header
 use Rattle.ciborium.proofs.de.byte_source.source.ByteSourceSource.begin_map.Goals as goal
 
 pub returns-in_err-header-clause-refused : goal.returns-in_err-header-clause-refused
 returns-in_err-header-clause-refused g c =
-    let exit = err_from_is_err_and c.from_residual.result c.from_residual.ensures.1 in
-    rw (exit.1, exit.2) (head-refuses given_pairs c.in_err-header.ensures.reads c.in_err-header.ensures.denied)
+    rw (passed_on c.from_residual.result _ c.from_residual.ensures.1)
+    (head-refuses given_pairs c.in_err-header.ensures.reads c.in_err-header.ensures.denied)
 
 pub returns-in_default-clause-refused : goal.returns-in_default-clause-refused
 returns-in_default-clause-refused g c =
@@ -20,9 +20,8 @@ returns-in_default-clause-refused g c =
 
 pub returns-in_err-seq-clause-refused : goal.returns-in_err-seq-clause-refused
 returns-in_err-seq-clause-refused g c =
-    let exit = err_from_is_err_and c.from_residual-in_err-seq.result
-    c.from_residual-in_err-seq.ensures.1 in
-    rw (exit.1, exit.2) (nested-refuses given_pairs c.in_ok-header.ensures.reads c.in_ok-header.ensures.head
+    rw (passed_on c.from_residual-in_err-seq.result _ c.from_residual-in_err-seq.ensures.1)
+    (nested-refuses given_pairs c.in_ok-header.ensures.reads c.in_ok-header.ensures.head
     c.enter.new.self
     (header.Map c.in-Map.count) c.in-Map.is c.in_err-seq.ensures.err (map-nests c.args.self.now.levels c.in-Map.count
     (sym c.in_ok-header.ensures.reads.levels ∙ c.in_err-seq.ensures.none)))

@@ -1,5 +1,5 @@
 use Rattle.std.proofs.Common.{rules, arith, ◌+◌, ◌<◌, refl, Some, false, sym, subst, ◌∙◌}
-use Rattle.std.{proofs.lemmas.Result.err_from_is_err_and, specs.Vec.Iter.into_iter_items}
+use Rattle.std.specs.Vec.Iter.{into_iter_items}
 use Rattle.ciborium_ll.specs.declared.strings.StringType.{StringType}
 use Rattle.ciborium_value.specs.{Ahead.takes_level, Given.{bare_seq, given_seq, give}}
 use Rattle.ciborium.proofs.Containers.ByteItems.{head-refuses, nested-refuses, other-refuses, string-refuses}
@@ -7,12 +7,13 @@ use Rattle.ciborium.proofs.Containers.EnteredContainers.{IsEntered, entered-kept
 use Rattle.ciborium.proofs.Containers.EnteredContainers.{array-nests, bytes-entered, bytes-had, seq-given, seq-other}
 use Rattle.ciborium.specs.inner.{ByteSources.{IsUnread, seq_left, weight_left}, Skips.TakesBare}
 use Rattle.ciborium_ll.specs.declared.header.Header.TheVariants as header
+use Rattle.ciborium.proofs.Exits.{passed_on}
 use Rattle.ciborium.proofs.de.byte_source.source.ByteSourceSource.begin_seq.Goals as goal
 
 pub returns-in_err-header-clause-refused : goal.returns-in_err-header-clause-refused
 returns-in_err-header-clause-refused g c =
-    let exit = err_from_is_err_and c.from_residual.result c.from_residual.ensures.1 in
-    rw (exit.1, exit.2) (head-refuses given_seq c.in_err-header.ensures.reads c.in_err-header.ensures.denied)
+    rw (passed_on c.from_residual.result _ c.from_residual.ensures.1)
+    (head-refuses given_seq c.in_err-header.ensures.reads c.in_err-header.ensures.denied)
 
 pub returns-in_ok-seq-in-Array : goal.returns-in_ok-seq-in-Array
 returns-in_ok-seq-in-Array g c =
@@ -40,9 +41,8 @@ returns-in_ok-seq-in-Array g c =
 
 pub returns-in_err-seq-in-Array-clause-refused : goal.returns-in_err-seq-in-Array-clause-refused
 returns-in_err-seq-in-Array-clause-refused g c =
-    let exit = err_from_is_err_and c.from_residual-in_err-seq-in-Array.result
-    c.from_residual-in_err-seq-in-Array.ensures.1 in
-    rw (exit.1, exit.2) (nested-refuses given_seq c.in_ok-header.ensures.reads c.in_ok-header.ensures.head
+    rw (passed_on c.from_residual-in_err-seq-in-Array.result _ c.from_residual-in_err-seq-in-Array.ensures.1)
+    (nested-refuses given_seq c.in_ok-header.ensures.reads c.in_ok-header.ensures.head
     c.enter.new.self
     (header.Array c.in-Array.count) c.in-Array.is c.in_err-seq-in-Array.ensures.err (array-nests bare_seq (λ o is. refl)
     c.args.self.now.levels c.in-Array.count (sym c.in_ok-header.ensures.reads.levels ∙
@@ -77,9 +77,8 @@ returns-in_ok-seq-in-Bytes g c =
 
 pub returns-in_err-seq-in-Bytes-clause-refused : goal.returns-in_err-seq-in-Bytes-clause-refused
 returns-in_err-seq-in-Bytes-clause-refused g c =
-    let exit = err_from_is_err_and c.from_residual-in_err-seq-in-Bytes.result
-    c.from_residual-in_err-seq-in-Bytes.ensures.1 in
-    rw (exit.1, exit.2) (string-refuses given_seq c.in_ok-header.ensures.reads c.in_ok-header.ensures.head _
+    rw (passed_on c.from_residual-in_err-seq-in-Bytes.result _ c.from_residual-in_err-seq-in-Bytes.ensures.1)
+    (string-refuses given_seq c.in_ok-header.ensures.reads c.in_ok-header.ensures.head _
     StringType.Bytes
     c.in-Bytes.len c.in-Bytes.is c.in_err-seq-in-Bytes.ensures.denied)
 

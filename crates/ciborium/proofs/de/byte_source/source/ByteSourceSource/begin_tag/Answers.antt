@@ -1,11 +1,10 @@
 use Rattle.std.proofs.Common.{None, ◌≡◌, ap, ◌∙◌, sym, Some, false, subst, arith, ◌++◌, refl}
-use Rattle.std.proofs.lemmas.Result.{err_from_is_err_and}
 use Rattle.ciborium_ll.specs.Header.{SpellsHeader}
 use Rattle.ciborium_value.specs.{Given.given_outer_tag, Sources.of_kind}
 use Rattle.ciborium.proofs.Containers.{ByteItems.refuses-denied, DueLevels.{completes-begun, holds-begun, none-begun}}
 use Rattle.ciborium.proofs.Containers.{DueLevels.{tag-begun, tag-refused}, EnteredContainers.same-unread}
-use Rattle.ciborium.proofs.{Containers.NextParts.aside-unread, Items.SkippedTags.{denies-item, denies-break}}
-use Rattle.ciborium.proofs.Items.{SkippedTags.{denies-of-item, skips-none}, TakenOnly.kept-alone}
+use Rattle.ciborium.proofs.{Containers.NextParts.aside-unread, Exits.passed_on, Items.SkippedTags.denies-item}
+use Rattle.ciborium.proofs.Items.{SkippedTags.{denies-break, denies-of-item, skips-none}, TakenOnly.kept-alone}
 use Rattle.ciborium.specs.inner.ByteSources.{IsUnread, IsUnreadBy, end_at, fault_at, pending_head_weight}
 use Rattle.ciborium.specs.inner.FrontItems.{TakesHead}
 use Rattle.ciborium_ll.specs.declared.kind.Kind.TheVariants as kinds
@@ -13,11 +12,11 @@ use Rattle.ciborium.proofs.de.byte_source.source.ByteSourceSource.begin_tag.Goal
 
 pub returns-in_err-header-clause-refused : goal.returns-in_err-header-clause-refused
 returns-in_err-header-clause-refused g c =
-    let exit = err_from_is_err_and c.from_residual.result c.from_residual.ensures.1 in
     let U = IsUnread g.A.Access.remaining in
     let old = c.args.self.now in
     let fault = fault_at g.A.Access.can_fail g.A.Access.remaining c.next_head.new.self c.in_err-header.field-0.0 in
-    rw (exit.1, exit.2) (refuses-denied g.A.Access.remaining old given_outer_tag fault
+    rw (passed_on c.from_residual.result _ c.from_residual.ensures.1)
+    (refuses-denied g.A.Access.remaining old given_outer_tag fault
     (denies-of-item U (end_at g.A.Access.remaining) (Some old.levels) given_outer_tag old fault
     (denies-item U (end_at g.A.Access.remaining) old old false fault (λ b u. refl) (skips-none U old false)
     c.in_err-header.ensures.denied)))
@@ -61,17 +60,15 @@ returns-in_ok-level-in-Tag g c =
 
 pub returns-in_err-level-in-Tag-clause-refused : goal.returns-in_err-level-in-Tag-clause-refused
 returns-in_err-level-in-Tag-clause-refused g c =
-    let exit = err_from_is_err_and c.from_residual-in_err-level-in-Tag.result
-    c.from_residual-in_err-level-in-Tag.ensures.1 in
-    rw (exit.1, exit.2) (tag-refused g.A.Access.can_fail g.A.Access.remaining c.args.self.now c.next_head.new.self
+    rw (passed_on c.from_residual-in_err-level-in-Tag.result _ c.from_residual-in_err-level-in-Tag.ensures.1)
+    (tag-refused g.A.Access.can_fail g.A.Access.remaining c.args.self.now c.next_head.new.self
     c.take_level.new.self c.in_err-level-in-Tag.field-0.0 c.in_ok-header.ensures.levels
     c.in_err-level-in-Tag.ensures.none c.in_err-level-in-Tag.ensures.err)
 
 pub returns-in_err-level-in_default-clause-refused : goal.returns-in_err-level-in_default-clause-refused
 returns-in_err-level-in_default-clause-refused g c =
-    let exit = err_from_is_err_and c.from_residual-in_err-level-in_default.result
-    c.from_residual-in_err-level-in_default.ensures.1 in
-    rw (exit.1, exit.2) (tag-refused g.A.Access.can_fail g.A.Access.remaining c.args.self.now c.next_head.new.self
+    rw (passed_on c.from_residual-in_err-level-in_default.result _ c.from_residual-in_err-level-in_default.ensures.1)
+    (tag-refused g.A.Access.can_fail g.A.Access.remaining c.args.self.now c.next_head.new.self
     c.take_level-in_default.new.self c.in_err-level-in_default.field-0.0 c.in_ok-header.ensures.levels
     c.in_err-level-in_default.ensures.none c.in_err-level-in_default.ensures.err)
 

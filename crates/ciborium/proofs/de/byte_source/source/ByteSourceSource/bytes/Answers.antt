@@ -1,38 +1,40 @@
-use Rattle.std.proofs.{Common.{Some, ap, arith, refl, rules, sym, ◌∙◌}, lemmas.Result.err_from_is_err_and}
+use Rattle.std.proofs.Common.{Some, ap, arith, le_of_eq, refl, rules, subst, sym, ◌∙◌}
 use Rattle.ciborium_ll.specs.declared.strings.StringType.{StringType}
 use Rattle.ciborium_value.specs.Given.{bare_bytes, given_bytes, outcome}
-use Rattle.ciborium.specs.{inner.ByteSources.fault_at, inner.StringContents.string_item}
 use Rattle.ciborium.proofs.Containers.ByteItems.{array-begun, array-refuses, array-takes, array-took, bytes-other}
 use Rattle.ciborium.proofs.Containers.ByteItems.{bare-refused, behind-refused, head-refused, nested-refuses}
 use Rattle.ciborium.proofs.Containers.ByteItems.{other-refuses, string-given, string-refuses}
-use Rattle.ciborium.proofs.{Containers.EnteredContainers.array-nests, Items.SkippedTags.untagged-under}
+use Rattle.ciborium.proofs.{Containers.EnteredContainers.array-nests, Exits.passed_on, Items.SkippedTags.untagged-under}
+use Rattle.ciborium.{proofs.Items.Weights.same-left, specs.inner.ByteSources.{HasTaken, fault_at}}
+use Rattle.ciborium.specs.inner.StringContents.{string_item}
 use Rattle.ciborium_ll.specs.declared.header.Header.TheVariants as header
 use Rattle.ciborium.proofs.de.byte_source.source.ByteSourceSource.bytes.Goals as goal
 
 pub returns-in_err-header : goal.returns-in_err-header
 returns-in_err-header g c =
-    let exit = err_from_is_err_and c.from_residual.result c.from_residual.ensures.1 in
-    rw (exit.1, exit.2) (record { takes = head-refused c.in_err-header.ensures.reads c.in_err-header.ensures.denied })
+    rw (passed_on c.from_residual.result _ c.from_residual.ensures.1)
+    (record { takes = head-refused c.in_err-header.ensures.reads c.in_err-header.ensures.denied })
 
 -- ---- a byte string
 
 pub returns-in_ok-bytes-in-Bytes : goal.returns-in_ok-bytes-in-Bytes
 returns-in_ok-bytes-in-Bytes g c =
     let payload = c.in_ok-bytes-in-Bytes.bytes.items in
-    let content = c.in_ok-bytes-in-Bytes.ensures in
-    let fewer = content.fewer in record {
+    let content = c.in_ok-bytes-in-Bytes.ensures in record {
       takes = string-given c.in_ok-header.ensures.reads c.in_ok-header.ensures.head StringType.Bytes c.in-Bytes.len
-          c.in-Bytes.is (content.same_reader, content.only) content.levels content.pending (omega (arith, fewer))
+          c.in-Bytes.is (content.same_reader, content.only) content.levels content.pending (omega (
+            arith,
+            content.fewer,
+          ))
           payload content.ok (λ ts all. ap (λ j. outcome (Some c.args.self.now.levels) (bare_bytes j))
           (untagged-under ts (string_item StringType.Bytes c.in-Bytes.len payload)));
     }
 
 pub returns-in_err-bytes-in-Bytes : goal.returns-in_err-bytes-in-Bytes
 returns-in_err-bytes-in-Bytes g c =
-    let exit = err_from_is_err_and c.from_residual-in_err-bytes-in-Bytes.result
-    c.from_residual-in_err-bytes-in-Bytes.ensures.1 in
     let refusal = c.in_err-bytes-in-Bytes.ensures in
-    rw (exit.1, exit.2) (record {
+    rw (passed_on c.from_residual-in_err-bytes-in-Bytes.result _ c.from_residual-in_err-bytes-in-Bytes.ensures.1)
+    (record {
       takes = behind-refused c.in_ok-header.ensures.reads refusal.only refusal.no_more
           (string-refuses given_bytes c.in_ok-header.ensures.reads c.in_ok-header.ensures.head _ StringType.Bytes
           c.in-Bytes.len
@@ -43,11 +45,11 @@ returns-in_err-bytes-in-Bytes g c =
 
 pub returns-in_err-seq-in-Array : goal.returns-in_err-seq-in-Array
 returns-in_err-seq-in-Array g c =
-    let exit = err_from_is_err_and c.from_residual-in_err-seq-in-Array.result
-    c.from_residual-in_err-seq-in-Array.ensures.1 in
     let enter = c.in_err-seq-in-Array.ensures in
-    rw (exit.1, exit.2) (record {
-      takes = behind-refused c.in_ok-header.ensures.reads (search rules) (search rules)
+    rw (passed_on c.from_residual-in_err-seq-in-Array.result _ c.from_residual-in_err-seq-in-Array.ensures.1) (record {
+      takes = behind-refused c.in_ok-header.ensures.reads (λ first t. subst
+          (HasTaken g.A.Access.remaining first) (sym enter.decoder) t)
+          (le_of_eq (same-left c.enter.new.self c.bare_head.new.self enter.decoder enter.pending))
           (nested-refuses given_bytes c.in_ok-header.ensures.reads c.in_ok-header.ensures.head
           c.enter.new.self
           (header.Array c.in-Array.count) c.in-Array.is enter.err (array-nests bare_bytes (λ o is. refl)
@@ -76,14 +78,13 @@ returns-in_ok-bytes-in-Array g c =
 
 pub returns-in_err-bytes-in-Array : goal.returns-in_err-bytes-in-Array
 returns-in_err-bytes-in-Array g c =
-    let exit = err_from_is_err_and c.from_residual-in_err-bytes-in-Array.result
-    c.from_residual-in_err-bytes-in-Array.ensures.1 in
     let enter = c.in_ok-seq-in-Array.ensures in
     let entered = array-begun g.A.Access.can_fail g.A.Access.remaining c.args.self.now c.bare_head.new.self
     c.enter.new.self c.in-Array.count
     c.in_ok-seq-in-Array.seq c.in_ok-header.header c.in_ok-header.offset c.in-Array.is c.in_ok-header.ensures.head
     c.in_ok-header.ensures.reads (enter.decoder, enter.pending, enter.some, enter.levels, enter.left) enter.back in
-    rw (exit.1, exit.2) (record {
+    rw (passed_on c.from_residual-in_err-bytes-in-Array.result _ c.from_residual-in_err-bytes-in-Array.ensures.1)
+    (record {
       takes = record {
         ok = tt;
         refused = array-refuses g.A.Access.remaining c.args.self.now c.enter.new.self c.in_ok-seq-in-Array.seq

@@ -1,14 +1,14 @@
 use Rattle.std.proofs.Common.{rules, ◌≡◌, ◌≤◌, ℕ, [], ◌∷◌, ap, ◌∙◌, Some, false, subst, arith, length, take}
-use Rattle.std.proofs.{Common.{length-append, chars, ◌+◌}, lemmas.Grind.common_steps, lemmas.Result.err_from_is_err_and}
+use Rattle.std.proofs.{Common.{length-append, chars, ◌+◌}, lemmas.Grind.common_steps}
 use Rattle.ciborium_ll.specs.{Accesses.left_at_failure, declared.strings.StringType.StringType}
-use Rattle.ciborium_value.specs.{Sources.of_kind, Given.{given_character, lone_character, settled}}
-use Rattle.ciborium_value.proofs.Sources.Sequences.{fault_outside}
-use Rattle.ciborium.specs.{inner.ByteSources.{IsUnread, end_at, fault_at}, inner.Skips.TakesBare}
-use Rattle.ciborium.proofs.Payloads.LoneCharacters.{character-given, character-open, character-other, long-denied}
-use Rattle.ciborium.proofs.Payloads.LoneCharacters.{payload-denied, payload-taken, text-denied}
-use Rattle.ciborium.proofs.{Items.SkippedTags.reads-bare, Items.TakenOnly.same-end}
-use Rattle.ciborium.proofs.{Payloads.StringPayloads.string-behind, Containers.ByteItems.{bare-refused, behind-given}}
-use Rattle.ciborium.proofs.Containers.ByteItems.{behind-refused, head-refused, other-refuses, refuses-denied}
+use Rattle.ciborium_value.{proofs.Sources.Sequences.fault_outside, specs.Given.{given_character, lone_character}}
+use Rattle.ciborium_value.specs.{Given.settled, Sources.of_kind}
+use Rattle.ciborium.proofs.Containers.ByteItems.{bare-refused, behind-given, behind-refused, head-refused}
+use Rattle.ciborium.proofs.{Containers.ByteItems.{other-refuses, refuses-denied}, Exits.passed_on}
+use Rattle.ciborium.proofs.{Items.{SkippedTags.reads-bare, TakenOnly.same-end}, Payloads.LoneCharacters.character-given}
+use Rattle.ciborium.proofs.Payloads.LoneCharacters.{character-open, character-other, long-denied, payload-denied}
+use Rattle.ciborium.proofs.Payloads.{LoneCharacters.{payload-taken, text-denied}, StringPayloads.string-behind}
+use Rattle.ciborium.specs.inner.{ByteSources.{IsUnread, end_at, fault_at}, Skips.TakesBare}
 use Rattle.ciborium_ll.specs.declared.header.Header.TheVariants as header
 use Rattle.ciborium_ll.specs.declared.kind.Kind.TheVariants as kinds
 use Rattle.ciborium.proofs.de.byte_source.source.ByteSourceSource.character.Goals as goal
@@ -18,8 +18,8 @@ short n h = grind (arith, common_steps)
 
 pub returns-in_err-header-clause-takes : goal.returns-in_err-header-clause-takes
 returns-in_err-header-clause-takes g c =
-    let exit = err_from_is_err_and c.from_residual.result c.from_residual.ensures.1 in
-    rw (exit.1, exit.2) (head-refused c.in_err-header.ensures.reads c.in_err-header.ensures.denied)
+    rw (passed_on c.from_residual.result _ c.from_residual.ensures.1)
+    (head-refused c.in_err-header.ensures.reads c.in_err-header.ensures.denied)
 
 pub returns-then-n-gt-GREATEST_CHARACTER_SIZE-clause-takes : goal.returns-then-n-gt-GREATEST_CHARACTER_SIZE-clause-takes
 returns-then-n-gt-GREATEST_CHARACTER_SIZE-clause-takes g c =
@@ -54,15 +54,14 @@ returns-in_ok-character-in-Some-clause-takes g c =
 
 pub returns-in_err-fill-in-Some-clause-takes : goal.returns-in_err-fill-in-Some-clause-takes
 returns-in_err-fill-in-Some-clause-takes g c =
-    let exit = err_from_is_err_and c.from_residual-in_err-fill-in-Some.result
-    c.from_residual-in_err-fill-in-Some.ensures.1 in
     let old = c.args.self.now in
     let mid = c.bare_head.new.self in
     let n = c.in-Some.n in
     let fault = fault_at g.A.Access.can_fail g.A.Access.remaining c.fill.new.self c.in_err-fill-in-Some.field-0.0 in
     let room = short n c.if-n-gt-GREATEST_CHARACTER_SIZE.false in
     let refusal = c.in_err-fill-in-Some.ensures in
-    rw (exit.1, exit.2) (behind-refused c.in_ok-header.ensures.reads refusal.only refusal.no_more
+    rw (passed_on c.from_residual-in_err-fill-in-Some.result _ c.from_residual-in_err-fill-in-Some.ensures.1)
+    (behind-refused c.in_ok-header.ensures.reads refusal.only refusal.no_more
     (refuses-denied g.A.Access.remaining old given_character fault
     (text-denied (IsUnread g.A.Access.remaining) (end_at g.A.Access.remaining) (Some old.levels) old mid n
     (subst (TakesBare (IsUnread g.A.Access.remaining) old mid false) (c.in-Text.is ∙ ap header.Text c.in-Some.is)
@@ -74,8 +73,6 @@ returns-in_err-fill-in-Some-clause-takes g c =
 
 pub returns-in_err-character-in-Some-clause-takes : goal.returns-in_err-character-in-Some-clause-takes
 returns-in_err-character-in-Some-clause-takes g c =
-    let exit = err_from_is_err_and c.from_residual-in_err-character-in-Some.result
-    c.from_residual-in_err-character-in-Some.ensures.1 in
     let old = c.args.self.now in
     let n = c.in-Some.n in
     let mid = c.bare_head.new.self in
@@ -84,7 +81,8 @@ returns-in_err-character-in-Some-clause-takes g c =
     let size : length payload ≡ n = c.fill.auto.buffer ∙ short n c.if-n-gt-GREATEST_CHARACTER_SIZE.false in
     let fault = fault_at g.A.Access.can_fail g.A.Access.remaining new c.in_err-character-in-Some.field-0.0 in
     let content = c.in_ok-fill-in-Some.ensures in
-    rw (exit.1, exit.2) (behind-refused c.in_ok-header.ensures.reads content.only (search rules)
+    rw (passed_on c.from_residual-in_err-character-in-Some.result _ c.from_residual-in_err-character-in-Some.ensures.1)
+    (behind-refused c.in_ok-header.ensures.reads content.only (search rules)
     (refuses-denied g.A.Access.remaining old given_character fault
     (text-denied (IsUnread g.A.Access.remaining) (end_at g.A.Access.remaining) (Some old.levels) old mid n
     (subst (TakesBare (IsUnread g.A.Access.remaining) old mid false) (c.in-Text.is ∙ ap header.Text c.in-Some.is)

@@ -1,5 +1,4 @@
-use Rattle.std.proofs.lemmas.Result.{err_from_is_err_and}
-use Rattle.ciborium.proofs.Containers.ByteItems.{takes-denied, takes-given}
+use Rattle.ciborium.proofs.{Containers.ByteItems.{takes-denied, takes-given}, Exits.passed_on}
 use Rattle.ciborium.proofs.de.byte_source.source.ByteSourceSource.integer.Goals as goal
 
 pub returns-clause-takes : goal.returns-clause-takes
@@ -10,6 +9,6 @@ returns-clause-takes g c =
 
 pub returns-in_err-number-clause-takes : goal.returns-in_err-number-clause-takes
 returns-in_err-number-clause-takes g c =
-    let exit = err_from_is_err_and c.from_residual.result c.from_residual.ensures.1 in
     let read = c.in_err-number.ensures in
-    rw (exit.1, exit.2) (takes-denied _ _ read.keeps.only read.keeps.no_more read.answer)
+    rw (passed_on c.from_residual.result _ c.from_residual.ensures.1)
+    (takes-denied _ _ read.keeps.only read.keeps.no_more read.answer)

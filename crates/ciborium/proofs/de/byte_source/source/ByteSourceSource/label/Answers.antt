@@ -1,21 +1,20 @@
-use Rattle.std.proofs.{Common.{◌≡◌, ◌∙◌, Some, ap, arith, false, subst, sym, true}, lemmas.Result.err_from_is_err_and}
-use Rattle.std.specs.Int.{complement_if}
+use Rattle.std.{proofs.Common.{◌≡◌, ◌∙◌, Some, ap, arith, false, subst, sym, true}, specs.Int.complement_if}
 use Rattle.ciborium_ll.specs.{Header.SpellsHeader, Item.{negative, unsigned}}
 use Rattle.ciborium_value.specs.{Given.gives, Labels.{numbered, placed}}
 use Rattle.ciborium.proofs.Containers.{ByteItems.{takes-denied, takes-given}, Labels.{key-of-kind, key-text, key-whole}}
-use Rattle.ciborium.proofs.{Containers.Labels.{no-key, no-key-of-kind, no-key-text}, Items.Weights.taken-fewer}
-use Rattle.ciborium.specs.inner.{ByteSources.{IsUnread, end_at, fault_at}, FrontItems.{Denies, Reads}}
+use Rattle.ciborium.proofs.{Containers.Labels.{no-key, no-key-of-kind, no-key-text}, Exits.passed_on}
+use Rattle.ciborium.{proofs.Items.Weights.taken-fewer, specs.inner.ByteSources.{IsUnread, end_at, fault_at}}
+use Rattle.ciborium.specs.inner.FrontItems.{Denies, Reads}
 use Rattle.ciborium.proofs.de.byte_source.source.ByteSourceSource.label.Goals as goal
 
 pub returns-in_err-header : goal.returns-in_err-header
 returns-in_err-header g c =
-    let exit = err_from_is_err_and c.from_residual.result c.from_residual.ensures.1 in
     let place = g.N.Labels.place_of c.args.labels.now in
     let old = c.args.self.now in
     let new = c.next_head.new.self in
     let error = c.in_err-header.field-0.0 in
     let head = c.in_err-header.ensures in
-    rw (exit.1, exit.2) (record {
+    rw (passed_on c.from_residual.result _ c.from_residual.ensures.1) (record {
       takes = takes-denied _ _ head.only
           head.no_more (no-key g.A.Access.remaining old place
           (fault_at g.A.Access.can_fail g.A.Access.remaining new error) head.denied);
@@ -23,8 +22,6 @@ returns-in_err-header g c =
 
 pub returns-in_err-place-in-Text : goal.returns-in_err-place-in-Text
 returns-in_err-place-in-Text g c =
-    let exit = err_from_is_err_and c.from_residual-in_err-place-in-Text.result
-    c.from_residual-in_err-place-in-Text.ensures.1 in
     let place = g.N.Labels.place_of c.args.labels.now in
     let old = c.args.self.now in
     let mid = c.next_head.new.self in
@@ -35,7 +32,8 @@ returns-in_err-place-in-Text g c =
     let text = c.in_err-place-in-Text.ensures in
     let no_more = text.no_more in
     let fewer = taken-fewer old mid mid h (omega arith) head.pending head.fewer in
-    rw (exit.1, exit.2) (record {
+    rw (passed_on c.from_residual-in_err-place-in-Text.result _ c.from_residual-in_err-place-in-Text.ensures.1)
+    (record {
       takes = takes-denied _ _
           (λ first t. text.only first (head.only first t)) (omega (arith, no_more, fewer))
           (no-key-text g.A.Access.remaining old place mid h head.head c.in-Text.len c.in-Text.is head.only
@@ -113,8 +111,6 @@ returns-in_ok-place-in_default g c =
 
 pub returns-in_err-place-in_default : goal.returns-in_err-place-in_default
 returns-in_err-place-in_default g c =
-    let exit = err_from_is_err_and c.from_residual-in_err-place-in_default.result
-    c.from_residual-in_err-place-in_default.ensures.1 in
     let place = g.N.Labels.place_of c.args.labels.now in
     let old = c.args.self.now in
     let mid = c.next_head.new.self in
@@ -125,7 +121,8 @@ returns-in_err-place-in_default g c =
     let error = c.in_err-place-in_default.field-0.0 in
     let fault = fault_at g.A.Access.can_fail g.A.Access.remaining new error in
     let rest = c.in_err-place-in_default.ensures.keeps in
-    rw (exit.1, exit.2) (record {
+    rw (passed_on c.from_residual-in_err-place-in_default.result _ c.from_residual-in_err-place-in_default.ensures.1)
+    (record {
       takes = takes-denied _ _
           (λ first t. rest.only first (head.only first t)) (omega (arith, head.fewer, rest.no_more))
           (no-key-of-kind g.A.Access.remaining old place mid h head.head p head.pending head.counted head.levels

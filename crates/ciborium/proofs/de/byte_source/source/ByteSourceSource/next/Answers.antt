@@ -1,5 +1,5 @@
 use Rattle.std.proofs.Common.{rules, length, Some, arith, ◌++◌, ◌-◌, ◌≡◌, ◌∷◌, refl, sym, ap, ◌∙◌, subst}
-use Rattle.std.{proofs.lemmas.{List.nil_from_length, Result.err_from_is_err_and}, specs.Vec.Iter.into_iter_items}
+use Rattle.std.{proofs.lemmas.{List.nil_from_length}, specs.Vec.Iter.into_iter_items}
 use Rattle.ciborium_ll.specs.Header.{SpellsHeader}
 use Rattle.ciborium.proofs.Containers.NextParts.{aside-unread, goes-bytes, goes-counted, goes-open, leaves-counted}
 use Rattle.ciborium.proofs.Containers.NextParts.{leaves-open, less-bytes, less-counted, less-open, is-none, no-next}
@@ -7,6 +7,7 @@ use Rattle.ciborium.proofs.Containers.NextParts.{nothing-allowed, nothing-open, 
 use Rattle.ciborium.specs.inner.{ByteSources.{IsUnread, IsUnreadBy, fault_at}, FrontItems.TakesHead}
 use Rattle.ciborium_ll.specs.declared.header.Header.TheVariants as header
 use Rattle.ciborium.specs.declared.de.byte_source.Left.TheVariants as left
+use Rattle.ciborium.proofs.Exits.{passed_on}
 use Rattle.ciborium.proofs.de.byte_source.source.ByteSourceSource.next.Goals as goal
 
 pub returns-then-n-eq0-clause-ok : goal.returns-then-n-eq0-clause-ok
@@ -32,8 +33,8 @@ returns-else-n-eq0-clause-took g c =
 
 pub returns-in_err-header-in-Open-clause-refused : goal.returns-in_err-header-in-Open-clause-refused
 returns-in_err-header-in-Open-clause-refused g c =
-    let exit = err_from_is_err_and c.from_residual.result c.from_residual.ensures.1 in
-    rw (exit.1, exit.2) (no-next g.A.Access.remaining c.args.self.now c.args.seq.now
+    rw (passed_on c.from_residual.result _ c.from_residual.ensures.1)
+    (no-next g.A.Access.remaining c.args.self.now c.args.seq.now
     (fault_at g.A.Access.can_fail g.A.Access.remaining c.next_head.new.self c.in_err-header-in-Open.field-0.0)
     c.in-Open.is
     c.in_err-header-in-Open.ensures.denied)

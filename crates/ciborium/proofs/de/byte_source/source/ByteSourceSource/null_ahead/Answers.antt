@@ -1,14 +1,15 @@
-use Rattle.std.proofs.{Common.{◌≡◌, ◌∙◌, ◌++◌, Some, arith}, lemmas.Result.err_from_is_err_and}
+use Rattle.std.proofs.{Common.{◌≡◌, ◌∙◌, ◌++◌, Some, arith}}
 use Rattle.ciborium_ll.specs.Header.{SpellsHeader}
 use Rattle.ciborium_value.specs.Given.{is_null}
 use Rattle.ciborium.proofs.Containers.{NextParts.aside-unread, NullAhead.{null-head, refuses-to-tell, takes-nothing}}
 use Rattle.ciborium.{proofs.Containers.NullAhead.tells, specs.inner.ByteSources.{IsUnread, IsUnreadBy, fault_at}}
+use Rattle.ciborium.proofs.Exits.{passed_on}
 use Rattle.ciborium.proofs.de.byte_source.source.ByteSourceSource.null_ahead.Goals as goal
 
 pub returns-in_err-header-clause-refused : goal.returns-in_err-header-clause-refused
 returns-in_err-header-clause-refused g c =
-    let exit = err_from_is_err_and c.from_residual.result c.from_residual.ensures.1 in
-    rw (exit.1, exit.2) (refuses-to-tell g.A.Access.remaining c.args.self.now
+    rw (passed_on c.from_residual.result _ c.from_residual.ensures.1)
+    (refuses-to-tell g.A.Access.remaining c.args.self.now
     (fault_at g.A.Access.can_fail g.A.Access.remaining c.next_head.new.self c.in_err-header.field-0.0)
     c.in_err-header.ensures.denied)
 

@@ -1,15 +1,16 @@
-use Rattle.std.proofs.{Common.{Some, ap, string_bytes}, lemmas.Result.err_from_is_err_and}
+use Rattle.std.proofs.{Common.{Some, ap, string_bytes}}
 use Rattle.ciborium_ll.specs.declared.strings.StringType.{StringType}
 use Rattle.ciborium_value.specs.Given.{bare_text, given_text, settled}
 use Rattle.ciborium.proofs.Containers.ByteItems.{bare-refused, behind-refused, head-refused, other-refuses}
 use Rattle.ciborium.proofs.{Containers.ByteItems.{string-given, string-refuses}, Items.SkippedTags.untagged-under}
 use Rattle.ciborium.{proofs.Payloads.StringPayloads.text-other, specs.inner.StringContents.string_item}
+use Rattle.ciborium.proofs.Exits.{passed_on}
 use Rattle.ciborium.proofs.de.byte_source.source.ByteSourceSource.text.Goals as goal
 
 pub returns-in_err-header : goal.returns-in_err-header
 returns-in_err-header g c =
-    let exit = err_from_is_err_and c.from_residual.result c.from_residual.ensures.1 in
-    rw (exit.1, exit.2) (record { takes = head-refused c.in_err-header.ensures.reads c.in_err-header.ensures.denied })
+    rw (passed_on c.from_residual.result _ c.from_residual.ensures.1)
+    (record { takes = head-refused c.in_err-header.ensures.reads c.in_err-header.ensures.denied })
 
 pub returns-in_ok-text-in-Text : goal.returns-in_ok-text-in-Text
 returns-in_ok-text-in-Text g c =
@@ -24,10 +25,8 @@ returns-in_ok-text-in-Text g c =
 
 pub returns-in_err-text-in-Text : goal.returns-in_err-text-in-Text
 returns-in_err-text-in-Text g c =
-    let exit = err_from_is_err_and c.from_residual-in_err-text-in-Text.result
-    c.from_residual-in_err-text-in-Text.ensures.1 in
     let refusal = c.in_err-text-in-Text.ensures in
-    rw (exit.1, exit.2) (record {
+    rw (passed_on c.from_residual-in_err-text-in-Text.result _ c.from_residual-in_err-text-in-Text.ensures.1) (record {
       takes = behind-refused c.in_ok-header.ensures.reads refusal.only refusal.no_more
           (string-refuses given_text c.in_ok-header.ensures.reads c.in_ok-header.ensures.head _ StringType.Text
           c.in-Text.len

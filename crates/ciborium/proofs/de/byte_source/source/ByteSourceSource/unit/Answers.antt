@@ -1,15 +1,15 @@
-use Rattle.std.proofs.{Common.{Some, sym, ◌∙◌}, lemmas.Result.err_from_is_err_and}
+use Rattle.std.proofs.Common.{Some, sym, ◌∙◌}
 use Rattle.ciborium_ll.specs.Item.{simple}
 use Rattle.ciborium_value.specs.Given.{given_unit}
 use Rattle.ciborium.proofs.Containers.ByteItems.{bare-refused, head-refused, other-refuses, whole-given}
-use Rattle.ciborium.proofs.Items.BareScalars.{unit-gives, unit-none, unit-other}
+use Rattle.ciborium.proofs.{Exits.passed_on, Items.BareScalars.{unit-gives, unit-none, unit-other}}
 use Rattle.ciborium_ll.specs.declared.header.Header.TheVariants as header
 use Rattle.ciborium.proofs.de.byte_source.source.ByteSourceSource.unit.Goals as goal
 
 pub returns-in_err-header-clause-takes : goal.returns-in_err-header-clause-takes
 returns-in_err-header-clause-takes g c =
-    let exit = err_from_is_err_and c.from_residual.result c.from_residual.ensures.1 in
-    rw (exit.1, exit.2) (head-refused c.in_err-header.ensures.reads c.in_err-header.ensures.denied)
+    rw (passed_on c.from_residual.result _ c.from_residual.ensures.1)
+    (head-refused c.in_err-header.ensures.reads c.in_err-header.ensures.denied)
 
 pub returns-then-is_null-clause-takes : goal.returns-then-is_null-clause-takes
 returns-then-is_null-clause-takes g c =

@@ -1,8 +1,7 @@
 use Rattle.std.proofs.Common.{rules, ◌+◌, ◌≤◌, length, None, Some, Ok, Err, refl, sym, ◌∙◌, subst}
-use Rattle.std.proofs.lemmas.Result.{err_from_is_err_and}
 use Rattle.ciborium_ll.{proofs.Decoders.{unread-count, unread-left}, specs.Decoding.{next_offset, left_of}}
 use Rattle.ciborium_value.specs.{Given.{given_value, outcome}, Sources.IsFaultOf, View.tree_of}
-use Rattle.ciborium.proofs.Containers.ByteItems.{refuses-denied, takes-denied, takes-given}
+use Rattle.ciborium.proofs.{Containers.ByteItems.{refuses-denied, takes-denied, takes-given}, Exits.passed_on}
 use Rattle.ciborium.proofs.Items.{FrontReads.failed-fault, TakenOnly.{takes-none, takes-only}, WholeValues.ahead-by}
 use Rattle.ciborium.proofs.Items.WholeValues.{known-read, portable-ahead, portable-reads, pushed-ahead, whole-faults}
 use Rattle.ciborium.{proofs.Items.WholeValues.{whole-reads, whole-end}, specs.inner.ByteSources.IsUnreadBy}
@@ -60,14 +59,13 @@ returns-in_ok-value-in-None-clause-takes g c =
 pub returns-in_err-value-in-None-portable_value-clause-takes :
     goal.returns-in_err-value-in-None-portable_value-clause-takes
 returns-in_err-value-in-None-portable_value-clause-takes g c =
-    let exit = err_from_is_err_and c.from_residual.result c.from_residual.ensures.1 in
     let d = c.args.self.now.decoder in
     let f = c.read_value.new.decoder in
     let pending = Some (c.in-Some.header, c.in-Some.offset) in
     let error = c.in_err-value-in-None-portable_value.field-0.0 in
     let refusal = c.in_err-value-in-None-portable_value.ensures in
     let same = c.push.ensures.unread in
-    rw (exit.1, exit.2) (record {
+    rw (passed_on c.from_residual.result _ c.from_residual.ensures.1) (record {
       ok = tt;
       took = tt;
       only = λ first t. takes-only g.A.Access.remaining c.push.new.self f _ c.read_value.ensures.same_reader
@@ -93,13 +91,12 @@ returns-in_err-value-in-None-portable_value-clause-takes g c =
 
 pub returns-in_err-value-in-None-clause-takes : goal.returns-in_err-value-in-None-clause-takes
 returns-in_err-value-in-None-clause-takes g c =
-    let exit = err_from_is_err_and c.from_residual-in_err-value-in-None.result
-    c.from_residual-in_err-value-in-None.ensures.1 in
     let d = c.args.self.now.decoder in
     let f = c.read_value-in-None.new.decoder in
     let error = c.in_err-value-in-None.field-0.0 in
     let refusal = c.in_err-value-in-None.ensures in
-    rw (exit.1, exit.2) (takes-denied _ _ (takes-only g.A.Access.remaining d f _
+    rw (passed_on c.from_residual-in_err-value-in-None.result _ c.from_residual-in_err-value-in-None.ensures.1)
+    (takes-denied _ _ (takes-only g.A.Access.remaining d f _
     c.read_value-in-None.ensures.same_reader refusal.value)
     (search rules) (λ b s z i end u sp e fits.
     let unread = subst (λ o. IsUnreadBy g.A.Access.remaining d o b) (sym c.take.ensures.value ∙ c.in-None.is) u in
