@@ -29,8 +29,6 @@ enters l levels around more e f = some-is _ (l ∷ around) more (ap (option_map 
 
 begun : (h : Header) (levels around more : List Level) → h ≢ header.Break → behind_item levels ≡ Some around →
     behind_head h levels ≡ Some more → more ≡ behind_begun h around
-begun (header.Positive n) levels around more other e f = some-is _ around more e f
-begun (header.Negative n) levels around more other e f = some-is _ around more e f
 begun (header.Bytes (Some n)) levels around more other e f = some-is _ around more (as-bytes levels around e ∙ e) f
 begun (header.Bytes None) levels around more other e f = enters level.ByteChunks levels around more e f
 begun (header.Text (Some n)) levels around more other e f = some-is _ around more (as-text levels around e ∙ e) f
@@ -40,9 +38,8 @@ begun (header.Array None) levels around more other e f = enters level.OpenItems 
 begun (header.Map (Some n)) levels around more other e f = enters (level.Items (n + n)) levels around more e f
 begun (header.Map None) levels around more other e f = enters level.OpenKeys levels around more e f
 begun (header.Tag n) levels around more other e f = enters (level.Items 1) levels around more e f
-begun (header.Simple n) levels around more other e f = some-is _ around more e f
-begun (header.Float size) levels around more other e f = some-is _ around more e f
 begun header.Break levels around more other e f = absurd (other refl)
+begun _ levels around more other e f = some-is _ around more e f
 
 -- a head that is no break was read where an item is due
 pub head-begun : (old new : ItemHeads) (head : ItemHead) (levels around : List Level) → levels_of old ≡ levels →
@@ -98,11 +95,8 @@ chunk-head string (header.Map None) around more other e = absurd
     (none-enters level.OpenKeys _ more (no-item-due string around) e)
 chunk-head string (header.Tag n) around more other e = absurd
     (none-enters (level.Items 1) _ more (no-item-due string around) e)
-chunk-head string (header.Positive n) around more other e = absurd (cc (e, no-item-due string around))
-chunk-head string (header.Negative n) around more other e = absurd (cc (e, no-item-due string around))
-chunk-head string (header.Simple n) around more other e = absurd (cc (e, no-item-due string around))
-chunk-head string (header.Float size) around more other e = absurd (cc (e, no-item-due string around))
 chunk-head string header.Break around more other e = absurd (other refl)
+chunk-head string _ around more other e = absurd (cc (e, no-item-due string around))
 
 pub chunk-read : (string : StringType) (old new : ItemHeads) (head : ItemHead) (around : List Level) →
     levels_of old ≡ chunk_level string ∷ around → head.header ≢ header.Break → HasRead new × IsHeadRead old new head →

@@ -80,13 +80,7 @@ first xs = get_or xs 0 0
 other-text : (v : Tree) (e : LineRefusal) → tree_text v ≡ refused_text e → ⊥
 unfolding first
 other-text v Hex same = let f : 111 ≡ 104 = ap first same in omega (arith, f)
-other-text v (Trailing n) same = let f : 111 ≡ 116 = ap first same in omega (arith, f)
-other-text v Io same = let f : 111 ≡ 105 = ap first same in omega (arith, f)
-other-text v (Syntax p) same = let f : 111 ≡ 115 = ap first same in omega (arith, f)
-other-text v (Semantic p kind) same = let f : 111 ≡ 115 = ap first same in omega (arith, f)
-other-text v Nesting same = let f : 111 ≡ 110 = ap first same in omega (arith, f)
-other-text v TooLong same = let f : 111 ≡ 116 = ap first same in omega (arith, f)
-other-text v Memory same = let f : 111 ≡ 109 = ap first same in omega (arith, f)
+other-text v e same = let f : 111 ≡ first (refused_text e) = ap first same in omega (arith, f)
 
 pub refused_means_nothing : RefusedMeansNothing
 refused_means_nothing spelling line limit e v m h means =

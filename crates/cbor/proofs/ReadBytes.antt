@@ -42,14 +42,8 @@ front-refused None answer e is_end spelling b limit left same h ends refuses =
 -- what refuses the front refuses the bytes
 front-refuses-all : (spelling : Spelling) (b : List ℕ) (limit : ℕ) (answer : LineRefusal) →
     IsFrontRefused spelling b limit answer → AreRefused spelling b limit answer
-front-refuses-all spelling b limit reasons.Hex h = h
 front-refuses-all spelling b limit (reasons.Trailing n) h = absurd {A = _} h
-front-refuses-all spelling b limit reasons.Io h = h
-front-refuses-all spelling b limit (reasons.Syntax p) h = h
-front-refuses-all spelling b limit (reasons.Semantic p k) h = h
-front-refuses-all spelling b limit reasons.Nesting h = h
-front-refuses-all spelling b limit reasons.TooLong h = h
-front-refuses-all spelling b limit Memory h = h
+front-refuses-all spelling b limit answer h = h
 
 -- an error of reading all of the bytes refuses what is at their front, where no bytes are refused behind it
 pub front-of-all : {E : Type 0} (e : Error E) (b : List ℕ) (limit : ℕ) →

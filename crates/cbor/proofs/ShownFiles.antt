@@ -39,10 +39,7 @@ known : (command : Command) (i : Input) (w : List ℕ) (all : Bool) (now : Optio
 known (Show showing limit) i w all now (lines, shows, e) = (_, e)
 known ShowExactly i w all now (lines, shows, e) = (_, e)
 known Dump i w all now (text, dump, e) = (_, e)
-known (Answer reading) i w all now h = absurd h
-known (Sort order) i w all now h = absurd h
-known (Encode limit) i w all now h = absurd h
-known (Tell topic) i w all now h = absurd h
+known command i w all now h = absurd h
 
 -- nothing is shown yet
 pub none-shown : (command : Command) (held : List ℕ → Option (List ℕ)) (inputs : List Input) (w : List ℕ)

@@ -10,17 +10,9 @@ use Rattle.cbor.specs.declared.reading.Reading.TheVariants as readings
 abbrev pub tells_devices : Command → Bool
 tells_devices (Answer (readings.Item spelling n)) = false
 tells_devices (Answer readings.Sequence) = false
-tells_devices (Answer (readings.Form order n)) = true
-tells_devices (Answer (readings.Notation layout n)) = true
-tells_devices (Answer readings.Dump) = true
-tells_devices (Answer readings.Exact) = true
-tells_devices (Answer (readings.Encode n)) = true
 tells_devices (Sort order) = false
-tells_devices (Show showing n) = true
-tells_devices ShowExactly = true
-tells_devices Dump = true
-tells_devices (Encode n) = true
 tells_devices (Tell topic) = false
+tells_devices _ = true
 
 -- the status that a fault ends a run with
 abbrev pub fault_status : Command → Fault → ℕ

@@ -68,18 +68,12 @@ command_words (Tell Version) = codes "--version" ∷ []
 -- its limit, where it takes one
 abbrev pub command_limit : Command → Option ℕ
 command_limit (Answer (readings.Item spelling n)) = Some n
-command_limit (Answer readings.Sequence) = None
 command_limit (Answer (readings.Form order n)) = Some n
 command_limit (Answer (readings.Notation layout n)) = Some n
-command_limit (Answer readings.Dump) = None
-command_limit (Answer readings.Exact) = None
 command_limit (Answer (readings.Encode n)) = Some n
-command_limit (Sort order) = None
 command_limit (Show showing n) = Some n
-command_limit ShowExactly = None
-command_limit Dump = None
 command_limit (Encode n) = Some n
-command_limit (Tell topic) = None
+command_limit _ = None
 
 -- the words are those for a command, and a limit behind them where it takes one
 abbrev pub AreWordsFor : List (List ℕ) → Command → Type 0

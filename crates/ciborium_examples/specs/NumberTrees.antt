@@ -26,14 +26,8 @@ abbrev mutual
   -- a number below 256, or an array of such trees
   pub is_number_tree : Tree → Bool
   is_number_tree (trees.integer (pos n)) = nat_lt n 256
-  is_number_tree (trees.integer (negsuc n)) = false
-  is_number_tree (trees.bytes b) = false
-  is_number_tree (trees.text b) = false
-  is_number_tree (trees.boolean b) = false
-  is_number_tree trees.null = false
-  is_number_tree (trees.tag t v) = false
   is_number_tree (trees.array vs) = are_number_trees vs
-  is_number_tree (trees.map ps) = false
+  is_number_tree _ = false
 
   pub are_number_trees : Trees → Bool
   are_number_trees trees.no_trees = true

@@ -22,17 +22,13 @@ abbrev IsMajorOf : ℕ → Header → Type 0
 IsMajorOf m (header.Positive n) = m ≡ 0
 IsMajorOf m (header.Negative n) = m ≡ 1
 IsMajorOf m (header.Bytes (Some n)) = m ≡ 2
-IsMajorOf m (header.Bytes None) = ⊥
 IsMajorOf m (header.Text (Some n)) = m ≡ 3
-IsMajorOf m (header.Text None) = ⊥
 IsMajorOf m (header.Array (Some n)) = m ≡ 4
-IsMajorOf m (header.Array None) = ⊥
 IsMajorOf m (header.Map (Some n)) = m ≡ 5
-IsMajorOf m (header.Map None) = ⊥
 IsMajorOf m (header.Tag n) = m ≡ 6
 IsMajorOf m (header.Simple n) = m ≡ 7
 IsMajorOf m (header.Float size) = m ≡ 7
-IsMajorOf m header.Break = ⊥
+IsMajorOf m _ = ⊥
 
 pub each-byte : (b : List ℕ) → AreBytes b → EachIsByte b
 each-byte [] h = tt
@@ -231,50 +227,28 @@ as-item : (m : ℕ) (head : Header) (levels more : List Level) → IsMajorOf m h
 as-item m (header.Positive n) levels more is e b t = (more, e)
 as-item m (header.Negative n) levels more is e b t = (more, e)
 as-item m (header.Bytes (Some n)) levels more is e b t = (more, b)
-as-item m (header.Bytes None) levels more is e b t = absurd is
 as-item m (header.Text (Some n)) levels more is e b t = (more, t)
-as-item m (header.Text None) levels more is e b t = absurd is
 as-item m (header.Array (Some n)) levels more is e b t = (Items n ∷ more, ap (option_map (λ rest. Items n ∷ rest)) e)
-as-item m (header.Array None) levels more is e b t = absurd is
 as-item m (header.Map (Some n)) levels more is e b t =
     (Items (n + n) ∷ more, ap (option_map (λ rest. Items (n + n) ∷ rest)) e)
-as-item m (header.Map None) levels more is e b t = absurd is
 as-item m (header.Tag n) levels more is e b t = (Items 1 ∷ more, ap (option_map (λ rest. Items 1 ∷ rest)) e)
 as-item m (header.Simple n) levels more is e b t = (more, e)
 as-item m (header.Float size) levels more is e b t = (more, e)
-as-item m header.Break levels more is e b t = absurd is
+as-item m _ levels more is e b t = absurd is
 
 as-bytes : (m : ℕ) (head : Header) (levels : List Level) → m ≡ 2 → IsMajorOf m head → Stands head (ByteChunks ∷ levels)
-as-bytes m (header.Positive n) levels e is = absurd (omega arith)
-as-bytes m (header.Negative n) levels e is = absurd (omega arith)
 as-bytes m (header.Bytes (Some n)) levels e is = (ByteChunks ∷ levels, refl)
-as-bytes m (header.Bytes None) levels e is = absurd is
-as-bytes m (header.Text (Some n)) levels e is = absurd (omega arith)
-as-bytes m (header.Text None) levels e is = absurd is
-as-bytes m (header.Array (Some n)) levels e is = absurd (omega arith)
-as-bytes m (header.Array None) levels e is = absurd is
-as-bytes m (header.Map (Some n)) levels e is = absurd (omega arith)
-as-bytes m (header.Map None) levels e is = absurd is
-as-bytes m (header.Tag n) levels e is = absurd (omega arith)
-as-bytes m (header.Simple n) levels e is = absurd (omega arith)
-as-bytes m (header.Float size) levels e is = absurd (omega arith)
-as-bytes m header.Break levels e is = absurd is
+as-bytes m (header.Text (Some n)) levels e is = absurd (omega (arith, e, is))
+as-bytes m (header.Array (Some n)) levels e is = absurd (omega (arith, e, is))
+as-bytes m (header.Map (Some n)) levels e is = absurd (omega (arith, e, is))
+as-bytes m head levels e is = absurd (omega (arith, e, is))
 
 as-text : (m : ℕ) (head : Header) (levels : List Level) → m ≡ 3 → IsMajorOf m head → Stands head (TextChunks ∷ levels)
-as-text m (header.Positive n) levels e is = absurd (omega arith)
-as-text m (header.Negative n) levels e is = absurd (omega arith)
-as-text m (header.Bytes (Some n)) levels e is = absurd (omega arith)
-as-text m (header.Bytes None) levels e is = absurd is
 as-text m (header.Text (Some n)) levels e is = (TextChunks ∷ levels, refl)
-as-text m (header.Text None) levels e is = absurd is
-as-text m (header.Array (Some n)) levels e is = absurd (omega arith)
-as-text m (header.Array None) levels e is = absurd is
-as-text m (header.Map (Some n)) levels e is = absurd (omega arith)
-as-text m (header.Map None) levels e is = absurd is
-as-text m (header.Tag n) levels e is = absurd (omega arith)
-as-text m (header.Simple n) levels e is = absurd (omega arith)
-as-text m (header.Float size) levels e is = absurd (omega arith)
-as-text m header.Break levels e is = absurd is
+as-text m (header.Bytes (Some n)) levels e is = absurd (omega (arith, e, is))
+as-text m (header.Array (Some n)) levels e is = absurd (omega (arith, e, is))
+as-text m (header.Map (Some n)) levels e is = absurd (omega (arith, e, is))
+as-text m head levels e is = absurd (omega (arith, e, is))
 
 stands : (m : ℕ) (head : Header) (levels : List Level) → AreUnfinished levels → IsMajorOf m head →
     ((major : ℕ) → chunk_major levels ≡ Some major → m ≡ major) → Stands head levels

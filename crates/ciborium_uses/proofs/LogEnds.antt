@@ -58,11 +58,7 @@ module _ {A : Type 0} (taken : Given A) (before : Option (List ℕ)) where
   cut-there : (e : Error IoError) (u : List ℕ) (p : ℕ) → IsEndError e →
       RefusesGiven {E = IoError} p (Some 256) taken (Some u) (Some []) (Err e) → BeginsNoItem u
   cut-there (Io x) u p end refused = λ i s left spelled split. refused u refl i s left spelled split
-  cut-there (Syntax q) u p end refused = absurd end
-  cut-there (Semantic q k) u p end refused = absurd end
-  cut-there RecursionLimitExceeded u p end refused = absurd end
-  cut-there Memory u p end refused = absurd end
-  cut-there TooLong u p end refused = absurd end
+  cut-there _ u p end refused = absurd end
 
   pub ends-cut : (mid after : Option (List ℕ)) (p q : ℕ) (e : Error IoError) → q ≡ p →
       HasReadTo mid p → RefusesGiven {E = IoError} p (Some 256) taken mid after (Err e) → TakesBeginning mid after →

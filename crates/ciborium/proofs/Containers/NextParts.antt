@@ -20,10 +20,7 @@ use Rattle.ciborium.specs.declared.de.byte_source.Left.TheVariants as left
 
 pub fits-past : (name : _) (b : List ℕ) (f : Rest) → IsRest name b f → FitsAhead name b (past f)
 fits-past name b (bottom m r) h = h
-fits-past name b (parts span is f) h = h
-fits-past name b (pairs span ps f) h = h
-fits-past name b (entry v span ps f) h = h
-fits-past name b (level_due f) h = h
+fits-past name b _ h = h
 
 pub none-past : (p : Option (Header × ℕ)) → p ≡ None → (f : Rest) → HasNoneBehind p (past f)
 none-past p e (entry v span ps f) = tt

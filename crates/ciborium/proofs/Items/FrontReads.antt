@@ -24,11 +24,8 @@ use Rattle.ciborium.specs.declared.de.error.Error.TheVariants as errors
 
 initial-only : (t u v w : Bool) (p : ℕ) (e : Refusal) → t ≡ false → v ≡ false → cond t (Some (syntax p))
     (cond u (Some too_long) (cond v (Some io) (cond w (Some too_long) None))) ≡ Some e → e ≡ too_long
-initial-only true u v w p e f g h = cc
-initial-only false true v w p e f g h = cc
-initial-only false false true w p e f g h = cc
 initial-only false false false true p e f g h = cc
-initial-only false false false false p e f g h = cc
+initial-only _ _ _ _ p e f g h = cc
 
 head-only : (t u : Bool) (r : Option Refusal) (p : ℕ) (e : Refusal) → u ≡ false → (r ≡ Some e → e ≡ too_long) →
     cond t (cond u (Some (syntax p)) r) (Some too_long) ≡ Some e → e ≡ too_long
@@ -130,9 +127,7 @@ granted-io (Some (x ∷ b)) needs = tt
 pub ended-ll : {E : Type 0} (can_fail : Bool) (left : Option (List ℕ)) (e : LlError E) → HasEnded can_fail left e →
     HasEndedBy can_fail left (from_ll e)
 ended-ll can_fail left (ll.Io e) h = h
-ended-ll can_fail left (ll.Syntax p) h = h
-ended-ll can_fail left ll.TooLong h = h
-ended-ll can_fail left ll.Memory h = h
+ended-ll can_fail left _ h = h
 
 pub failed-fault : {E : Type 0} (can_fail : Bool) (left : Option (List ℕ)) (e : Error E) → HasEndedBy can_fail left e →
     fault_of left e ≡ fault_of (left_at_failure can_fail left) e

@@ -152,15 +152,9 @@ flat-spells (pair k v ps) b h = (h.0, h.1 ++ h.2, h.3, (h.1, h.2, h.4, flat-spel
 
 -- the items of an array, or of a map its keys and values in order
 abbrev IsContainer : Item → Items → Type 0
-IsContainer (unsigned n) is = ⊥
-IsContainer (negative n) is = ⊥
-IsContainer (bytes o b) is = ⊥
-IsContainer (text o b) is = ⊥
 IsContainer (array o js) is = js ≡ is
 IsContainer (maps.map o ps) is = flat ps ≡ is
-IsContainer (tag t i) is = ⊥
-IsContainer (simple n) is = ⊥
-IsContainer (float raw) is = ⊥
+IsContainer _ is = ⊥
 
 -- so many are due, or as many as come before the break, and this ends them
 abbrev IsEnd : Option ℕ → ℕ → List ℕ → Type 0

@@ -123,12 +123,9 @@ pub whole-faults : {E : Type 0} (left : Option (List ℕ)) (e : Error E) (l p en
     IsFaultOf end (fault_of left e) (outcome (Some l) (given_value i))
 whole-faults left (errors.Io x) l p end b s z i sp f fits h = fault_outside end (io_fault left)
     (outcome (Some l) (given_value i)) (io-outside left end (λ none. value-faults (h none) i s z end sp f fits))
-whole-faults left (errors.Syntax q) l p end b s z i sp f fits h = value-faults h i s z end sp f fits
 whole-faults left (errors.Semantic None k) l p end b s z i sp f fits h = absurd h
-whole-faults left (errors.Semantic (Some q) k) l p end b s z i sp f fits h = value-faults h i s z end sp f fits
-whole-faults left errors.RecursionLimitExceeded l p end b s z i sp f fits h = value-faults h i s z end sp f fits
 whole-faults left errors.Memory l p end b s z i sp f fits h = tt
-whole-faults left errors.TooLong l p end b s z i sp f fits h = value-faults h i s z end sp f fits
+whole-faults left _ l p end b s z i sp f fits h = value-faults h i s z end sp f fits
 
 no-level : (l : Limit) (n : ℕ) → n ≡ 0 → IsWithin l n
 no-level None n flat = tt

@@ -72,24 +72,9 @@ run m (c ∷ ds) r (h, all) s =
 -- a digit of base16
 nibble : (d : ℕ) → d < 16 → (digit_of 16 (slice_index lower_digits d) ≡ Some d) ×
     (is_white (slice_index lower_digits d) ≡ false)
-nibble zero h = (refl, refl)
-nibble (suc zero) h = (refl, refl)
-nibble (suc (suc zero)) h = (refl, refl)
-nibble (suc (suc (suc zero))) h = (refl, refl)
-nibble (suc (suc (suc (suc zero)))) h = (refl, refl)
-nibble (suc (suc (suc (suc (suc zero))))) h = (refl, refl)
-nibble (suc (suc (suc (suc (suc (suc zero)))))) h = (refl, refl)
-nibble (suc (suc (suc (suc (suc (suc (suc zero))))))) h = (refl, refl)
-nibble (suc (suc (suc (suc (suc (suc (suc (suc zero)))))))) h = (refl, refl)
-nibble (suc (suc (suc (suc (suc (suc (suc (suc (suc zero))))))))) h = (refl, refl)
-nibble (suc (suc (suc (suc (suc (suc (suc (suc (suc (suc zero)))))))))) h = (refl, refl)
-nibble (suc (suc (suc (suc (suc (suc (suc (suc (suc (suc (suc zero))))))))))) h = (refl, refl)
-nibble (suc (suc (suc (suc (suc (suc (suc (suc (suc (suc (suc (suc zero)))))))))))) h = (refl, refl)
-nibble (suc (suc (suc (suc (suc (suc (suc (suc (suc (suc (suc (suc (suc zero))))))))))))) h = (refl, refl)
-nibble (suc (suc (suc (suc (suc (suc (suc (suc (suc (suc (suc (suc (suc (suc zero)))))))))))))) h = (refl, refl)
-nibble (suc (suc (suc (suc (suc (suc (suc (suc (suc (suc (suc (suc (suc (suc (suc zero))))))))))))))) h = (refl, refl)
-nibble (suc (suc (suc (suc (suc (suc (suc (suc (suc (suc (suc (suc (suc (suc (suc (suc n)))))))))))))))) h = absurd
-    (omega (arith, h))
+nibble (suc (suc (suc (suc (suc (suc (suc (suc (suc (suc (suc (suc (suc (suc (suc (suc n)))))))))))))))) h =
+    absurd (omega (arith, h))
+nibble d h = (refl, refl)
 
 -- ---- numbers
 

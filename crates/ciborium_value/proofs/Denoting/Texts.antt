@@ -32,34 +32,24 @@ some-of (Some m) t r n e = let p : (m, t) ≡ (n, r) = cc e in
 pub unit_none : (t : List ℕ) → unit_in t ≡ None → unit_at t ≡ None
 unit_none (a ∷ b ∷ c ∷ d ∷ t) e =
     ap (λ (u : Option ℕ). elim u [ None ↦ None | Some n ↦ after_unit n t ]) (none-of (unit_of a b c d) t e)
-unit_none [] e = refl
-unit_none (a ∷ []) e = refl
-unit_none (a ∷ b ∷ []) e = refl
 unit_none (a ∷ b ∷ c ∷ []) e = refl
+unit_none _ e = refl
 
 pub unit_some : (t r : List ℕ) (n : ℕ) → unit_in t ≡ Some (n, r) → unit_at t ≡ after_unit n r
 unit_some (a ∷ b ∷ c ∷ d ∷ t) r n e = let s = some-of (unit_of a b c d) t r n e in
     ap (λ (u : Option ℕ). elim u [ None ↦ None | Some m ↦ after_unit m t ]) s.0 ∙ ap (after_unit n) s.1
-unit_some [] r n e = absurd (cc e)
-unit_some (a ∷ []) r n e = absurd (cc e)
-unit_some (a ∷ b ∷ []) r n e = absurd (cc e)
-unit_some (a ∷ b ∷ c ∷ []) r n e = absurd (cc e)
+unit_some _ r n e = absurd (cc e)
 
 pub low_none : (high : ℕ) (t : List ℕ) → unit_in t ≡ None → low_unit_at high t ≡ None
 low_none high (a ∷ b ∷ c ∷ d ∷ t) e =
     ap (λ (u : Option ℕ). elim u [ None ↦ None | Some n ↦ after_low high n t ]) (none-of (unit_of a b c d) t e)
-low_none high [] e = refl
-low_none high (a ∷ []) e = refl
-low_none high (a ∷ b ∷ []) e = refl
 low_none high (a ∷ b ∷ c ∷ []) e = refl
+low_none high _ e = refl
 
 pub low_some : (high : ℕ) (t r : List ℕ) (n : ℕ) → unit_in t ≡ Some (n, r) → low_unit_at high t ≡ after_low high n r
 low_some high (a ∷ b ∷ c ∷ d ∷ t) r n e = let s = some-of (unit_of a b c d) t r n e in
     ap (λ (u : Option ℕ). elim u [ None ↦ None | Some m ↦ after_low high m t ]) s.0 ∙ ap (after_low high n) s.1
-low_some high [] r n e = absurd (cc e)
-low_some high (a ∷ []) r n e = absurd (cc e)
-low_some high (a ∷ b ∷ []) r n e = absurd (cc e)
-low_some high (a ∷ b ∷ c ∷ []) r n e = absurd (cc e)
+low_some high _ r n e = absurd (cc e)
 
 -- ---- the characters of units
 

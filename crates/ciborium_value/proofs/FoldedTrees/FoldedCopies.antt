@@ -30,10 +30,8 @@ more-meaning k (Some v) (Some vs) = refl
 
 pair-meaning : (k : Kind) (o p : Option Tree) (r : Option TreePairs) →
     pair_first (of_meaning k o) (of_meaning k p) (of_meaning k r) ≡ of_meaning k (tree_pairs_more o p r)
-pair-meaning k None p r = refl
-pair-meaning k (Some v) None r = refl
 pair-meaning k (Some v) (Some w) None = refl
-pair-meaning k (Some v) (Some w) (Some ps) = refl
+pair-meaning k _ _ _ = refl
 
 map-meaning : {A B : Type 0} (k : Kind) (f : A → B) (o : Option A) →
     outcome_map f (of_meaning k o) ≡ of_meaning k (option_map f o)
@@ -182,10 +180,8 @@ each_pair_folded (p ∷ ps) = one_before (both (folded (tree_of p.0)) (folded (t
 
 folded-pairs_more : (o p : Option Tree) (r : Option (List (Tree × Tree))) →
     tree_pairs_more o p (option_map tree_pairs_from r) ≡ option_map tree_pairs_from (one_before (both o p) r)
-folded-pairs_more None p r = refl
-folded-pairs_more (Some k) None r = refl
 folded-pairs_more (Some k) (Some v) None = refl
-folded-pairs_more (Some k) (Some v) (Some ps) = refl
+folded-pairs_more _ _ _ = refl
 
 folded-pairs : (ps : List (Value × Value)) → tree_pairs_folded (tree_pairs_of ps) ≡ option_map tree_pairs_from
     (each_pair_folded ps)

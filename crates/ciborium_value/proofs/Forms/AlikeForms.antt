@@ -54,15 +54,9 @@ among-exchanged o k v l w ps = sym (given-then (inserted o l w ps) (inserted o k
 put_among-exchanged : (o : KeyOrder) (a b c d : Option Tree) (ms : Option TreePairs) →
     put_among o a b (put_among o c d ms) ≡ put_among o c d (put_among o a b ms)
 put_among-exchanged o (Some k) (Some v) (Some l) (Some w) (Some ps) = among-exchanged o k v l w ps
-put_among-exchanged o (Some k) (Some v) (Some l) (Some w) None = refl
-put_among-exchanged o (Some k) (Some v) (Some l) None ms = refl
-put_among-exchanged o (Some k) (Some v) None d ms = refl
 put_among-exchanged o (Some k) None (Some l) (Some w) ms = refl
-put_among-exchanged o (Some k) None (Some l) None ms = refl
-put_among-exchanged o (Some k) None None d ms = refl
 put_among-exchanged o None b (Some l) (Some w) ms = refl
-put_among-exchanged o None b (Some l) None ms = refl
-put_among-exchanged o None b None d ms = refl
+put_among-exchanged o a b c d ms = refl
 
 -- two neighbours in each other's place have the same sorted forms
 sorted_forms-exchanged : (o : KeyOrder) (k v l w : Tree) (ps : TreePairs) →

@@ -187,11 +187,6 @@ bignum-formed o t v b u is e = formed_where_deterministic o u
 
 -- a form is a byte string only of that byte string
 pub form-short : (o : KeyOrder) (v w : Tree) → deterministic_form o v ≡ gives w → short_bytes w ≡ short_bytes v
-form-short o (integer z) w e = ap short_bytes (sym (one_given _ _ e))
-form-short o (bytes b) w e = ap short_bytes (sym (one_given _ _ e))
-form-short o (text b) w e = ap short_bytes (sym (one_given _ _ e))
-form-short o (boolean b) w e = ap short_bytes (sym (one_given _ _ e))
-form-short o null w e = ap short_bytes (sym (one_given _ _ e))
 form-short o (tag t v) w e = by (tree_folding_bytes t v) e
   where
     by : (m : Option (List ℕ)) → tag_form t m (deterministic_form o v) ≡ gives w → short_bytes w ≡ None
@@ -201,6 +196,7 @@ form-short o (array vs) w e = let (ws, is, given) = mapped_gives array (determin
     ap short_bytes (sym given)
 form-short o (map ps) w e = let (qs, is, given) = mapped_gives map (then_take (pair_forms o ps) (sorted_pairs o)) w e in
     ap short_bytes (sym given)
+form-short o _ w e = ap short_bytes (sym (one_given _ _ e))
 
 -- pairs in another order are formed where the pairs are
 pub reordered-formed : (o : KeyOrder) {ps qs : TreePairs} → AreReordered ps qs → PairsAreFormed o ps →
@@ -213,11 +209,6 @@ reordered-formed o (then_again r s) h = reordered-formed o s (reordered-formed o
 mutual
   -- the form of a tree is formed
   pub formed : (o : KeyOrder) (t u : Tree) → deterministic_form o t ≡ gives u → IsFormed o u
-  formed o (integer z) u e = subst (IsFormed o) (one_given _ _ e) tt
-  formed o (bytes b) u e = subst (IsFormed o) (one_given _ _ e) tt
-  formed o (text b) u e = subst (IsFormed o) (one_given _ _ e) tt
-  formed o (boolean b) u e = subst (IsFormed o) (one_given _ _ e) tt
-  formed o null u e = subst (IsFormed o) (one_given _ _ e) tt
   formed o (tag t v) u e = by (formed o v) (tree_folding_bytes t v) refl e
     where
       by : ((w : Tree) → deterministic_form o v ≡ gives w → IsFormed o w) → (m : Option (List ℕ)) →
@@ -238,6 +229,7 @@ mutual
         sorted-rises o rs qs sorted,
         reordered-formed o (sorted-reorders o rs qs sorted) (pairs_formed o ps rs each),
       )
+  formed o _ u e = subst (IsFormed o) (one_given _ _ e) tt
 
   -- so is each of a list
   all_formed : (o : KeyOrder) (vs us : Trees) → deterministic_forms o vs ≡ gives us → AreFormed o us

@@ -68,11 +68,6 @@ pair_forms-count o (tree_pair k v ps) us e =
 mutual
   -- the form of a tree that a program can hold is such a tree
   pub form_is_proper : FormIsProper
-  form_is_proper o (integer z) u h e = subst IsProperTree (one_given _ _ e) h
-  form_is_proper o (bytes b) u h e = subst IsProperTree (one_given _ _ e) h
-  form_is_proper o (text b) u h e = subst IsProperTree (one_given _ _ e) h
-  form_is_proper o (boolean b) u h e = subst IsProperTree (one_given _ _ e) h
-  form_is_proper o null u h e = subst IsProperTree (one_given _ _ e) h
   form_is_proper o (tag t v) u h e = by (λ w. form_is_proper o v w h.1) (tree_folding_bytes t v) refl e
     where
       by : ((w : Tree) → deterministic_form o v ≡ gives w → IsProperTree w) → (m : Option (List ℕ)) →
@@ -96,6 +91,7 @@ mutual
             h.0,
         reordered-proper order (pair_forms_are_proper o ps rs h.1 each),
       )
+  form_is_proper o _ u h e = subst IsProperTree (one_given _ _ e) h
 
   -- so is each of a list
   forms_are_proper : (o : KeyOrder) (vs us : Trees) → AreProperTrees vs → deterministic_forms o vs ≡ gives us →

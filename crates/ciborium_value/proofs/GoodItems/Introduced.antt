@@ -275,10 +275,8 @@ inside-begun spelling b p k l below r w head begins level fits = (
 )
   where
     none : (s : Spelling) (w : Due) → AreInOrder s (keys_among w [])
-    none any w = tt
     none (deterministic order) (items n) = tt
-    none (deterministic order) (keys n) = tt
-    none (deterministic order) (values n) = tt
+    none _ _ = tt
 
 -- one part more
 pub inside-more : (spelling : Spelling) (b : List ℕ) (p : ℕ) (l below : Limit) (vs : List Tree) (v : Tree)

@@ -92,11 +92,9 @@ no-break (x ∷ b) p h = by (ltb p greatest_offset) (eqb x 255)
 due-open : (now : Due) (b : List ℕ) (p : ℕ) → IsDue now b p → end_at now b p ≡ None
 due-open (items None) b p h = no-break b p h
 due-open (items (Some zero)) b p h = let never : ⊥ = omega (arith, h) in absurd never
-due-open (items (Some (suc n))) b p h = refl
 due-open (keys None) b p h = no-break b p h
 due-open (keys (Some zero)) b p h = let never : ⊥ = omega (arith, h) in absurd never
-due-open (keys (Some (suc n))) b p h = refl
-due-open (values n) b p h = refl
+due-open _ b p h = refl
 
 module _ (spelling : Spelling) where
   -- a head refuses by itself

@@ -152,20 +152,11 @@ alone_same (trees.integer (negsuc n)) (trees.integer (negsuc k)) h m a = ap (λ 
 alone_same (trees.boolean false) (trees.boolean false) h m a = refl
 alone_same (trees.boolean true) (trees.boolean true) h m a = refl
 alone_same trees.null trees.null h m a = refl
-alone_same (trees.bytes b) w h m a = absurd (omega (arith, h))
-alone_same (trees.text b) w h m a = absurd (omega (arith, h))
-alone_same (trees.tag t v) w h m a = absurd (omega (arith, h))
-alone_same (trees.array vs) w h m a = absurd (omega (arith, h))
-alone_same (trees.map ps) w h m a = absurd (omega (arith, h))
 alone_same (trees.boolean b) (trees.integer (pos n)) h m a = absurd (omega (arith, m))
-alone_same (trees.boolean b) (trees.integer (negsuc n)) h m a = absurd (omega (arith, m))
 alone_same trees.null (trees.integer (pos n)) h m a = absurd (omega (arith, m))
-alone_same trees.null (trees.integer (negsuc n)) h m a = absurd (omega (arith, m))
 alone_same (trees.boolean true) trees.null h m a = absurd (omega (arith, a))
-alone_same (trees.boolean false) trees.null h m a = absurd (omega (arith, a))
 alone_same trees.null (trees.boolean true) h m a = absurd (omega (arith, a))
-alone_same trees.null (trees.boolean false) h m a = absurd (omega (arith, a))
-alone_same v w h m a = absurd (omega (arith, m, a))
+alone_same v w h m a = absurd (omega (arith, h, m, a))
 
 -- equal heads, and nothing behind them
 pub alone_tied : (w u : Value) (o : Ordering) (b : Bool) → o ≡ head_order (tree_of w) (tree_of u) → b ≡ is_ne o →
