@@ -90,6 +90,19 @@ held-taken P false held (Some xs) after b size e drops (fits, item, is) =
       drops fits ∙ ap (λ (x : List ℕ). Some (drop size x)) whole,
     )
 
+-- an item that was copied, the bytes at the front of all that was left, was taken
+pub copied-taken : (P : List ℕ → Type 0) (b copied left item : List ℕ) (after : Option (List ℕ)) → b ≡ copied ++ left →
+    after ≡ Some left → item ≡ copied → AreItem copied → (AreItem item → P item) →
+    ((length item ≤ length b) × AreItem (take (length item) b) × P (take (length item) b)) ×
+    (after ≡ Some (drop (length item) b))
+copied-taken P b copied left item after whole behind same is holds =
+    let split : b ≡ item ++ left = whole ∙ ap (λ (x : List ℕ). x ++ left) (sym same) in
+    let front : item ≡ take (length item) b = sym (ap (take (length item)) split ∙ take_at item left _ refl) in
+    let here = subst AreItem (sym same) is in (
+      (omega (arith, ap length split, length-append item left), subst AreItem front here, subst P front (holds here)),
+      behind ∙ ap Some (sym (ap (drop (length item)) split ∙ drop_at item left _ refl)),
+    )
+
 -- a refusal is not one for memory where it is none with its offset counted so
 memory-behind : (p : ℕ) (e : LineRefusal) → wants_memory (refusal_behind p e) ≡ false → wants_memory e ≡ false
 memory-behind p Memory h = h
