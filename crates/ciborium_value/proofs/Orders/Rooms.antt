@@ -1,11 +1,9 @@
 -- Encodings that are taken from a room, part by part.
-use Rattle.std.proofs.Common.{◌≡◌, ℕ, suc, ◌+◌, ◌-◌, ◌<◌, ◌≤◌, List, [], ◌++◌, length, take, drop, get_or, Option, Some}
-use Rattle.std.{proofs.Common.{None, ap, ◌∙◌, length-append, arith}, specs.Option.SomeIff}
+use Rattle.std.proofs.Common.{◌≡◌, ℕ, ◌+◌, ◌-◌, ◌≤◌, [], length, Option, Some}
+use Rattle.std.{proofs.Common.{None, ap, ◌∙◌, arith}, specs.Option.SomeIff}
 use Rattle.ciborium_ll.specs.Head.{shortest_head}
-use Rattle.ciborium_value.proofs.Orders.Encodings.{encodings-around, pair_encodings-around}
 use Rattle.ciborium_value.{proofs.Orders.TreeEncodings.encoding-length, specs.{Encoding.encoding, Tree.Tree}}
-use Rattle.ciborium_value.specs.{View.tree_of, declared.tree.Value.Value, inner.EncodedLists.encodings}
-use Rattle.ciborium_value.specs.inner.{EncodedLists.pair_encodings, TreeHeads.{tree_major, argument_of, content_bytes}}
+use Rattle.ciborium_value.specs.inner.{TreeHeads.{tree_major, argument_of, content_bytes}}
 
 -- one part, and then another
 SomeIff-then : (result : Option ℕ) (room left one other both : ℕ) → both ≡ one + other → (one ≤ room) ×
@@ -45,29 +43,3 @@ module _ (v : Tree) (major argument head room : ℕ) (m : major ≡ tree_major v
       → SomeIff result (length (encoding v) ≤ room) (room - length (encoding v))
   spends_nothing result e over = exhausted result room (length (encoding v)) e
       (λ all. let whole = encoding-length v major argument head m n h in over (omega (arith, whole, all)))
-
--- ---- along lists
-
--- up to the next value there are no more bytes than in all
-pub encodings-next-length : (i : ℕ) (vs : List Value) (v : Value) → i < length vs → v ≡ get_or vs i v
-    → length (encodings (take i vs)) + length (encoding (tree_of v)) ≤ length (encodings vs)
-encodings-next-length i vs v h e =
-    let front = encodings (take i vs) in
-    let one = encoding (tree_of v) in
-    let rest = encodings (drop (suc i) vs) in
-    let whole = ap length (encodings-around i vs v h e) ∙ length-append front (one ++ rest) ∙
-    ap (λ n. length front + n) (length-append one rest) in omega (arith, whole)
-
--- up to the next pair there are no more bytes than in all
-pub pair_encodings-next-length : (i : ℕ) (ps : List (Value × Value)) (p : Value × Value) → i < length ps →
-    p ≡ get_or ps i p
-    → length (pair_encodings (take i ps)) + (length (encoding (tree_of p.0)) + length (encoding (tree_of p.1)))
-    ≤ length (pair_encodings ps)
-pair_encodings-next-length i ps p h e =
-    let front = pair_encodings (take i ps) in
-    let key = encoding (tree_of p.0) in
-    let mapped = encoding (tree_of p.1) in
-    let rest = pair_encodings (drop (suc i) ps) in
-    let whole = ap length (pair_encodings-around i ps p h e) ∙ length-append front (key ++ (mapped ++ rest)) ∙
-    ap (λ n. length front + n) (length-append key (mapped ++ rest)
-    ∙ ap (λ n. length key + n) (length-append mapped rest)) in omega (arith, whole)

@@ -1,6 +1,6 @@
 -- Two trees side by side: the first heads or payloads that differ decide as the encodings do, and trees that none tells
 -- apart are one.
-use Rattle.std.proofs.Common.{◌≡◌, ℕ, suc, ◌+◌, ◌^◌, ◌<◌, ◌≤◌, List, [], ◌∷◌, ◌++◌, length, take, drop, get_or, map}
+use Rattle.std.proofs.Common.{◌≡◌, ℕ, suc, ◌^◌, ◌<◌, ◌≤◌, List, [], ◌∷◌, ◌++◌, length, take, drop, map}
 use Rattle.std.proofs.Common.{Bool, true, false, ℤ, pos, negsuc, ◌⊎◌, inl, inr, Vec, vec_len, String, string_bytes, Box}
 use Rattle.std.proofs.Common.{Global, rules, refl, sym, ap, ◌∙◌, subst, lit<, arith, Ordering, Equal, nat_cmp}
 use Rattle.std.proofs.{Common.{append_assoc, append-nil}, lemmas.Cmp.{tied_itself, nat_cmp_total, nat_list_cmp_total}}
@@ -10,7 +10,7 @@ use Rattle.ciborium_ll.{proofs.HeadOrder.then_equal, specs.Head.shortest_head}
 use Rattle.ciborium_value.proofs.Orders.Encodings.{encodings-around, pair_encodings-around}
 use Rattle.ciborium_value.proofs.Orders.HeadsInOrder.{fronts_decide, heads_decide, one_length}
 use Rattle.ciborium_value.proofs.Orders.TreeEncodings.{encoding-is, argument_of-Array, argument_of-Map}
-use Rattle.ciborium_value.proofs.Trees.{Elements.one_more, Views.{tree_of-Integer, tree_of-Bytes, tree_of-Text}}
+use Rattle.ciborium_value.proofs.Trees.{Elements.{At, one_more}, Views.{tree_of-Integer, tree_of-Bytes, tree_of-Text}}
 use Rattle.ciborium_value.{proofs.Trees.Views.{tree_of-Bool, tree_of-Null}, specs.Encoding.{encoding, items_of}}
 use Rattle.ciborium_value.specs.{Encoding.{pairs_of, items_bytes, pairs_bytes}, Tree.Tree, View.{tree_of, trees_from}}
 use Rattle.ciborium_value.specs.{View.{tree_pairs_from, pair_trees}, declared.tree.Value.{Value, the_lemmas}}
@@ -39,9 +39,9 @@ behind_front (n ∷ a) x y = ap (λ o. ordering_then o (slice_cmp nat_cmp (a ++ 
 -- ---- what follows two lists that differ
 
 -- an order that decides leaves nothing to what follows
-pub nothing_left : (o p q : Ordering) (b : Bool) → b ≡ is_ne o → b ≡ true → ordering_then o p ≡ ordering_then o q
-nothing_left Equal p q b e f = absurd (let no : false ≡ true = sym e ∙ f in cc)
-nothing_left u p q b e f = refl
+nothing_left : (o p q : Ordering) → is_ne o ≡ true → ordering_then o p ≡ ordering_then o q
+nothing_left Equal p q ne = absurd cc
+nothing_left u p q ne = refl
 
 -- one list of bytes on both sides
 pub same_decides : (a b : List ℕ) → a ≡ b → Decides Equal a b
@@ -54,11 +54,10 @@ behind_decides o a b c d e h x y = ap (λ l. slice_cmp nat_cmp ((l ++ c) ++ x) (
     ap (slice_cmp nat_cmp (b ++ (c ++ x))) (append_assoc b d y) ∙ behind_front b (c ++ x) (d ++ y) ∙ h x y
 
 -- before any two lists, where it is not `Equal`
-pub before_decides : (o : Ordering) (b : Bool) (a c d e : List ℕ) → b ≡ is_ne o → b ≡ true → Decides o a c →
-    Decides o (a ++ d) (c ++ e)
-before_decides o b a c d e ne t h x y = ap (λ l. slice_cmp nat_cmp l ((c ++ e) ++ y)) (append_assoc a d x) ∙
+pub before_decides : (o : Ordering) (a c d e : List ℕ) → is_ne o ≡ true → Decides o a c → Decides o (a ++ d) (c ++ e)
+before_decides o a c d e ne h x y = ap (λ l. slice_cmp nat_cmp l ((c ++ e) ++ y)) (append_assoc a d x) ∙
     ap (slice_cmp nat_cmp (a ++ (d ++ x))) (append_assoc c e y) ∙
-    h (d ++ x) (e ++ y) ∙ nothing_left o (slice_cmp nat_cmp (d ++ x) (e ++ y)) (slice_cmp nat_cmp x y) b ne t
+    h (d ++ x) (e ++ y) ∙ nothing_left o (slice_cmp nat_cmp (d ++ x) (e ++ y)) (slice_cmp nat_cmp x y) ne
 
 -- two payloads of one length
 pub payloads_decide : (a b : List ℕ) (o : Ordering) → length a ≡ length b → o ≡ slice_cmp nat_cmp a b → Decides o a b
@@ -90,11 +89,11 @@ heads_first v w x y h k = ap (λ l. slice_cmp nat_cmp (l ++ x) (encoding w ++ y)
     (append_assoc (shortest_head (tree_major w) (argument_of w)) (content_bytes w) y) ∙ heads_decide (tree_major v)
     (tree_major w) (argument_of v) (argument_of w) (content_bytes v ++ x) (content_bytes w ++ y) h k
 
-pub different_heads : (v w : Tree) (o : Ordering) (b : Bool) → argument_of v < 2 ^ 64 →
-    argument_of w < 2 ^ 64 → o ≡ head_order v w → b ≡ is_ne o → b ≡ true → Decides o (encoding v) (encoding w)
-different_heads v w o b h k e ne t x y = heads_first v w x y h k ∙
+pub different_heads : (v w : Tree) (o : Ordering) → argument_of v < 2 ^ 64 → argument_of w < 2 ^ 64 →
+    o ≡ head_order v w → is_ne o ≡ true → Decides o (encoding v) (encoding w)
+different_heads v w o h k e ne x y = heads_first v w x y h k ∙
     ap (λ p. ordering_then p (slice_cmp nat_cmp (content_bytes v ++ x) (content_bytes w ++ y))) (sym e) ∙
-    nothing_left o (slice_cmp nat_cmp (content_bytes v ++ x) (content_bytes w ++ y)) (slice_cmp nat_cmp x y) b ne t
+    nothing_left o (slice_cmp nat_cmp (content_bytes v ++ x) (content_bytes w ++ y)) (slice_cmp nat_cmp x y) ne
 
 -- behind equal heads
 pub contents_decide : (v w : Tree) (o p : Ordering) (b : Bool) (c d : List ℕ) → argument_of v < 2 ^ 64 →
@@ -202,60 +201,56 @@ same_payload-Text w u s z is other e =
 -- ---- along lists
 
 -- one more value that is the same
-pub items_same : (i : ℕ) (vs ws : List Value) (v w : Value) → i < length vs →
-    v ≡ get_or vs i v → i < length ws → w ≡ get_or ws i w → map tree_of (take i vs) ≡ map tree_of (take i ws) →
-    tree_of v ≡ tree_of w → map tree_of (take (i + 1) vs) ≡ map tree_of (take (i + 1) ws)
-items_same i vs ws v w h e k f before same = ap (map tree_of) (one_more i vs v h e) ∙ map-append tree_of (take i vs)
+pub items_same : {i : ℕ} {vs ws : List Value} {v w : Value} → At i vs v → At i ws w →
+    map tree_of (take i vs) ≡ map tree_of (take i ws) → tree_of v ≡ tree_of w →
+    map tree_of (take (suc i) vs) ≡ map tree_of (take (suc i) ws)
+items_same {i} {vs} {ws} {v} {w} a b before same = ap (map tree_of) (one_more a) ∙ map-append tree_of (take i vs)
     (v ∷ []) ∙ ap (λ l. l ++ (tree_of v ∷ [])) before ∙ ap (λ t. map tree_of (take i ws) ++ (t ∷ [])) same ∙
-    sym (ap (map tree_of) (one_more i ws w k f) ∙ map-append tree_of (take i ws) (w ∷ []))
+    sym (ap (map tree_of) (one_more b) ∙ map-append tree_of (take i ws) (w ∷ []))
 
 -- behind values that are the same, two that differ decide
-pub items_differ : (i : ℕ) (vs ws : List Value) (v w : Value) (o : Ordering) (b : Bool) → i < length vs →
-    v ≡ get_or vs i v → i < length ws → w ≡ get_or ws i w
-    → map tree_of (take i vs) ≡ map tree_of (take i ws) → b ≡ is_ne o → b ≡ true →
+pub items_differ : {i : ℕ} {vs ws : List Value} {v w : Value} (o : Ordering) → At i vs v → At i ws w →
+    map tree_of (take i vs) ≡ map tree_of (take i ws) → is_ne o ≡ true →
     Decides o (encoding (tree_of v)) (encoding (tree_of w)) → Decides o (encodings vs) (encodings ws)
-items_differ i vs ws v w o b h e k f before ne t decides =
-    let whole = encodings-around i vs v h e in
-    let other = encodings-around i ws w k f in
+items_differ {i} {vs} {ws} {v} {w} o a b before ne decides =
+    let whole = encodings-around a in
+    let other = encodings-around b in
     rw (whole, other) (behind_decides o _ _ _ _ (ap (λ ts. items_bytes (items_of (trees_from ts))) before)
-    (before_decides o b (encoding (tree_of v)) (encoding (tree_of w)) (encodings (drop (suc i) vs))
-    (encodings (drop (suc i) ws)) ne t decides))
+    (before_decides o (encoding (tree_of v)) (encoding (tree_of w)) (encodings (drop (suc i) vs))
+    (encodings (drop (suc i) ws)) ne decides))
 
 -- one more pair that is the same
-pub pairs_same : (i : ℕ) (ps qs : List (Value × Value)) (p q : Value × Value) → i < length ps → p ≡ get_or ps i p →
-    i < length qs → q ≡ get_or qs i q
-    → map pair_trees (take i ps) ≡ map pair_trees (take i qs) → tree_of p.0 ≡ tree_of q.0 → tree_of p.1 ≡ tree_of q.1
-    → map pair_trees (take (i + 1) ps) ≡ map pair_trees (take (i + 1) qs)
-pairs_same i ps qs p q h e k f before keys values =
-    ap (map pair_trees) (one_more i ps p h e) ∙ map-append pair_trees (take i ps) (p ∷ [])
+pub pairs_same : {i : ℕ} {ps qs : List (Value × Value)} {p q : Value × Value} → At i ps p → At i qs q →
+    map pair_trees (take i ps) ≡ map pair_trees (take i qs) → tree_of p.0 ≡ tree_of q.0 → tree_of p.1 ≡ tree_of q.1 →
+    map pair_trees (take (suc i) ps) ≡ map pair_trees (take (suc i) qs)
+pairs_same {i} {ps} {qs} {p} {q} a b before keys values =
+    ap (map pair_trees) (one_more a) ∙ map-append pair_trees (take i ps) (p ∷ [])
     ∙ ap (λ l. l ++ (pair_trees p ∷ [])) before ∙ ap (λ t. map pair_trees (take i qs) ++ ((t, tree_of p.1) ∷ [])) keys
     ∙ ap (λ t. map pair_trees (take i qs) ++ ((tree_of q.0, t) ∷ [])) values
-    ∙ sym (ap (map pair_trees) (one_more i qs q k f) ∙ map-append pair_trees (take i qs) (q ∷ []))
+    ∙ sym (ap (map pair_trees) (one_more b) ∙ map-append pair_trees (take i qs) (q ∷ []))
 
 -- behind pairs that are the same, two keys that differ decide
-pub keys_differ : (i : ℕ) (ps qs : List (Value × Value)) (p q : Value × Value) (o : Ordering) (b : Bool) →
-    i < length ps → p ≡ get_or ps i p → i < length qs → q ≡ get_or qs i q
-    → map pair_trees (take i ps) ≡ map pair_trees (take i qs) → b ≡ is_ne o → b ≡ true →
+pub keys_differ : {i : ℕ} {ps qs : List (Value × Value)} {p q : Value × Value} (o : Ordering) → At i ps p → At i qs q →
+    map pair_trees (take i ps) ≡ map pair_trees (take i qs) → is_ne o ≡ true →
     Decides o (encoding (tree_of p.0)) (encoding (tree_of q.0)) → Decides o (pair_encodings ps) (pair_encodings qs)
-keys_differ i ps qs p q o b h e k f before ne t decides =
-    let whole = pair_encodings-around i ps p h e in
-    let other = pair_encodings-around i qs q k f in
+keys_differ {i} {ps} {qs} {p} {q} o a b before ne decides =
+    let whole = pair_encodings-around a in
+    let other = pair_encodings-around b in
     rw (whole, other) (behind_decides o _ _ _ _ (ap (λ ts. pairs_bytes (pairs_of (tree_pairs_from ts))) before)
-    (before_decides o b (encoding (tree_of p.0)) (encoding (tree_of q.0))
+    (before_decides o (encoding (tree_of p.0)) (encoding (tree_of q.0))
     (encoding (tree_of p.1) ++ pair_encodings (drop (suc i) ps))
-    (encoding (tree_of q.1) ++ pair_encodings (drop (suc i) qs)) ne t decides))
+    (encoding (tree_of q.1) ++ pair_encodings (drop (suc i) qs)) ne decides))
 
 -- or two values behind keys that are the same
-pub values_differ : (i : ℕ) (ps qs : List (Value × Value)) (p q : Value × Value) (o : Ordering) (b : Bool) →
-    i < length ps → p ≡ get_or ps i p → i < length qs → q ≡ get_or qs i q →
-    map pair_trees (take i ps) ≡ map pair_trees (take i qs) → tree_of p.0 ≡ tree_of q.0 → b ≡ is_ne o → b ≡ true →
+pub values_differ : {i : ℕ} {ps qs : List (Value × Value)} {p q : Value × Value} (o : Ordering) → At i ps p →
+    At i qs q → map pair_trees (take i ps) ≡ map pair_trees (take i qs) → tree_of p.0 ≡ tree_of q.0 → is_ne o ≡ true →
     Decides o (encoding (tree_of p.1)) (encoding (tree_of q.1)) → Decides o (pair_encodings ps) (pair_encodings qs)
-values_differ i ps qs p q o b h e k f before keys ne t decides =
-    let whole = pair_encodings-around i ps p h e in
-    let other = pair_encodings-around i qs q k f in
+values_differ {i} {ps} {qs} {p} {q} o a b before keys ne decides =
+    let whole = pair_encodings-around a in
+    let other = pair_encodings-around b in
     rw (whole, other) (behind_decides o _ _ _ _ (ap (λ ts. pairs_bytes (pairs_of (tree_pairs_from ts))) before)
-    (behind_decides o _ _ _ _ (ap encoding keys) (before_decides o b (encoding (tree_of p.1)) (encoding (tree_of q.1))
-    (pair_encodings (drop (suc i) ps)) (pair_encodings (drop (suc i) qs)) ne t decides)))
+    (behind_decides o _ _ _ _ (ap encoding keys) (before_decides o (encoding (tree_of p.1)) (encoding (tree_of q.1))
+    (pair_encodings (drop (suc i) ps)) (pair_encodings (drop (suc i) qs)) ne decides)))
 
 -- ---- lists that are the same up to beyond their ends
 

@@ -1,5 +1,5 @@
 -- The encoding of a tree as its head and what stands behind it.
-use Rattle.std.proofs.Common.{◌≡◌, ℕ, ◌+◌, ◌^◌, ◌<◌, List, [], ◌++◌, length, take, get_or, Bool, true, false, Vec}
+use Rattle.std.proofs.Common.{◌≡◌, ℕ, ◌+◌, ◌^◌, ◌<◌, List, [], ◌++◌, length, Bool, true, false, Vec}
 use Rattle.std.proofs.Common.{vec_len, String, string_bytes, Box, Global, ℤ, pos, negsuc, ◌⊎◌, inl, inr, refl, sym, ap}
 use Rattle.std.proofs.Common.{◌∙◌, arith, length-append, append-nil, Equal, nat_cmp}
 use Rattle.std.specs.{Cmp.Lexicographic.slice_cmp, FinMap.{nat_cmp-IsAntisymmetric, slice_cmp-IsAntisymmetric}}
@@ -12,7 +12,6 @@ use Rattle.ciborium_value.proofs.Trees.Views.{tree_of-Integer, tree_of-Bytes, tr
 use Rattle.ciborium_value.proofs.Trees.Views.{tree_of-Tag, tree_of-Array, tree_of-Map, trees_count-trees_of}
 use Rattle.ciborium_value.proofs.{Trees.Views.tree_pairs_count-tree_pairs_of, Writing.Written.written_spells}
 use Rattle.ciborium_value.proofs.Writing.Written.{IsProperItem-item_of, items_count-items_of, pairs_count-pairs_of}
-use Rattle.ciborium_value.proofs.Orders.Encodings.{encodings-more, pair_encodings-more}
 use Rattle.ciborium_value.specs.declared.tree.Value as value
 
 pub encoding-is : (v : Tree) → encoding v ≡ shortest_head (tree_major v) (argument_of v) ++ content_bytes v
@@ -86,24 +85,6 @@ content_bytes-Array w v is = ap (λ x. content_bytes (tree_of x)) is ∙ ap cont
 pub content_bytes-Map : (w : Value) (v : Vec (Value × Value) Global) → w ≡ value.Map v →
     content_bytes (tree_of w) ≡ pair_encodings v.items
 content_bytes-Map w v is = ap (λ x. content_bytes (tree_of x)) is ∙ ap content_bytes (tree_of-Map v)
-
--- ---- lengths along lists
-
--- one more value
-pub encodings-more-length : (i : ℕ) (vs : List Value) (v : Value) → i < length vs → v ≡ get_or vs i v
-    → length (encodings (take (i + 1) vs)) ≡ length (encodings (take i vs)) + length (encoding (tree_of v))
-encodings-more-length i vs v h e = ap length (encodings-more i vs v h e) ∙
-    length-append (encodings (take i vs)) (encoding (tree_of v))
-
--- one more pair
-pub pair_encodings-more-length : (i : ℕ) (ps : List (Value × Value)) (p : Value × Value) → i < length ps →
-    p ≡ get_or ps i p → length (pair_encodings (take (i + 1) ps)) ≡ length (pair_encodings (take i ps)) +
-    (length (encoding (tree_of p.0)) + length (encoding (tree_of p.1)))
-pair_encodings-more-length i ps p h e =
-    let key = encoding (tree_of p.0) in
-    let mapped = encoding (tree_of p.1) in
-    ap length (pair_encodings-more i ps p h e) ∙ length-append (pair_encodings (take i ps)) (key ++ mapped)
-    ∙ ap (λ n. length (pair_encodings (take i ps)) + n) (length-append key mapped)
 
 -- ---- counts
 

@@ -1,53 +1,36 @@
 -- Counts of nodes along lists, and of visits.
-use Rattle.std.proofs.Common.{◌≡◌, ℕ, ◌+◌, ◌*◌, ◌^◌, ◌<◌, ◌≤◌, List, [], ◌∷◌, ◌++◌, length, take, drop, get_or, Bool}
-use Rattle.std.proofs.Common.{true, false, refl, sym, ap, ◌∙◌, arith, Ordering, Equal, take-append-drop}
-use Rattle.std.specs.Ordering.{is_ne}
+use Rattle.std.proofs.Common.{◌≡◌, ℕ, suc, ◌+◌, ◌*◌, ◌^◌, ◌<◌, ◌≤◌, List, take, true, false, refl, sym, ap, ◌∙◌, arith}
+use Rattle.std.{proofs.Common.{Ordering, Equal}, specs.Ordering.is_ne}
 use Rattle.ciborium_value.specs.{Counts.{node_count, trees_node_count, tree_pairs_node_count}, Tree.Tree, View.tree_of}
 use Rattle.ciborium_value.specs.{View.{trees_of, tree_pairs_of}, declared.tree.Value.Value, Visits.AddsVisits}
 use Rattle.ciborium_value.specs.Visits.{AddsAtMost, both_node_count, saturated}
-use Rattle.ciborium_value.proofs.{Trees.Elements.one_more, Orders.SideBySide.tied}
+use Rattle.ciborium_value.proofs.Trees.Elements.{At, here, behind}
 
 -- ---- nodes
 
-pub trees_node_count-append : (vs ws : List Value) → trees_node_count (trees_of (vs ++ ws)) ≡ trees_node_count
-    (trees_of vs) + trees_node_count (trees_of ws)
-trees_node_count-append [] ws = omega arith
-trees_node_count-append (v ∷ vs) ws = let more = trees_node_count-append vs ws in omega (arith, more)
+-- one more value, and up to it there are no more than in all
+pub trees_node_count-more : {i : ℕ} {vs : List Value} {v : Value} → At i vs v →
+    trees_node_count (trees_of (take (suc i) vs)) ≡ trees_node_count (trees_of (take i vs)) + node_count (tree_of v)
+trees_node_count-more here = omega arith
+trees_node_count-more (behind a) = let more = trees_node_count-more a in omega (arith, more)
 
-pub tree_pairs_node_count-append : (ps qs : List (Value × Value))
-    → tree_pairs_node_count (tree_pairs_of (ps ++ qs)) ≡ tree_pairs_node_count (tree_pairs_of ps) +
-    tree_pairs_node_count (tree_pairs_of qs)
-tree_pairs_node_count-append [] qs = omega arith
-tree_pairs_node_count-append (p ∷ ps) qs = let more = tree_pairs_node_count-append ps qs in omega (arith, more)
+trees_node_count-next : {i : ℕ} {vs : List Value} {v : Value} → At i vs v →
+    trees_node_count (trees_of (take i vs)) + node_count (tree_of v) ≤ trees_node_count (trees_of vs)
+trees_node_count-next here = omega arith
+trees_node_count-next (behind a) = let next = trees_node_count-next a in omega (arith, next)
 
--- one more value
-pub trees_node_count-more : (i : ℕ) (vs : List Value) (v : Value) → i < length vs → v ≡ get_or vs i v
-    → trees_node_count (trees_of (take (i + 1) vs)) ≡ trees_node_count (trees_of (take i vs)) + node_count (tree_of v)
-trees_node_count-more i vs v h e =
-    let split = ap (λ l. trees_node_count (trees_of l)) (one_more i vs v h e) ∙
-    trees_node_count-append (take i vs) (v ∷ []) in omega (arith, split)
+-- one more pair, and up to it there are no more than in all
+pub tree_pairs_node_count-more : {i : ℕ} {ps : List (Value × Value)} {p : Value × Value} → At i ps p →
+    tree_pairs_node_count (tree_pairs_of (take (suc i) ps)) ≡ tree_pairs_node_count (tree_pairs_of (take i ps)) +
+    both_node_count (tree_of p.0) (tree_of p.1)
+tree_pairs_node_count-more here = omega arith
+tree_pairs_node_count-more (behind a) = let more = tree_pairs_node_count-more a in omega (arith, more)
 
--- one more pair
-pub tree_pairs_node_count-more : (i : ℕ) (ps : List (Value × Value)) (p : Value × Value) → i < length ps →
-    p ≡ get_or ps i p
-    → tree_pairs_node_count (tree_pairs_of (take (i + 1) ps)) ≡ tree_pairs_node_count (tree_pairs_of (take i ps)) +
-    (node_count (tree_of p.0) + node_count (tree_of p.1))
-tree_pairs_node_count-more i ps p h e =
-    let split = ap (λ l. tree_pairs_node_count (tree_pairs_of l)) (one_more i ps p h e) ∙
-    tree_pairs_node_count-append (take i ps) (p ∷ []) in omega (arith, split)
-
--- up to an index there are no more than in all
-trees_node_count-take : (i : ℕ) (vs : List Value) → trees_node_count (trees_of (take i vs)) ≤ trees_node_count
-    (trees_of vs)
-trees_node_count-take i vs =
-    let split = ap (λ l. trees_node_count (trees_of l)) (sym (take-append-drop i vs)) ∙
-    trees_node_count-append (take i vs) (drop i vs) in omega (arith, split)
-
-tree_pairs_node_count-take : (i : ℕ) (ps : List (Value × Value)) →
-    tree_pairs_node_count (tree_pairs_of (take i ps)) ≤ tree_pairs_node_count (tree_pairs_of ps)
-tree_pairs_node_count-take i ps =
-    let split = ap (λ l. tree_pairs_node_count (tree_pairs_of l)) (sym (take-append-drop i ps)) ∙
-    tree_pairs_node_count-append (take i ps) (drop i ps) in omega (arith, split)
+tree_pairs_node_count-next : {i : ℕ} {ps : List (Value × Value)} {p : Value × Value} → At i ps p →
+    tree_pairs_node_count (tree_pairs_of (take i ps)) + both_node_count (tree_of p.0) (tree_of p.1) ≤
+    tree_pairs_node_count (tree_pairs_of ps)
+tree_pairs_node_count-next here = omega arith
+tree_pairs_node_count-next (behind a) = let next = tree_pairs_node_count-next a in omega (arith, next)
 
 -- ---- visits
 
@@ -56,21 +39,16 @@ pub AddsVisits-then : (k m n old mid new : ℕ) → k ≡ m + n → AddsVisits m
 AddsVisits-then k m n old mid new sum h l = omega (arith, sum, h, l)
 
 -- an exact count, and then a walk of some of the rest that found a difference
-AddsAtMost-differ : (k m n : ℕ) (answer : Ordering) (b : Bool) (old mid new : ℕ) → old < 2 ^ 64 → m + n ≤ k →
-    b ≡ is_ne answer → b ≡ true → AddsVisits m old mid → AddsAtMost n answer mid new → AddsAtMost k answer old new
-AddsAtMost-differ k m n answer b old mid new fits sum ne t h l =
+AddsAtMost-differ : {n old mid new : ℕ} {o : Ordering} (k m : ℕ) → old < 2 ^ 64 → m + n ≤ k → is_ne o ≡ true →
+    AddsVisits m old mid → AddsAtMost n o mid new → AddsAtMost k o old new
+AddsAtMost-differ k m fits sum ne h l =
     let more = l.more in
     let most = l.most in
     record {
       more = omega (arith, fits, h, more);
       most = omega (arith, sum, h, most);
-      all = λ e. absurd (let no : true ≡ false = sym t ∙ ne ∙ ap is_ne e in cc);
+      all = λ e. absurd (let no : true ≡ false = sym ne ∙ ap is_ne e in cc);
     }
-
--- the walk of two values that found no difference
-AddsAtMost-same : (n : ℕ) (answer : Ordering) (b : Bool) (old new : ℕ) → b ≡ is_ne answer → b ≡ false →
-    AddsAtMost n answer old new → AddsVisits n old new
-AddsAtMost-same n answer b old new ne t l = l.all (tied answer b ne t)
 
 -- ---- along two lists
 
@@ -81,67 +59,52 @@ abbrev pairs_visits : ℕ → List (Value × Value) → List (Value × Value) �
 pairs_visits i ps qs = tree_pairs_node_count (tree_pairs_of (take i ps)) + tree_pairs_node_count
     (tree_pairs_of (take i qs))
 
-module _ (i : ℕ) (vs ws : List Value) (v w : Value) (h : i < length vs) (e : v ≡ get_or vs i v) (k : i < length ws)
-    (f : w ≡ get_or ws i w) where
-  pub items_visits-differ : (o : Ordering) (b : Bool) (old mid new : ℕ) → old < 2 ^ 64 → b ≡ is_ne o → b ≡ true →
+module _ {i : ℕ} {vs ws : List Value} {v w : Value} {o : Ordering} {mid new : ℕ} (old : ℕ) where
+  pub items_visits-differ : At i vs v → At i ws w → old < 2 ^ 64 → is_ne o ≡ true →
       AddsVisits (items_visits i vs ws) old mid → AddsAtMost (both_node_count (tree_of v) (tree_of w)) o mid new →
       AddsAtMost (trees_node_count (trees_of vs) + trees_node_count (trees_of ws)) o old new
-  items_visits-differ o b old mid new fits ne t before now =
-      let left = trees_node_count-more i vs v h e in
-      let right = trees_node_count-more i ws w k f in
-      let some = trees_node_count-take (i + 1) vs in
-      let others = trees_node_count-take (i + 1) ws in
-      AddsAtMost-differ _ _ _ o b old mid new fits (omega (arith, left, right, some, others)) ne t before now
+  items_visits-differ a b fits ne before now =
+      let left = trees_node_count-next a in
+      let right = trees_node_count-next b in
+      AddsAtMost-differ _ (items_visits i vs ws) fits (omega (arith, left, right)) ne before now
 
-  pub items_visits-same : (o : Ordering) (b : Bool) (old mid new : ℕ) → b ≡ is_ne o → b ≡ false →
-      AddsVisits (items_visits i vs ws) old mid
-      → AddsAtMost (both_node_count (tree_of v) (tree_of w)) o mid new → AddsVisits (items_visits (i + 1) vs ws) old new
-  items_visits-same o b old mid new ne t before now =
-      let left = trees_node_count-more i vs v h e in
-      let right = trees_node_count-more i ws w k f in
-      AddsVisits-then _ _ _ old mid new (omega (arith, left, right)) before (AddsAtMost-same _ o b mid new ne t now)
+  pub items_visits-same : At i vs v → At i ws w → o ≡ Equal → AddsVisits (items_visits i vs ws) old mid
+      → AddsAtMost (both_node_count (tree_of v) (tree_of w)) o mid new
+      → AddsVisits (items_visits (suc i) vs ws) old new
+  items_visits-same a b e before now =
+      let left = trees_node_count-more a in
+      let right = trees_node_count-more b in
+      AddsVisits-then _ (items_visits i vs ws) _ old mid new (omega (arith, left, right)) before (now.all e)
 
-module _ (i : ℕ) (ps qs : List (Value × Value)) (p q : Value × Value) (h : i < length ps) (e : p ≡ get_or ps i p)
-    (k : i < length qs) (f : q ≡ get_or qs i q) where
-  pub keys_visits-differ : (o : Ordering) (b : Bool) (old mid new : ℕ) → old < 2 ^ 64 → b ≡ is_ne o → b ≡ true →
+module _ {i : ℕ} {ps qs : List (Value × Value)} {p q : Value × Value} {o : Ordering} {mid new : ℕ} (old : ℕ) where
+  pub keys_visits-differ : At i ps p → At i qs q → old < 2 ^ 64 → is_ne o ≡ true →
       AddsVisits (pairs_visits i ps qs) old mid → AddsAtMost (both_node_count (tree_of p.0) (tree_of q.0)) o mid new →
       AddsAtMost (tree_pairs_node_count (tree_pairs_of ps) + tree_pairs_node_count (tree_pairs_of qs)) o old new
-  keys_visits-differ o b old mid new fits ne t before now =
-      let left = tree_pairs_node_count-more i ps p h e in
-      let right = tree_pairs_node_count-more i qs q k f in
-      let some = tree_pairs_node_count-take (i + 1) ps in
-      let others = tree_pairs_node_count-take (i + 1) qs in
-      AddsAtMost-differ _ _ _ o b old mid new fits (omega (arith, left, right, some, others)) ne t before now
+  keys_visits-differ a b fits ne before now =
+      let left = tree_pairs_node_count-next a in
+      let right = tree_pairs_node_count-next b in
+      AddsAtMost-differ _ (pairs_visits i ps qs) fits (omega (arith, left, right)) ne before now
 
-  keys_visits-same : (o : Ordering) (b : Bool) (old mid new : ℕ) → b ≡ is_ne o → b ≡ false →
-      AddsVisits (pairs_visits i ps qs) old mid → AddsAtMost (both_node_count (tree_of p.0) (tree_of q.0)) o mid new →
-      AddsVisits (pairs_visits i ps qs + both_node_count (tree_of p.0) (tree_of q.0)) old new
-  keys_visits-same o b old mid new ne t before now = AddsVisits-then _ _ _ old mid new refl before
-      (AddsAtMost-same _ o b mid new ne t now)
-
-  pub values_visits-differ : (n o : Ordering) (a b : Bool) (old mid key new : ℕ) → old < 2 ^ 64 → a ≡ is_ne n →
-      a ≡ false → b ≡ is_ne o → b ≡ true → AddsVisits (pairs_visits i ps qs) old mid
+  pub values_visits-differ : {n : Ordering} {key : ℕ} → At i ps p → At i qs q → old < 2 ^ 64 → n ≡ Equal →
+      is_ne o ≡ true → AddsVisits (pairs_visits i ps qs) old mid
       → AddsAtMost (both_node_count (tree_of p.0) (tree_of q.0)) n mid key →
       AddsAtMost (both_node_count (tree_of p.1) (tree_of q.1)) o key new
       → AddsAtMost (tree_pairs_node_count (tree_pairs_of ps) + tree_pairs_node_count (tree_pairs_of qs)) o old new
-  values_visits-differ n o a b old mid key new fits nk tk ne t before keys now =
-      let left = tree_pairs_node_count-more i ps p h e in
-      let right = tree_pairs_node_count-more i qs q k f in
-      let some = tree_pairs_node_count-take (i + 1) ps in
-      let others = tree_pairs_node_count-take (i + 1) qs in
-      AddsAtMost-differ _ _ _ o b old key new fits (omega (arith, left, right, some, others)) ne t
-      (keys_visits-same n a old mid key nk tk before keys) now
+  values_visits-differ a b fits e ne before keys now =
+      let left = tree_pairs_node_count-next a in
+      let right = tree_pairs_node_count-next b in
+      AddsAtMost-differ _ (pairs_visits i ps qs + both_node_count (tree_of p.0) (tree_of q.0)) fits
+      (omega (arith, left, right)) ne (AddsVisits-then _ _ _ old _ _ refl before (keys.all e)) now
 
-  pub pairs_visits-same : (n o : Ordering) (a b : Bool) (old mid key new : ℕ) → a ≡ is_ne n → a ≡ false → b ≡ is_ne o →
-      b ≡ false → AddsVisits (pairs_visits i ps qs) old mid
-      → AddsAtMost (both_node_count (tree_of p.0) (tree_of q.0)) n mid key →
+  pub pairs_visits-same : {n : Ordering} {key : ℕ} → At i ps p → At i qs q → n ≡ Equal → o ≡ Equal →
+      AddsVisits (pairs_visits i ps qs) old mid → AddsAtMost (both_node_count (tree_of p.0) (tree_of q.0)) n mid key →
       AddsAtMost (both_node_count (tree_of p.1) (tree_of q.1)) o key new
-      → AddsVisits (pairs_visits (i + 1) ps qs) old new
-  pairs_visits-same n o a b old mid key new nk tk ne t before keys now =
-      let left = tree_pairs_node_count-more i ps p h e in
-      let right = tree_pairs_node_count-more i qs q k f in
-      AddsVisits-then _ _ _ old key new (omega (arith, left, right))
-      (keys_visits-same n a old mid key nk tk before keys) (AddsAtMost-same _ o b key new ne t now)
+      → AddsVisits (pairs_visits (suc i) ps qs) old new
+  pairs_visits-same a b e f before keys now =
+      let left = tree_pairs_node_count-more a in
+      let right = tree_pairs_node_count-more b in
+      AddsVisits-then _ _ _ old _ new (omega (arith, left, right))
+      (AddsVisits-then _ _ _ old _ _ refl before (keys.all e)) (now.all f)
 
 -- ---- both walks
 

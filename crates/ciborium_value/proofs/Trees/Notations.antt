@@ -7,7 +7,8 @@ use Rattle.std.{proofs.lemmas.{Grind.flat_map-append, List.Elements.{All-head, A
 use Rattle.std.specs.{Fmt.{IsFlush, WritesInCalls, InlineText.{AppendsIfIntact, IsIntact, inline_text}}, List.FoldsTo}
 use Rattle.std.specs.{List.{concat, flat_map}, declared.fmt.{Formatter.Formatter, InlineText.InlineText}}
 use Rattle.hex.specs.Hex.{encode_lower, encode_with, lower_digits}
-use Rattle.ciborium_value.proofs.Trees.{Elements.one_more, Views.{trees_count-trees_of, tree_pairs_count-tree_pairs_of}}
+use Rattle.ciborium_value.proofs.Trees.{Elements.{At, here, behind, one_more}, Views.trees_count-trees_of}
+use Rattle.ciborium_value.proofs.Trees.Views.{tree_pairs_count-tree_pairs_of}
 use Rattle.ciborium_value.specs.Notation.{IsPlain, comma, one_level_more, escape, escaped, last_break, line_break}
 use Rattle.ciborium_value.specs.{Notation.{needs_escape, notation_on, notations_on, pair_notations_on}, Tree.Tree}
 use Rattle.ciborium_value.specs.{Tree.{array, map, tag}, View.{tree_of, trees_of, tree_pairs_of}}
@@ -107,13 +108,10 @@ lead_behind-comma : {A : Type 0} (lines : Option ℕ) (xs : List A) → lead_beh
 lead_behind-comma lines [] = refl
 lead_behind-comma lines (x ∷ xs) = refl
 
-pub lead_behind-more : {A : Type 0} (lines : Option ℕ) (lead : List ℕ) (i : ℕ) (xs : List A) (x : A) →
-    i < length xs → x ≡ get_or xs i x → lead_behind lines lead (take (i + 1) xs) ≡ comma lines
-lead_behind-more {A = A} lines lead i xs x h e = rw (one_more i xs x h e) (last (take i xs))
-  where
-    last : (l : List A) → lead_behind lines lead (l ++ (x ∷ [])) ≡ comma lines
-    last [] = refl
-    last (y ∷ l) = refl
+pub lead_behind-more : {A : Type 0} (lines : Option ℕ) (lead : List ℕ) {i : ℕ} {xs : List A} {x : A} → At i xs x →
+    lead_behind lines lead (take (suc i) xs) ≡ comma lines
+lead_behind-more lines lead here = refl
+lead_behind-more lines lead (behind a) = refl
 
 apart : (a b c : List ℕ) → a ++ (b ++ c) ≡ (a ++ b) ++ c
 apart a b c = sym (append_assoc a b c)
@@ -134,10 +132,10 @@ notations_on-append lines lead (x ∷ xs) v =
     ∙ apart lead _ _
 
 -- one more item
-pub notations_on-more : (lines : Option ℕ) (i : ℕ) (vs : List Value) (v : Value) → i < length vs →
-    v ≡ get_or vs i v → notations_on lines [] (trees_of (take i vs)) ++ (lead_behind lines [] (take i vs) ++
-    (line_break lines ++ notation_on lines (tree_of v))) ≡ notations_on lines [] (trees_of (take (i + 1) vs))
-notations_on-more lines i vs v h e = rw (one_more i vs v h e) (sym (notations_on-append lines [] (take i vs) v))
+pub notations_on-more : (lines : Option ℕ) {i : ℕ} {vs : List Value} {v : Value} → At i vs v →
+    notations_on lines [] (trees_of (take i vs)) ++ (lead_behind lines [] (take i vs) ++
+    (line_break lines ++ notation_on lines (tree_of v))) ≡ notations_on lines [] (trees_of (take (suc i) vs))
+notations_on-more lines {i} {vs} {v} a = rw (one_more a) (sym (notations_on-append lines [] (take i vs) v))
 
 pair_notations_on-append : (lines : Option ℕ) (lead : List ℕ) (ps : List (Value × Value)) (p : Value × Value) →
     pair_notations_on lines lead (tree_pairs_of (ps ++ (p ∷ []))) ≡ pair_notations_on lines lead (tree_pairs_of ps) ++
@@ -160,13 +158,11 @@ pair_notations_on-append lines lead (x ∷ xs) p =
     ∙ apart lead _ _
 
 -- one more pair
-pub pair_notations_on-more : (lines : Option ℕ) (i : ℕ) (ps : List (Value × Value)) (p : Value × Value) →
-    i < length ps → p ≡ get_or ps i p →
+pub pair_notations_on-more : (lines : Option ℕ) {i : ℕ} {ps : List (Value × Value)} {p : Value × Value} → At i ps p →
     pair_notations_on lines [] (tree_pairs_of (take i ps)) ++ (lead_behind lines [] (take i ps) ++ (line_break lines ++
     (notation_on lines (tree_of p.0) ++ (codes ": " ++ notation_on lines (tree_of p.1)))))
-    ≡ pair_notations_on lines [] (tree_pairs_of (take (i + 1) ps))
-pair_notations_on-more lines i ps p h e = rw (one_more i ps p h e)
-    (sym (pair_notations_on-append lines [] (take i ps) p))
+    ≡ pair_notations_on lines [] (tree_pairs_of (take (suc i) ps))
+pair_notations_on-more lines {i} {ps} {p} a = rw (one_more a) (sym (pair_notations_on-append lines [] (take i ps) p))
 
 -- ---- trees
 

@@ -1,4 +1,4 @@
-use Rattle.std.proofs.Common.{◌≡◌, ◌<◌, ◌≤◌, List, ℕ, length, get_or, rules, refl, sym, ap, ◌∙◌, subst, arith}
+use Rattle.std.proofs.Common.{◌≡◌, ◌<◌, ◌≤◌, List, ℕ, length, get_or, rules, refl, sym, ap, ◌∙◌, subst, arith, add-one}
 use Rattle.ciborium_value.specs.{Encoding.encoding, declared.tree.Value.the_lemmas}
 use Rattle.ciborium_value.proofs.Orders.VisitCounts.{items_visits-differ, items_visits-same, keys_visits-differ}
 use Rattle.ciborium_value.proofs.Orders.VisitCounts.{values_visits-differ, pairs_visits-same}
@@ -9,20 +9,20 @@ use Rattle.ciborium_value.proofs.Orders.SideBySide.{values_differ, pairs_same, p
 use Rattle.ciborium_value.proofs.Orders.TreeEncodings.{content_bytes-Bytes, content_bytes-Text, content_bytes-Tag}
 use Rattle.ciborium_value.proofs.Orders.TreeEncodings.{content_bytes-Array, content_bytes-Map, argument_of-Bytes}
 use Rattle.ciborium_value.proofs.Orders.TreeEncodings.{argument_of-Text}
+use Rattle.ciborium_value.proofs.Trees.Elements.{At, at}
 use Rattle.ciborium_value.proofs.canonical.+compare.Goals as goal
 
 -- a walk over the left list stands inside both
-stands : {A : Type 0} (i : ℕ) (start left right : List A) (x : A) (m n : ℕ) → start ≡ left → x ≡ get_or start i x →
-    i < length start → m ≡ n → m ≡ length left → n ≡ length right →
-    (x ≡ get_or left i x) × (i < length left) × (i < length right)
-stands i start left right x m n same is less as_many first second =
-    let within : i < length left = subst (λ l. i < length l) same less in
-    (subst (λ l. x ≡ get_or l i x) same is, within, omega (arith, within, as_many, first, second))
+both : {A : Type 0} {i m n : ℕ} {start left right : List A} {x y : A} → start ≡ left → x ≡ get_or start i x →
+    i < length start → m ≡ n → m ≡ length left → n ≡ length right → y ≡ get_or right i y → At i left x × At i right y
+both {i = i} {left = left} same is less as_many first second other =
+    let within : i < length left = rw same at less in
+    (at within (rw same at is), at (omega (arith, within, as_many, first, second)) other)
 
 pub compare-returns-then-is_ne-clause-decides : goal.compare-returns-then-is_ne-clause-decides
 compare-returns-then-is_ne-clause-decides t c =
-    different_heads _ _ _ _ c.compare_heads-order.ensures.left_fits c.compare_heads-order.ensures.right_fits
-    c.compare_heads-order.ensures.order c.is_ne.ensures c.if-is_ne.true
+    different_heads _ _ _ c.compare_heads-order.ensures.left_fits c.compare_heads-order.ensures.right_fits
+    c.compare_heads-order.ensures.order (sym c.is_ne.ensures ∙ c.if-is_ne.true)
 
 pub compare-compare_items-requires : goal.compare-compare_items-requires
 compare-compare_items-requires t c =
@@ -94,30 +94,26 @@ compare-returns-in_default-6-clause-decides t c =
 
 pub compare_items-returns-then-is_ne-clause-decides : goal.compare_items-returns-then-is_ne-clause-decides
 compare_items-returns-then-is_ne-clause-decides t c =
-    let i = c.loop-index.index in
-    let (item, within, other_within) = stands i _ _ _ _ _ _ c.deref-item-items.ensures.value c.item-item.is
-    c.loop-index-test.true c.requires.as_many c.args.left.now.ok.0 c.args.right.now.ok.0 in
-    items_differ i _ _ _ _ _ _ within item other_within c.index.ensures c.loop-index.invariant.same c.is_ne.ensures
-    c.if-is_ne.true c.compare-order.ensures.decides
+    let (a, b) = both c.deref-item-items.ensures.value c.item-item.is c.loop-index-test.true c.requires.as_many
+    c.args.left.now.ok.0 c.args.right.now.ok.0 c.index.ensures in
+    items_differ _ a b c.loop-index.invariant.same (sym c.is_ne.ensures ∙ c.if-is_ne.true)
+    c.compare-order.ensures.decides
 
 pub compare_items-returns-then-is_ne-clause-visits : goal.compare_items-returns-then-is_ne-clause-visits
 compare_items-returns-then-is_ne-clause-visits t c =
-    let i = c.loop-index.index in
-    let (item, within, other_within) = stands i _ _ _ _ _ _ c.deref-item-items.ensures.value c.item-item.is
-    c.loop-index-test.true c.requires.as_many c.args.left.now.ok.0 c.args.right.now.ok.0 in
-    items_visits-differ i _ _ _ _ within item other_within c.index.ensures _ _ _ _ _ c.args.visits.now.in_range
-    c.is_ne.ensures c.if-is_ne.true c.loop-index.invariant.visits c.compare-order.ensures.visits
+    let (a, b) = both c.deref-item-items.ensures.value c.item-item.is c.loop-index-test.true c.requires.as_many
+    c.args.left.now.ok.0 c.args.right.now.ok.0 c.index.ensures in
+    items_visits-differ _ a b c.args.visits.now.in_range (sym c.is_ne.ensures ∙ c.if-is_ne.true)
+    c.loop-index.invariant.visits c.compare-order.ensures.visits
 
 pub compare_items-loop-index-preserved : goal.compare_items-loop-index-preserved
 compare_items-loop-index-preserved t c =
-    let i = c.loop-index.index in
-    let (item, within, other_within) = stands i _ _ _ _ _ _ c.deref-item-items.ensures.value c.item-item.is
-    c.loop-index-test.true c.requires.as_many c.args.left.now.ok.0 c.args.right.now.ok.0 in
+    let (a, b) = both c.deref-item-items.ensures.value c.item-item.is c.loop-index-test.true c.requires.as_many
+    c.args.left.now.ok.0 c.args.right.now.ok.0 c.index.ensures in
+    let tie = tied _ _ c.is_ne.ensures c.if-is_ne.false in
     record {
-      same = items_same i _ _ _ _ within item other_within c.index.ensures c.loop-index.invariant.same
-          (c.compare-order.ensures.equal (tied _ _ c.is_ne.ensures c.if-is_ne.false));
-      visits = items_visits-same i _ _ _ _ within item other_within c.index.ensures _ _ _ _ _ c.is_ne.ensures
-          c.if-is_ne.false c.loop-index.invariant.visits c.compare-order.ensures.visits;
+      same = rw add-one (items_same a b c.loop-index.invariant.same (c.compare-order.ensures.equal tie));
+      visits = rw add-one (items_visits-same _ a b tie c.loop-index.invariant.visits c.compare-order.ensures.visits);
     }
 
 pub compare_items-returns-clause-decides : goal.compare_items-returns-clause-decides
@@ -130,50 +126,44 @@ compare_items-returns-clause-decides t c =
 
 pub compare_pairs-returns-then-is_ne-clause-decides : goal.compare_pairs-returns-then-is_ne-clause-decides
 compare_pairs-returns-then-is_ne-clause-decides t c =
-    let i = c.loop-index.index in
-    let (item, within, other_within) = stands i _ _ _ _ _ _ c.deref-pair-items.ensures.value c.pair-item.is
-    c.loop-index-test.true c.requires.as_many c.args.left.now.ok.0 c.args.right.now.ok.0 in
-    keys_differ i _ _ _ _ _ _ within item other_within c.index-other.ensures c.loop-index.invariant.same c.is_ne.ensures
-    c.if-is_ne.true c.compare-keys.ensures.decides
+    let (a, b) = both c.deref-pair-items.ensures.value c.pair-item.is c.loop-index-test.true c.requires.as_many
+    c.args.left.now.ok.0 c.args.right.now.ok.0 c.index-other.ensures in
+    keys_differ _ a b c.loop-index.invariant.same (sym c.is_ne.ensures ∙ c.if-is_ne.true) c.compare-keys.ensures.decides
 
 pub compare_pairs-returns-then-is_ne-clause-visits : goal.compare_pairs-returns-then-is_ne-clause-visits
 compare_pairs-returns-then-is_ne-clause-visits t c =
-    let i = c.loop-index.index in
-    let (item, within, other_within) = stands i _ _ _ _ _ _ c.deref-pair-items.ensures.value c.pair-item.is
-    c.loop-index-test.true c.requires.as_many c.args.left.now.ok.0 c.args.right.now.ok.0 in
-    keys_visits-differ i _ _ _ _ within item other_within c.index-other.ensures _ _ _ _ _ c.args.visits.now.in_range
-    c.is_ne.ensures c.if-is_ne.true c.loop-index.invariant.visits c.compare-keys.ensures.visits
+    let (a, b) = both c.deref-pair-items.ensures.value c.pair-item.is c.loop-index-test.true c.requires.as_many
+    c.args.left.now.ok.0 c.args.right.now.ok.0 c.index-other.ensures in
+    keys_visits-differ _ a b c.args.visits.now.in_range (sym c.is_ne.ensures ∙ c.if-is_ne.true)
+    c.loop-index.invariant.visits c.compare-keys.ensures.visits
 
 pub compare_pairs-returns-then-is_ne-2-clause-decides : goal.compare_pairs-returns-then-is_ne-2-clause-decides
 compare_pairs-returns-then-is_ne-2-clause-decides t c =
-    let i = c.loop-index.index in
-    let (item, within, other_within) = stands i _ _ _ _ _ _ c.deref-pair-items.ensures.value c.pair-item.is
-    c.loop-index-test.true c.requires.as_many c.args.left.now.ok.0 c.args.right.now.ok.0 in
-    values_differ i _ _ _ _ _ _ within item other_within c.index-other.ensures c.loop-index.invariant.same
+    let (a, b) = both c.deref-pair-items.ensures.value c.pair-item.is c.loop-index-test.true c.requires.as_many
+    c.args.left.now.ok.0 c.args.right.now.ok.0 c.index-other.ensures in
+    values_differ _ a b c.loop-index.invariant.same
     (c.compare-keys.ensures.equal (tied _ _ c.is_ne.ensures c.if-is_ne.false))
-    c.is_ne-in-loop-index.ensures c.if-is_ne-2.true c.compare-values.ensures.decides
+    (sym c.is_ne-in-loop-index.ensures ∙ c.if-is_ne-2.true) c.compare-values.ensures.decides
 
 pub compare_pairs-returns-then-is_ne-2-clause-visits : goal.compare_pairs-returns-then-is_ne-2-clause-visits
 compare_pairs-returns-then-is_ne-2-clause-visits t c =
-    let i = c.loop-index.index in
-    let (item, within, other_within) = stands i _ _ _ _ _ _ c.deref-pair-items.ensures.value c.pair-item.is
-    c.loop-index-test.true c.requires.as_many c.args.left.now.ok.0 c.args.right.now.ok.0 in
-    values_visits-differ i _ _ _ _ within item other_within c.index-other.ensures _ _ _ _ _ _ _ _
-    c.args.visits.now.in_range c.is_ne.ensures c.if-is_ne.false c.is_ne-in-loop-index.ensures c.if-is_ne-2.true
-    c.loop-index.invariant.visits c.compare-keys.ensures.visits c.compare-values.ensures.visits
+    let (a, b) = both c.deref-pair-items.ensures.value c.pair-item.is c.loop-index-test.true c.requires.as_many
+    c.args.left.now.ok.0 c.args.right.now.ok.0 c.index-other.ensures in
+    values_visits-differ _ a b c.args.visits.now.in_range (tied _ _ c.is_ne.ensures c.if-is_ne.false)
+    (sym c.is_ne-in-loop-index.ensures ∙ c.if-is_ne-2.true) c.loop-index.invariant.visits
+    c.compare-keys.ensures.visits c.compare-values.ensures.visits
 
 pub compare_pairs-loop-index-preserved : goal.compare_pairs-loop-index-preserved
 compare_pairs-loop-index-preserved t c =
-    let i = c.loop-index.index in
-    let (item, within, other_within) = stands i _ _ _ _ _ _ c.deref-pair-items.ensures.value c.pair-item.is
-    c.loop-index-test.true c.requires.as_many c.args.left.now.ok.0 c.args.right.now.ok.0 in
+    let (a, b) = both c.deref-pair-items.ensures.value c.pair-item.is c.loop-index-test.true c.requires.as_many
+    c.args.left.now.ok.0 c.args.right.now.ok.0 c.index-other.ensures in
+    let keys = tied _ _ c.is_ne.ensures c.if-is_ne.false in
+    let values = tied _ _ c.is_ne-in-loop-index.ensures c.if-is_ne-2.false in
     record {
-      same = pairs_same i _ _ _ _ within item other_within c.index-other.ensures c.loop-index.invariant.same
-          (c.compare-keys.ensures.equal (tied _ _ c.is_ne.ensures c.if-is_ne.false))
-          (c.compare-values.ensures.equal (tied _ _ c.is_ne-in-loop-index.ensures c.if-is_ne-2.false));
-      visits = pairs_visits-same i _ _ _ _ within item other_within c.index-other.ensures _ _ _ _ _ _ _ _
-          c.is_ne.ensures c.if-is_ne.false c.is_ne-in-loop-index.ensures c.if-is_ne-2.false
-          c.loop-index.invariant.visits c.compare-keys.ensures.visits c.compare-values.ensures.visits;
+      same = rw add-one (pairs_same a b c.loop-index.invariant.same (c.compare-keys.ensures.equal keys)
+          (c.compare-values.ensures.equal values));
+      visits = rw add-one (pairs_visits-same _ a b keys values c.loop-index.invariant.visits
+          c.compare-keys.ensures.visits c.compare-values.ensures.visits);
     }
 
 pub compare_pairs-returns-clause-decides : goal.compare_pairs-returns-clause-decides

@@ -1,7 +1,8 @@
-use Rattle.std.proofs.Common.{length, refl, sym, ap, ◌∙◌, arith}
+use Rattle.std.proofs.Common.{length, add-one, refl, sym, ap, ◌∙◌, arith}
 use Rattle.ciborium_value.proofs.Orders.TreeEncodings.{encoded_size-is, encoded_size-head, content_bytes-none}
-use Rattle.ciborium_value.proofs.Orders.TreeEncodings.{content_bytes-Array, content_bytes-Map, encodings-more-length}
-use Rattle.ciborium_value.proofs.Orders.{TreeEncodings.pair_encodings-more-length, VisitCounts.AddsVisits-then}
+use Rattle.ciborium_value.proofs.Orders.TreeEncodings.{content_bytes-Array, content_bytes-Map}
+use Rattle.ciborium_value.proofs.Orders.{Encodings.{encodings-more-length, pair_encodings-more-length}}
+use Rattle.ciborium_value.proofs.{Orders.VisitCounts.AddsVisits-then, Trees.Elements.at}
 use Rattle.ciborium_value.proofs.Orders.VisitCounts.{trees_node_count-more, tree_pairs_node_count-more}
 use Rattle.ciborium_value.proofs.Trees.ProperValues.{AreProperTrees-more, AreProperTreePairs-more, is_proper-Bytes}
 use Rattle.ciborium_value.{proofs.Trees.ProperValues.is_proper-Text, specs.Visits.saturated}
@@ -39,21 +40,20 @@ measure-returns-in-Map-clause-size t c =
 
 pub measure_items-loop-item-preserved : goal.measure_items-loop-item-preserved
 measure_items-loop-item-preserved t c =
-    let i = c.loop-item.item-index in
-    let longer = encodings-more-length i _ _ c.loop-item-test.true c.item-item.is in
-    record {
+    let a = at c.loop-item-test.true c.item-item.is in
+    let longer = encodings-more-length a in
+    rw add-one (record {
       size = omega (arith, longer, c.loop-item.invariant.size, c.measure.ensures.size, c.saturating_add-size.ensures);
-      visits = AddsVisits-then _ _ _ _ _ _ (trees_node_count-more i _ _ c.loop-item-test.true c.item-item.is)
-          c.loop-item.invariant.visits c.measure.ensures.visits;
-      proper = AreProperTrees-more i _ _ c.loop-item-test.true c.item-item.is c.loop-item.invariant.proper
-          c.measure.ensures.proper;
-    }
+      visits = AddsVisits-then _ _ _ _ _ _ (trees_node_count-more a) c.loop-item.invariant.visits
+          c.measure.ensures.visits;
+      proper = AreProperTrees-more a c.loop-item.invariant.proper c.measure.ensures.proper;
+    })
 
 pub measure_pairs-loop-pair-preserved : goal.measure_pairs-loop-pair-preserved
 measure_pairs-loop-pair-preserved t c =
-    let i = c.loop-pair.pair-index in
-    let longer = pair_encodings-more-length i _ _ c.loop-pair-test.true c.pair-item.is in
-    record {
+    let a = at c.loop-pair-test.true c.pair-item.is in
+    let longer = pair_encodings-more-length a in
+    rw add-one (record {
       size = omega (
         arith,
         longer,
@@ -63,9 +63,8 @@ measure_pairs-loop-pair-preserved t c =
         c.measure-in-loop-pair.ensures.size,
         c.saturating_add-size-in-loop-pair.ensures,
       );
-      visits = AddsVisits-then _ _ _ _ _ _ (tree_pairs_node_count-more i _ _ c.loop-pair-test.true c.pair-item.is)
-          c.loop-pair.invariant.visits (AddsVisits-then _ _ _ _ _ _ refl c.measure.ensures.visits
-          c.measure-in-loop-pair.ensures.visits);
-      proper = AreProperTreePairs-more i _ _ c.loop-pair-test.true c.pair-item.is c.loop-pair.invariant.proper
-          c.measure.ensures.proper c.measure-in-loop-pair.ensures.proper;
-    }
+      visits = AddsVisits-then _ _ _ _ _ _ (tree_pairs_node_count-more a) c.loop-pair.invariant.visits
+          (AddsVisits-then _ _ _ _ _ _ refl c.measure.ensures.visits c.measure-in-loop-pair.ensures.visits);
+      proper = AreProperTreePairs-more a c.loop-pair.invariant.proper c.measure.ensures.proper
+          c.measure-in-loop-pair.ensures.proper;
+    })

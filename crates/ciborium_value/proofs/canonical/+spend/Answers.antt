@@ -1,10 +1,11 @@
-use Rattle.std.proofs.Common.{length, ap, sym, ◌∙◌, arith}
+use Rattle.std.proofs.Common.{length, add-one, ap, sym, ◌∙◌, arith}
 use Rattle.ciborium_value.specs.inner.EncodedLists.{encodings, pair_encodings}
 use Rattle.ciborium_value.proofs.Orders.Rooms.{exhausted, spends_content, spends_head, spends_nothing}
-use Rattle.ciborium_value.proofs.Orders.Rooms.{encodings-next-length, pair_encodings-next-length}
+use Rattle.ciborium_value.proofs.Orders.Encodings.{encodings-next-length, pair_encodings-next-length}
 use Rattle.ciborium_value.proofs.Orders.TreeEncodings.{content_bytes-none, content_bytes-Bytes, content_bytes-Text}
 use Rattle.ciborium_value.proofs.Orders.TreeEncodings.{content_bytes-Tag, content_bytes-Array, content_bytes-Map}
-use Rattle.ciborium_value.proofs.Orders.TreeEncodings.{encodings-more-length, pair_encodings-more-length}
+use Rattle.ciborium_value.proofs.Orders.Encodings.{encodings-more-length, pair_encodings-more-length}
+use Rattle.ciborium_value.proofs.Trees.Elements.{at}
 use Rattle.ciborium_value.proofs.canonical.+spend.Goals as goal
 
 pub spend-returns-in_err-room : goal.spend-returns-in_err-room
@@ -48,28 +49,28 @@ spend-returns-in-Integer-3 t c = spends_head _ _ _ _ _ c.head_of.ensures.major c
 
 pub spend_items-returns-in_err-left : goal.spend_items-returns-in_err-left
 spend_items-returns-in_err-left t c =
-    let next = encodings-next-length _ _ _ c.loop-item-test.true c.item-item.is in
+    let next = encodings-next-length (at c.loop-item-test.true c.item-item.is) in
     let whole = ap (λ l. length (encodings l)) c.deref-item-items.ensures.value in
     exhausted _ _ _ c.from_residual.ensures
     (λ all. c.in_err-left.ensures (omega (arith, next, whole, all, c.loop-item.invariant)))
 
 pub spend_items-loop-item-preserved : goal.spend_items-loop-item-preserved
 spend_items-loop-item-preserved t c =
-    let more = encodings-more-length _ _ _ c.loop-item-test.true c.item-item.is in
+    let more = encodings-more-length (at c.loop-item-test.true c.item-item.is) in
     let fits = c.in_ok-left.ensures.0 in
     let left = c.in_ok-left.ensures.1 in
-    omega (arith, more, fits, left, c.loop-item.invariant)
+    rw add-one (omega (arith, more, fits, left, c.loop-item.invariant))
 
 pub spend_pairs-returns-in_err-left : goal.spend_pairs-returns-in_err-left
 spend_pairs-returns-in_err-left t c =
-    let next = pair_encodings-next-length _ _ _ c.loop-pair-test.true c.pair-item.is in
+    let next = pair_encodings-next-length (at c.loop-pair-test.true c.pair-item.is) in
     let whole = ap (λ l. length (pair_encodings l)) c.deref-pair-items.ensures.value in
     exhausted _ _ _ c.from_residual.ensures
     (λ all. c.in_err-left.ensures (omega (arith, next, whole, all, c.loop-pair.invariant)))
 
 pub spend_pairs-returns-in_err-left-2 : goal.spend_pairs-returns-in_err-left-2
 spend_pairs-returns-in_err-left-2 t c =
-    let next = pair_encodings-next-length _ _ _ c.loop-pair-test.true c.pair-item.is in
+    let next = pair_encodings-next-length (at c.loop-pair-test.true c.pair-item.is) in
     let whole = ap (λ l. length (pair_encodings l)) c.deref-pair-items.ensures.value in
     let fits = c.in_ok-left.ensures.0 in
     let left = c.in_ok-left.ensures.1 in
@@ -78,9 +79,9 @@ spend_pairs-returns-in_err-left-2 t c =
 
 pub spend_pairs-loop-pair-preserved : goal.spend_pairs-loop-pair-preserved
 spend_pairs-loop-pair-preserved t c =
-    let more = pair_encodings-more-length _ _ _ c.loop-pair-test.true c.pair-item.is in
+    let more = pair_encodings-more-length (at c.loop-pair-test.true c.pair-item.is) in
     let fits = c.in_ok-left.ensures.0 in
     let left = c.in_ok-left.ensures.1 in
     let both_fit = c.in_ok-left-2.ensures.0 in
     let both_left = c.in_ok-left-2.ensures.1 in
-    omega (arith, more, fits, left, both_fit, both_left, c.loop-pair.invariant)
+    rw add-one (omega (arith, more, fits, left, both_fit, both_left, c.loop-pair.invariant))

@@ -1,8 +1,8 @@
-use Rattle.std.proofs.Common.{◌≡◌, ◌<◌, length, get_or, subst, ap, sym, ◌∙◌}
+use Rattle.std.proofs.Common.{subst, ap, sym, ◌∙◌, add-one}
 use Rattle.ciborium_value.specs.{Deterministic.{AreRising, keys_of}, inner.OwnForms.IsFormed, View.tree_of}
 use Rattle.ciborium_value.specs.View.{tree_pairs_of}
 use Rattle.ciborium_value.proofs.Forms.FormedLists.{failed, AreFormed-more, formed_at, PairsAreFormed-more}
-use Rattle.ciborium_value.proofs.{Forms.FormedLists.pair_formed_at, Trees.Views.tree_of-Map}
+use Rattle.ciborium_value.proofs.{Forms.FormedLists.pair_formed_at, Trees.{Elements.at, Views.tree_of-Map}}
 use Rattle.ciborium_value.proofs.deterministic.+is_formed.Goals as goal
 
 pub is_formed-returns-else-keys_rise : goal.is_formed-returns-else-keys_rise
@@ -17,48 +17,34 @@ is_formed-returns-else-keys_rise t c =
 
 pub are_formed-returns-then-not-is_formed : goal.are_formed-returns-then-not-is_formed
 are_formed-returns-then-not-is_formed t c =
-    let list = c.deref-item-items.ensures.value in
-    let item = subst (λ l. c.item-item.result ≡ get_or l c.loop-item.item-index c.item-item.result) list c.item-item.is
-    in
-    let within : c.loop-item.item-index < length c.args.items.now.items =
-    subst (λ l. c.loop-item.item-index < length l) list c.loop-item-test.true in (
+    let a = rw c.deref-item-items.ensures.value at (at c.loop-item-test.true c.item-item.is) in (
       λ no. absurd cc,
       λ all. absurd (failed c.is_formed.result c.is_formed.ensures c.if-not-is_formed.true
-          (formed_at c.args.order c.loop-item.item-index c.args.items.now.items _ within item all)),
+          (formed_at c.args.order a all)),
     )
 
 pub are_formed-loop-item-preserved : goal.are_formed-loop-item-preserved
 are_formed-loop-item-preserved t c =
-    AreFormed-more c.args.order c.loop-item.item-index _ _ c.loop-item-test.true c.item-item.is c.loop-item.invariant
-    (c.is_formed.ensures.0 c.if-not-is_formed.false)
+    rw add-one (AreFormed-more c.args.order (at c.loop-item-test.true c.item-item.is) c.loop-item.invariant
+    (c.is_formed.ensures.0 c.if-not-is_formed.false))
 
 pub pairs_are_formed-returns-then-not-is_formed : goal.pairs_are_formed-returns-then-not-is_formed
 pairs_are_formed-returns-then-not-is_formed t c =
-    let list = c.deref-pair-items.ensures.value in
-    let item = subst (λ l. c.pair-item.result ≡ get_or l c.loop-pair.pair-index c.pair-item.result) list c.pair-item.is
-    in
-    let within : c.loop-pair.pair-index < length c.args.pairs.now.items =
-    subst (λ l. c.loop-pair.pair-index < length l) list c.loop-pair-test.true in (
+    let a = rw c.deref-pair-items.ensures.value at (at c.loop-pair-test.true c.pair-item.is) in (
       λ no. absurd cc,
       λ all. absurd (failed c.is_formed.result c.is_formed.ensures c.if-not-is_formed.true
-          (pair_formed_at c.args.order c.loop-pair.pair-index c.args.pairs.now.items _ within item all).0),
+          (pair_formed_at c.args.order a all).0),
     )
 
 pub pairs_are_formed-returns-then-not-is_formed-2 : goal.pairs_are_formed-returns-then-not-is_formed-2
 pairs_are_formed-returns-then-not-is_formed-2 t c =
-    let list = c.deref-pair-items.ensures.value in
-    let item = subst (λ l. c.pair-item.result ≡ get_or l c.loop-pair.pair-index c.pair-item.result) list c.pair-item.is
-    in
-    let within : c.loop-pair.pair-index < length c.args.pairs.now.items =
-    subst (λ l. c.loop-pair.pair-index < length l) list c.loop-pair-test.true in (
+    let a = rw c.deref-pair-items.ensures.value at (at c.loop-pair-test.true c.pair-item.is) in (
       λ no. absurd cc,
       λ all. absurd (failed c.is_formed-in-loop-pair.result c.is_formed-in-loop-pair.ensures
-          c.if-not-is_formed-2.true (pair_formed_at c.args.order c.loop-pair.pair-index c.args.pairs.now.items _ within
-          item all).1),
+          c.if-not-is_formed-2.true (pair_formed_at c.args.order a all).1),
     )
 
 pub pairs_are_formed-loop-pair-preserved : goal.pairs_are_formed-loop-pair-preserved
 pairs_are_formed-loop-pair-preserved t c =
-    PairsAreFormed-more c.args.order c.loop-pair.pair-index _ _ c.loop-pair-test.true c.pair-item.is
-    c.loop-pair.invariant (c.is_formed.ensures.0 c.if-not-is_formed.false)
-    (c.is_formed-in-loop-pair.ensures.0 c.if-not-is_formed-2.false)
+    rw add-one (PairsAreFormed-more c.args.order (at c.loop-pair-test.true c.pair-item.is) c.loop-pair.invariant
+    (c.is_formed.ensures.0 c.if-not-is_formed.false) (c.is_formed-in-loop-pair.ensures.0 c.if-not-is_formed-2.false))

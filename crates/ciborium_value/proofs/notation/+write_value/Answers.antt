@@ -1,4 +1,5 @@
-use Rattle.std.proofs.Common.{◌≡◌, [], length, refl, sym, ap, ◌∙◌, arith}
+use Rattle.std.proofs.Common.{◌≡◌, [], length, add-one, refl, sym, ap, ◌∙◌, arith}
+use Rattle.ciborium_value.proofs.Trees.Elements.{at}
 use Rattle.ciborium_value.specs.{Notation.notation_on, View.tree_of}
 use Rattle.ciborium_value.proofs.Trees.Notations.{then, as_bytes, lead_behind-more, notation_on-array, notation_on-map}
 use Rattle.ciborium_value.proofs.Trees.Notations.{notation_on-tag, notations_on-more, pair_notations_on-more}
@@ -37,13 +38,10 @@ write_value-returns-in_ok-write_last_break-in-Map g t c = λ flush ok.
 
 pub write_items-loop-item-preserved : goal.write_items-loop-item-preserved
 write_items-loop-item-preserved g t c =
-    let i = c.loop-item.item-index in
-    let items = c.deref-item-items.result.now in (
+    let a = at c.loop-item-test.true c.item-item.is in rw add-one (
       c.comma-lead.utf8,
-      c.comma-lead.ensures ∙ sym (lead_behind-more c.args.lines [] i items c.item-item.result c.loop-item-test.true
-          c.item-item.is),
-      λ flush. as_bytes (notations_on-more c.args.lines i items c.item-item.result c.loop-item-test.true c.item-item.is)
-          (then (c.loop-item.invariant.2 flush)
+      c.comma-lead.ensures ∙ sym (lead_behind-more c.args.lines [] a),
+      λ flush. as_bytes (notations_on-more c.args.lines a) (then (c.loop-item.invariant.2 flush)
           (λ f. then (as_bytes c.loop-item.invariant.1 (c.in_ok-write_str.ensures.styled f refl))
           (λ f. then (c.in_ok-write_line_break.ensures f refl)
           (λ f. c.in_ok-write_value.ensures f refl)))),
@@ -51,14 +49,10 @@ write_items-loop-item-preserved g t c =
 
 pub write_pairs-loop-pair-preserved : goal.write_pairs-loop-pair-preserved
 write_pairs-loop-pair-preserved g t c =
-    let i = c.loop-pair.pair-index in
-    let pairs = c.deref-pair-items.result.now in (
+    let a = at c.loop-pair-test.true c.pair-item.is in rw add-one (
       c.comma-lead.utf8,
-      c.comma-lead.ensures ∙ sym (lead_behind-more c.args.lines [] i pairs c.pair-item.result c.loop-pair-test.true
-          c.pair-item.is),
-      λ flush. as_bytes (pair_notations_on-more c.args.lines i pairs c.pair-item.result c.loop-pair-test.true
-          c.pair-item.is)
-          (then (c.loop-pair.invariant.2 flush)
+      c.comma-lead.ensures ∙ sym (lead_behind-more c.args.lines [] a),
+      λ flush. as_bytes (pair_notations_on-more c.args.lines a) (then (c.loop-pair.invariant.2 flush)
           (λ f. then (as_bytes c.loop-pair.invariant.1 (c.in_ok-write_str.ensures.styled f refl))
           (λ f. then (c.in_ok-write_line_break.ensures f refl)
           (λ f. then (c.in_ok-write_value.ensures f refl)
