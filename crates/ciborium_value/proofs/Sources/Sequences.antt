@@ -6,7 +6,7 @@ use Rattle.ciborium_value.specs.{Ahead.{Ahead, Rest, Span, item, after, parts, p
 use Rattle.ciborium_value.specs.{Places.{Shape, sequence}, EnteredSequences.{RefusesInTurn, TakesRest, TakesInTurn}}
 use Rattle.ciborium_value.specs.Sources.{Fault, of_kind, of_nesting, of_syntax, of_memory, of_device, of_end, of_length}
 use Rattle.ciborium_value.specs.Sources.{IsFaultOf, IsOutsideFault, TakesAhead, RefusesAhead, Enters, GoesOn, Leaves}
-use Rattle.ciborium_value.specs.Sources.{RefusesNext, TakesTo, TakesItem, OwesLess, OwesNothing, TakesOnly}
+use Rattle.ciborium_value.specs.Sources.{TakesTo, TakesItem, OwesLess, OwesNothing, TakesOnly}
 use Rattle.ciborium_value.specs.{Sources.TakesOneItem, lemmas.GivenOutcomes.and_take, Given.{Outcome, Steps, Given}}
 use Rattle.ciborium_value.specs.Given.{deeper_if, gives, mapped, nests, outcome, outcome_map, refuses, take_each}
 use Rattle.ciborium_value.specs.{Given.{given_value, then_take}, GivenParts.{given_list, no_part_given}, Tree.Tree}
@@ -53,25 +53,31 @@ pub so : {C : Type 0} {P Q R : Limit → Rest → Outcome C → Type 0} → Foll
 so h k = record { at = λ l f o p. k.at l f o (h.at l f o p) }
 
 -- the outcome is to blame
-abbrev pub IsBlamed : {C : Type 0} → Fault → Limit → Rest → Outcome C → Type 0
-IsBlamed fault l f o = IsFaultOf (end_of f) fault o
+pub record IsBlamed {C : Type 0} (fault : Fault) (l : Limit) (f : Rest) (o : Outcome C) : Type 0 where
+  pub blamed : IsFaultOf (end_of f) fault o
 
-module _ {S : Type 0} (StandsBefore : S → Limit → Ahead → Type 0) where
-  -- an item is ahead, which gives the outcome
-  abbrev pub IsBefore : {C : Type 0} → S → Given C → Limit → Rest → Outcome C → Type 0
-  IsBefore now taken l f o = (i : Item) × StandsBefore now l (item i f) × (o ≡ outcome l (taken i))
+-- an item is ahead, which gives the outcome
+pub record IsBefore {S C : Type 0} (StandsBefore : S → Limit → Ahead → Type 0) (now : S) (taken : Given C) (l : Limit)
+    (f : Rest) (o : Outcome C) : Type 0 where
+  pub ahead : Item
+  pub stands : StandsBefore now l (item ahead f)
+  pub is : o ≡ outcome l (taken ahead)
 
-  -- the outcome is this, and the item was taken
-  abbrev pub IsPast : {C : Type 0} → S → C → Limit → Rest → Outcome C → Type 0
-  IsPast now v l f o = (o ≡ gives v) × StandsBefore now l (past f)
+-- the outcome is this, and the item was taken
+pub record IsPast {S C : Type 0} (StandsBefore : S → Limit → Ahead → Type 0) (now : S) (v : C) (l : Limit) (f : Rest)
+    (o : Outcome C) : Type 0 where
+  pub is : o ≡ gives v
+  pub stands : StandsBefore now l (past f)
 
-  pub takes : {C : Type 0} {old new : S} (taken : Given C) {v : C} → Follows (IsBefore old taken) (IsPast new v) →
+module _ {S C : Type 0} {StandsBefore : S → Limit → Ahead → Type 0} {old : S} {taken : Given C} where
+  pub takes : {new : S} {v : C} → Follows (IsBefore StandsBefore old taken) (IsPast StandsBefore new v) →
       TakesAhead StandsBefore old new taken v
-  takes taken h l i f st = h.at l f _ (i, st, refl)
+  takes h l i f st = let there = h.at l f (outcome l (taken i)) (record { ahead = i; stands = st; is = refl }) in
+      (there.is, there.stands)
 
-  pub blames : {C : Type 0} {old : S} (taken : Given C) (fault : Fault) →
-      Follows (IsBefore old taken) (IsBlamed fault) → RefusesAhead StandsBefore old taken fault
-  blames taken fault h l i f st = h.at l f _ (i, st, refl)
+  pub blames : {fault : Fault} → Follows (IsBefore StandsBefore old taken) (IsBlamed fault) →
+      RefusesAhead StandsBefore old taken fault
+  blames h l i f st = (h.at l f (outcome l (taken i)) (record { ahead = i; stands = st; is = refl })).blamed
 
 -- what is said of a call for one item that passes an error on
 pub passes_on : {S A V E : Type 0} {StandsBefore : S → Limit → Ahead → Type 0} {IsUnread : S → List ℕ → Type 0}
@@ -90,57 +96,71 @@ passes_on {StandsBefore = StandsBefore} {cause = cause} {old = old} {new = new} 
       no_more = no_more;
     }
 
-module _ {S Q : Type 0} (StandsBefore : S → Limit → Ahead → Type 0) (SeqStands : Q → Limit → Rest → Type 0) where
-  -- items of a sequence are left, of which k makes the outcome
-  abbrev pub IsInside : {C : Type 0} → S → Q → (List Item → Steps C) → Limit → Rest → Outcome C → Type 0
-  IsInside now q k l f o = (span : Span) × (is : List Item) × StandsBefore now (inside span l)
-      (after (parts span is f)) × SeqStands q l (parts span is f) × (o ≡ outcome (inside span l) (k is))
+-- parts of a container are left, which come so, and of which k makes the outcome
+pub record IsInside {S Q X C : Type 0} (StandsBefore : S → Limit → Ahead → Type 0)
+    (SeqStands : Q → Limit → Rest → Type 0) (come : Span → List X → Rest → Rest) (now : S) (q : Q)
+    (k : List X → Steps C) (l : Limit) (f : Rest) (o : Outcome C) : Type 0 where
+  pub span : Span
+  pub left : List X
+  pub stands : StandsBefore now (inside span l) (after (come span left f))
+  pub due : SeqStands q l (come span left f)
+  pub is : o ≡ outcome (inside span l) (k left)
 
-  -- one of them is ahead
-  abbrev pub IsAtPart : {C : Type 0} → S → Q → (List Item → Steps C) → Limit → Rest → Outcome C → Type 0
-  IsAtPart now q k l f o = (span : Span) × (i : Item) × (is : List Item) × StandsBefore now (inside span l)
-      (item i (parts span is f)) × SeqStands q l (parts span is f) × (o ≡ outcome (inside span l) (k (i ∷ is)))
+module _ {S Q X C : Type 0} {StandsBefore : S → Limit → Ahead → Type 0} {SeqStands : Q → Limit → Rest → Type 0}
+    {come : Span → List X → Rest → Rest} {k : List X → Steps C} {old : S} {q : Q} where
+  pub blames_next : {fault : Fault} → ((l : Limit) (span : Span) (is : List X) (f : Rest) →
+      StandsBefore old (inside span l) (after (come span is f)) → SeqStands q l (come span is f) →
+      IsOutsideFault (end_of f) fault) → Follows (IsInside StandsBefore SeqStands come old q k) (IsBlamed fault)
+  blames_next {fault} h = record {
+    at = λ l f o w. record { blamed = fault_outside _ fault o (h l w.span w.left f w.stands w.due) };
+  }
 
-  module _ {C : Type 0} (k : List Item → Steps C) where
-    pub goes_on : {old new : S} {q q' : Q} → GoesOn StandsBefore SeqStands old new q q' →
-        Follows (IsInside old q k) (IsAtPart new q' k)
-    goes_on h = record {
-      at = λ l f o w.
-          let n = h.0 l w.0 w.1 f w.2 w.3 in
-          (w.0, n.0, n.1, n.3, n.4, w.4 ∙ ap (λ is. outcome (inside w.0 l) (k is)) n.2);
-    }
+  pub leaves : {new : S} (v : C) → ((l : Limit) (span : Span) (is : List X) (f : Rest) →
+      StandsBefore old (inside span l) (after (come span is f)) → SeqStands q l (come span is f) →
+      (is ≡ []) × StandsBefore new l (past f)) → ((m : Limit) → outcome m (k []) ≡ gives v) →
+      Follows (IsInside StandsBefore SeqStands come old q k) (IsPast StandsBefore new v)
+  leaves v h none = record {
+    at = λ l f o w. let n = h l w.span w.left f w.stands w.due in record {
+      is = w.is ∙ ap (λ is. outcome (inside w.span l) (k is)) n.0 ∙ none (inside w.span l);
+      stands = n.1;
+    };
+  }
 
-    pub blames_next : {old : S} {q : Q} (fault : Fault) → RefusesNext StandsBefore SeqStands old q fault →
-        Follows (IsInside old q k) (IsBlamed fault)
-    blames_next fault h = record { at = λ l f o w. fault_outside _ fault o (h.0 l w.0 w.1 f w.2 w.3) }
+-- ---- parts of a sequence
 
-    -- the part gives v, and k makes of it what k' makes of the rest
-    pub reads : {A : Type 0} {old new : S} {q : Q} (first : Given A) {v : A} (k' : List Item → Steps C) →
-        TakesAhead StandsBefore old new first v → ((m : Limit) (i : Item) (is : List Item) →
-        outcome m (first i) ≡ gives v → outcome m (k (i ∷ is)) ≡ outcome m (k' is)) →
-        Follows (IsAtPart old q k) (IsInside new q k')
-    reads first k' h step = record {
-      at = λ l f o w.
-          let n = h (inside w.0 l) w.1 (parts w.0 w.2 f) w.3 in
-          (w.0, w.2, n.1, w.4, w.5 ∙ step (inside w.0 l) w.1 w.2 n.0);
-    }
+module _ {S Q A C : Type 0} {StandsBefore : S → Limit → Ahead → Type 0} {SeqStands : Q → Limit → Rest → Type 0}
+    {k : List Item → Steps C} (first : Given A) {old : S} {q : Q} (ahead : S) (q' : Q)
+    (h : GoesOn StandsBefore SeqStands old ahead q q') where
+  -- the next one gives v, and k makes of it what k' makes of the rest
+  pub reads : {new : S} {v : A} (k' : List Item → Steps C) → TakesAhead StandsBefore ahead new first v →
+      ((m : Limit) (i : Item) (is : List Item) → outcome m (first i) ≡ gives v →
+      outcome m (k (i ∷ is)) ≡ outcome m (k' is)) →
+      Follows (IsInside StandsBefore SeqStands parts old q k) (IsInside StandsBefore SeqStands parts new q' k')
+  reads k' t step = record {
+    at = λ l f o w.
+        let m = inside w.span l in
+        let n = h.0 l w.span w.left f w.stands w.due in
+        let p = t m n.0 (parts w.span n.1 f) n.3 in record {
+          span = w.span;
+          left = n.1;
+          stands = p.1;
+          due = n.4;
+          is = w.is ∙ ap (λ is. outcome m (k is)) n.2 ∙ step m n.0 n.1 p.0;
+        };
+  }
 
-    pub blames_part : {A : Type 0} {old : S} {q : Q} (first : Given A) (fault : Fault) →
-        RefusesAhead StandsBefore old first fault → ((end : ℕ) (m : Limit) (i : Item) (is : List Item) →
-        IsFaultOf end fault (outcome m (first i)) → IsFaultOf end fault (outcome m (k (i ∷ is)))) →
-        Follows (IsAtPart old q k) (IsBlamed fault)
-    blames_part first fault h step = record {
-      at = λ l f o w. subst (IsFaultOf (end_of f) fault) (sym w.5)
-          (step (end_of f) (inside w.0 l) w.1 w.2 (h (inside w.0 l) w.1 (parts w.0 w.2 f) w.3));
-    }
-
-    pub leaves : {old new : S} {q : Q} (v : C) → Leaves StandsBefore SeqStands old new q →
-        ((m : Limit) → outcome m (k []) ≡ gives v) → Follows (IsInside old q k) (IsPast StandsBefore new v)
-    leaves v h none = record {
-      at = λ l f o w.
-          let n = h.0 l w.0 w.1 f w.2 w.3 in
-          (w.4 ∙ ap (λ is. outcome (inside w.0 l) (k is)) n.0 ∙ none (inside w.0 l), n.1);
-    }
+  pub blames_part : {fault : Fault} → RefusesAhead StandsBefore ahead first fault →
+      ((end : ℕ) (m : Limit) (i : Item) (is : List Item) → IsFaultOf end fault (outcome m (first i)) →
+      IsFaultOf end fault (outcome m (k (i ∷ is)))) →
+      Follows (IsInside StandsBefore SeqStands parts old q k) (IsBlamed fault)
+  blames_part {fault} t step = record {
+    at = λ l f o w.
+        let m = inside w.span l in
+        let n = h.0 l w.span w.left f w.stands w.due in record {
+          blamed = subst (IsFaultOf (end_of f) fault) (sym (w.is ∙ ap (λ is. outcome m (k is)) n.2))
+              (step (end_of f) m n.0 n.1 (t m n.0 (parts w.span n.1 f) n.3));
+        };
+  }
 
 -- ---- lists
 
@@ -153,7 +173,7 @@ none_listed (gives ws) = refl
 none_listed (refuses k) = refl
 none_listed nests = refl
 
-one_more_listed : {A : Type 0} (vs : List A) (v : A) (r : Outcome (List A)) →
+pub one_more_listed : {A : Type 0} (vs : List A) (v : A) (r : Outcome (List A)) →
     outcome_map (λ ws. vs ++ ws) (and_take (gives v) r) ≡ outcome_map (λ ws. (vs ++ v ∷ []) ++ ws) r
 one_more_listed vs v (gives ws) = ap gives (sym (append_assoc vs (v ∷ []) ws))
 one_more_listed vs v u = refl
@@ -164,75 +184,77 @@ one_more_dropped v (gives ws) = refl
 one_more_dropped v (refuses k) = refl
 one_more_dropped v nests = refl
 
-module _ {S Q : Type 0} (StandsBefore : S → Limit → Ahead → Type 0) (SeqStands : Q → Limit → Rest → Type 0) {A : Type 0}
-    (taken : Given A) where
-  pub list_begins : {old new : S} {q : Q} (vs : List A) → vs ≡ [] → Enters StandsBefore SeqStands old new q →
+module _ {S Q A : Type 0} {StandsBefore : S → Limit → Ahead → Type 0} {SeqStands : Q → Limit → Rest → Type 0}
+    {taken : Given A} (vs : List A) where
+  pub list_begins : {old new : S} {q : Q} → vs ≡ [] → Enters StandsBefore SeqStands old new q →
       Follows (IsBefore StandsBefore old (given_list taken))
-      (IsInside StandsBefore SeqStands new q (list_from taken vs))
-  list_begins vs none h = record {
+      (IsInside StandsBefore SeqStands parts new q (list_from taken vs))
+  list_begins none h = record {
     at = λ l f o w.
-        let n = h l w.0 f w.1 in
-        let r = outcome (inside n.0 l) (take_each taken n.1) in (
-          n.0,
-          n.1,
-          n.3,
-          n.4,
-          w.2 ∙ ap (λ p. then_take p (λ x. outcome (deeper_if x.0 l) (take_each taken x.1))) n.2 ∙ none_listed r ∙
-              ap (λ x. outcome_map (λ ws. x ++ ws) r) (sym none),
-        );
+        let n = h l w.ahead f w.stands in
+        let r = outcome (inside n.0 l) (take_each taken n.1) in record {
+          span = n.0;
+          left = n.1;
+          stands = n.3;
+          due = n.4;
+          is = w.is ∙ ap (λ p. then_take p (λ x. outcome (deeper_if x.0 l) (take_each taken x.1))) n.2 ∙ none_listed r ∙
+              ap (λ x. outcome_map (λ ws. x ++ ws) r) (sym none);
+        };
   }
 
-  pub list_more : {old ahead new : S} {q q' : Q} {v : A} (vs : List A) → GoesOn StandsBefore SeqStands old ahead q q' →
-      TakesAhead StandsBefore ahead new taken v → Follows (IsInside StandsBefore SeqStands old q (list_from taken vs))
-      (IsInside StandsBefore SeqStands new q' (list_from taken (vs ++ v ∷ [])))
-  list_more {v = v} vs h t = so (goes_on StandsBefore SeqStands (list_from taken vs) h)
-      (reads StandsBefore SeqStands (list_from taken vs) taken (list_from taken (vs ++ v ∷ [])) t
+  pub list_more : {old new : S} {q : Q} {v : A} (ahead : S) (q' : Q) → GoesOn StandsBefore SeqStands old ahead q q' →
+      TakesAhead StandsBefore ahead new taken v →
+      Follows (IsInside StandsBefore SeqStands parts old q (list_from taken vs))
+      (IsInside StandsBefore SeqStands parts new q' (list_from taken (vs ++ v ∷ [])))
+  list_more {v = v} ahead q' h t = reads taken ahead q' h (list_from taken (vs ++ v ∷ [])) t
       (λ m i is e. ap (λ o. outcome_map (λ ws. vs ++ ws) (and_take o (outcome m (take_each taken is)))) e ∙
-      one_more_listed vs v (outcome m (take_each taken is))))
+      one_more_listed vs v (outcome m (take_each taken is)))
 
-  pub list_blames : {old ahead : S} {q q' : Q} (vs : List A) (fault : Fault) →
+  pub list_blames : {old : S} {q : Q} {fault : Fault} (ahead : S) (q' : Q) →
       GoesOn StandsBefore SeqStands old ahead q q' → RefusesAhead StandsBefore ahead taken fault →
-      Follows (IsInside StandsBefore SeqStands old q (list_from taken vs)) (IsBlamed fault)
-  list_blames vs fault h t = so (goes_on StandsBefore SeqStands (list_from taken vs) h)
-      (blames_part StandsBefore SeqStands (list_from taken vs) taken fault t
-      (λ end m i is e. fault_map _ fault (λ ws. vs ++ ws) _ (fault_then _ fault (outcome m (taken i)) _ e)))
+      Follows (IsInside StandsBefore SeqStands parts old q (list_from taken vs)) (IsBlamed fault)
+  list_blames {fault = fault} ahead q' h t = blames_part taken ahead q' h t
+      (λ end m i is e. fault_map _ fault (λ ws. vs ++ ws) _ (fault_then _ fault (outcome m (taken i)) _ e))
 
-  pub list_ends : {old new : S} {q : Q} (vs : List A) → Leaves StandsBefore SeqStands old new q →
-      Follows (IsInside StandsBefore SeqStands old q (list_from taken vs)) (IsPast StandsBefore new vs)
-  list_ends vs h = leaves StandsBefore SeqStands (list_from taken vs) vs h (λ m. ap gives (append-nil vs))
+  pub list_ends : {old new : S} {q : Q} → Leaves StandsBefore SeqStands old new q →
+      Follows (IsInside StandsBefore SeqStands parts old q (list_from taken vs)) (IsPast StandsBefore new vs)
+  list_ends h = leaves vs h.0 (λ m. ap gives (append-nil vs))
 
 -- ---- parts in a row
 
-module _ {S Q : Type 0} (StandsBefore : S → Limit → Ahead → Type 0) (SeqStands : Q → Limit → Rest → Type 0) where
-  pub takes_parts : {C : Type 0} {old new : S} {q : Q} (taken : List Item → Steps C) {c : C} →
-      Follows (IsInside StandsBefore SeqStands old q taken) (IsPast StandsBefore new c) →
+module _ {S Q : Type 0} {StandsBefore : S → Limit → Ahead → Type 0} {SeqStands : Q → Limit → Rest → Type 0} {old : S}
+    {q : Q} where
+  pub takes_parts : {C : Type 0} {new : S} {taken : List Item → Steps C} {c : C} →
+      Follows (IsInside StandsBefore SeqStands parts old q taken) (IsPast StandsBefore new c) →
       TakesInTurn StandsBefore SeqStands old new q taken c
-  takes_parts taken h l span is f st sq = h.at l f _ (span, is, st, sq, refl)
+  takes_parts {taken = taken} h l span is f st sq = let there = h.at l f (outcome (inside span l) (taken is))
+      (record { span = span; left = is; stands = st; due = sq; is = refl }) in
+      (there.is, there.stands)
 
-  pub refuses_parts : {C : Type 0} {old : S} {q : Q} (taken : List Item → Steps C) (fault : Fault) →
-      Follows (IsInside StandsBefore SeqStands old q taken) (IsBlamed fault) →
+  pub refuses_parts : {C : Type 0} {taken : List Item → Steps C} {fault : Fault} →
+      Follows (IsInside StandsBefore SeqStands parts old q taken) (IsBlamed fault) →
       RefusesInTurn StandsBefore SeqStands old q taken fault
-  refuses_parts taken fault h l span is f st sq = h.at l f _ (span, is, st, sq, refl)
+  refuses_parts {taken = taken} h l span is f st sq = (h.at l f (outcome (inside span l) (taken is))
+      (record { span = span; left = is; stands = st; due = sq; is = refl })).blamed
 
   -- no part more: each item that is left is dropped
-  pub drop_more : {old ahead new : S} {q q' : Q} {v : Tree} → GoesOn StandsBefore SeqStands old ahead q q' →
-      TakesAhead StandsBefore ahead new given_value v → Follows (IsInside StandsBefore SeqStands old q no_part_given)
-      (IsInside StandsBefore SeqStands new q' no_part_given)
-  drop_more {v = v} h t = so (goes_on StandsBefore SeqStands no_part_given h)
-      (reads StandsBefore SeqStands no_part_given given_value no_part_given t (λ m i is e. ap
+  pub drop_more : {new : S} {v : Tree} (ahead : S) (q' : Q) → GoesOn StandsBefore SeqStands old ahead q q' →
+      TakesAhead StandsBefore ahead new given_value v →
+      Follows (IsInside StandsBefore SeqStands parts old q no_part_given)
+      (IsInside StandsBefore SeqStands parts new q' no_part_given)
+  drop_more {v = v} ahead q' h t = reads given_value ahead q' h no_part_given t (λ m i is e. ap
       (λ o. then_take (and_take o (outcome m (take_each given_value is))) (λ _. gives tt)) e ∙
-      one_more_dropped v (outcome m (take_each given_value is))))
+      one_more_dropped v (outcome m (take_each given_value is)))
 
-  pub drop_blames : {old ahead : S} {q q' : Q} (fault : Fault) → GoesOn StandsBefore SeqStands old ahead q q' →
+  pub drop_blames : {fault : Fault} (ahead : S) (q' : Q) → GoesOn StandsBefore SeqStands old ahead q q' →
       RefusesAhead StandsBefore ahead given_value fault →
-      Follows (IsInside StandsBefore SeqStands old q no_part_given) (IsBlamed fault)
-  drop_blames fault h t = so (goes_on StandsBefore SeqStands no_part_given h)
-      (blames_part StandsBefore SeqStands no_part_given given_value fault t
-      (λ end m i is e. fault_then _ fault _ (λ _. gives tt) (fault_then _ fault (outcome m (given_value i)) _ e)))
+      Follows (IsInside StandsBefore SeqStands parts old q no_part_given) (IsBlamed fault)
+  drop_blames {fault = fault} ahead q' h t = blames_part given_value ahead q' h t
+      (λ end m i is e. fault_then _ fault _ (λ _. gives tt) (fault_then _ fault (outcome m (given_value i)) _ e))
 
-  pub drop_ends : {old new : S} {q : Q} → Leaves StandsBefore SeqStands old new q →
-      Follows (IsInside StandsBefore SeqStands old q no_part_given) (IsPast StandsBefore new tt)
-  drop_ends h = leaves StandsBefore SeqStands no_part_given tt h (λ m. refl)
+  pub drop_ends : {new : S} → Leaves StandsBefore SeqStands old new q →
+      Follows (IsInside StandsBefore SeqStands parts old q no_part_given) (IsPast StandsBefore new tt)
+  drop_ends h = leaves tt h.0 (λ m. refl)
 
 -- ---- known bytes
 

@@ -9,12 +9,8 @@ use Rattle.ciborium_rows.proofs.few.FewDeserialize.deserialize.Goals as goal
 
 pub returns-in_err-next-clause-takes : goal.returns-in_err-next-clause-takes
 returns-in_err-next-clause-takes g c =
-    let e = g.S.Source.cause c.next.new.self c.in_err-next.field-0.0 in
-    let vs = c.loop-numbers.numbers.items in
     passes_on _ c.in_err-next.field-0.0 c.from_residual-in_err-next.ensures.1
-    (blames g.S.Source.stands_before (given_few 5 given_byte) e (so c.loop-numbers.invariant.inside
-    (blames_next g.S.Source.stands_before g.S.Source.seq_stands (few_from given_byte (5 - length vs) vs) e
-    c.in_err-next.ensures.refused)))
+    (blames (so c.loop-numbers.invariant.inside (blames_next c.in_err-next.ensures.refused.0)))
     (λ first h. c.next.ensures.only first (c.loop-numbers.invariant.only first h))
     (omega (arith, c.in_err-next.ensures.no_more, c.loop-numbers.invariant.less))
 
@@ -22,16 +18,11 @@ pub returns-then-len-ge-MOST-clause-takes : goal.returns-then-len-ge-MOST-clause
 returns-then-len-ge-MOST-clause-takes g c =
     let vs = c.loop-numbers.numbers.items in
     let full : 5 - length vs ≡ 0 = omega (arith, c.if-len-ge-MOST.true, c.len.ensures) in
-    let inside = subst (λ n. Follows (IsBefore g.S.Source.stands_before c.args.source.now (given_few 5 given_byte))
-    (IsInside g.S.Source.stands_before g.S.Source.seq_stands c.loop-numbers.source c.loop-numbers.seq
-    (few_from given_byte n vs))) full c.loop-numbers.invariant.inside in
+    let inside = rw full at c.loop-numbers.invariant.inside in
     record {
       ok = tt;
-      refused = subst (RefusesAhead g.S.Source.stands_before c.args.source.now (given_few 5 given_byte))
-          (sym c.refuse.ensures)
-          (blames g.S.Source.stands_before (given_few 5 given_byte) (of_kind kinds.Length)
-          (so inside (few_refuses g.S.Source.stands_before g.S.Source.seq_stands given_byte vs
-          (rw c.if-branch.true at c.in_ok-next.ensures.ok))));
+      refused = rw c.refuse.ensures
+          (blames (so inside (few_refuses vs _ _ (rw c.if-branch.true at c.in_ok-next.ensures.ok))));
       took = tt;
       only = λ first h. c.next.ensures.only first (c.loop-numbers.invariant.only first h);
       less = tt;
@@ -40,16 +31,12 @@ returns-then-len-ge-MOST-clause-takes g c =
 
 pub returns-in_err-number-clause-takes : goal.returns-in_err-number-clause-takes
 returns-in_err-number-clause-takes g c =
-    let e = g.S.Source.cause c.deserialize.new.source c.in_err-number.field-0.0 in
     let vs = c.loop-numbers.numbers.items in
     let room : 5 - length vs ≡ suc (5 - (length vs + 1)) = omega (arith, c.if-len-ge-MOST.false, c.len.ensures) in
-    let inside = subst (λ n. Follows (IsBefore g.S.Source.stands_before c.args.source.now (given_few 5 given_byte))
-    (IsInside g.S.Source.stands_before g.S.Source.seq_stands c.loop-numbers.source c.loop-numbers.seq
-    (few_from given_byte n vs))) room c.loop-numbers.invariant.inside in
+    let inside = rw room at c.loop-numbers.invariant.inside in
     passes_on _ c.in_err-number.field-0.0 c.from_residual-in_err-number.ensures.1
-    (blames g.S.Source.stands_before (given_few 5 given_byte) e
-    (so inside (few_blames g.S.Source.stands_before g.S.Source.seq_stands given_byte
-    (5 - (length vs + 1)) vs e (rw c.if-branch.true at c.in_ok-next.ensures.ok) c.in_err-number.ensures.takes.refused)))
+    (blames (so inside (few_blames (5 - (length vs + 1)) vs _ _ (rw c.if-branch.true at c.in_ok-next.ensures.ok)
+    c.in_err-number.ensures.takes.refused)))
     (λ first h. c.deserialize.ensures.takes.only first
     (c.next.ensures.only first (c.loop-numbers.invariant.only first h)))
     (omega (
@@ -63,20 +50,13 @@ pub loop-numbers-preserved : goal.loop-numbers-preserved
 loop-numbers-preserved g c =
     let vs = c.loop-numbers.numbers.items in
     let room : 5 - length vs ≡ suc (5 - (length vs + 1)) = omega (arith, c.if-len-ge-MOST.false, c.len.ensures) in
-    let inside = subst (λ n. Follows (IsBefore g.S.Source.stands_before c.args.source.now (given_few 5 given_byte))
-    (IsInside g.S.Source.stands_before g.S.Source.seq_stands c.loop-numbers.source c.loop-numbers.seq
-    (few_from given_byte n vs))) room c.loop-numbers.invariant.inside in
-    let more = so inside (few_more g.S.Source.stands_before g.S.Source.seq_stands given_byte (5 - (length vs + 1)) vs
-    (rw c.if-branch.true at c.in_ok-next.ensures.ok) c.in_ok-number.ensures.takes.ok) in
+    let inside = rw room at c.loop-numbers.invariant.inside in
+    let more = so inside (few_more (5 - (length vs + 1)) vs _ _ (rw c.if-branch.true at c.in_ok-next.ensures.ok)
+    c.in_ok-number.ensures.takes.ok) in
     let longer : length c.push.new.self.items ≡ length vs + 1 = grind (arith, c.in-Ok.ensures.items) in
-    let counted = subst (λ n. Follows (IsBefore g.S.Source.stands_before c.args.source.now (given_few 5 given_byte))
-    (IsInside g.S.Source.stands_before g.S.Source.seq_stands c.deserialize.new.source c.next.new.seq
-    (few_from given_byte (5 - n) (vs ++ c.in_ok-number.number ∷ [])))) (sym longer) more in
     record {
       most = omega (arith, longer, c.if-len-ge-MOST.false, c.len.ensures);
-      inside = subst (λ ws. Follows (IsBefore g.S.Source.stands_before c.args.source.now (given_few 5 given_byte))
-          (IsInside g.S.Source.stands_before g.S.Source.seq_stands c.deserialize.new.source c.next.new.seq
-          (few_from given_byte (5 - length c.push.new.self.items) ws))) (sym c.in-Ok.ensures.items) counted;
+      inside = rw (longer, c.in-Ok.ensures.items) more;
       owed = owed_more g.S.Source.is_unread g.S.Source.owes _ _ _ _ _ _ c.loop-numbers.invariant.owed
           (rw c.if-branch.true at c.in_ok-next.ensures.took) c.in_ok-number.ensures.takes.took;
       only = λ first h. c.deserialize.ensures.takes.only first
@@ -86,11 +66,9 @@ loop-numbers-preserved g c =
 
 pub returns-clause-takes : goal.returns-clause-takes
 returns-clause-takes g c =
-    let vs = c.loop-numbers.numbers.items in
     record {
-      ok = takes g.S.Source.stands_before (given_few 5 given_byte) (so c.loop-numbers.invariant.inside
-          (few_ends g.S.Source.stands_before g.S.Source.seq_stands given_byte (5 - length vs) vs
-          (rw c.if-branch.false at c.in_ok-next.ensures.ok)));
+      ok = takes (so c.loop-numbers.invariant.inside
+          (few_ends _ _ (rw c.if-branch.false at c.in_ok-next.ensures.ok)));
       refused = tt;
       took = owed_all g.S.Source.is_unread g.S.Source.owes _ _ _ _ c.loop-numbers.invariant.owed
           (rw c.if-branch.false at c.in_ok-next.ensures.took);
