@@ -398,20 +398,15 @@ last-follows None (suc n) b x f = subst (λ (l : List ℕ). Follows (l ++ (b ∷
 last-follows (Some level) (suc n) b x f =
     subst (λ (l : List ℕ). Follows (l ++ (b ∷ x))) (sym (last-is (Some level) n)) line_ends
 
-regroup : (a b c d x : List ℕ) → (a ++ (b ++ (c ++ d))) ++ x ≡ a ++ (b ++ (c ++ (d ++ x)))
-regroup a b c d x = simp append_assoc
-
 mutual
   printed : (l : ℕ) (lines : Option ℕ) (v : Tree) (r : List ℕ) → depth v ≤ l → IsProperTree v → Follows r →
       Begins l (notation_on lines v ++ r) v r
   printed l lines (trees.integer z) r _ h f = alone l _ _ r
       (at (signed_decimal z ++ r) r (leaf (trees.integer z)) (number-not-blank z r h) (number-token z r h f))
-  printed l lines (trees.bytes b) r _ h f = subst (λ (t : List ℕ). Begins l t (trees.bytes b) r)
-      (sym (ap (λ (t : List ℕ). 104 ∷ 39 ∷ t) (append_assoc (encode_lower b) (39 ∷ []) r)))
+  printed l lines (trees.bytes b) r _ h f = simp append_assoc
       (alone l _ _ r (at (104 ∷ 39 ∷ (encode_lower b ++ (39 ∷ r))) r (leaf (trees.bytes b)) refl
       (ap (token_of trees.bytes) (hex-run b r h.0))))
-  printed l lines (trees.text b) r _ h f = subst (λ (t : List ℕ). Begins l t (trees.text b) r)
-      (sym (ap (λ (t : List ℕ). 34 ∷ t) (append_assoc (flat_map escaped b) (34 ∷ []) r)))
+  printed l lines (trees.text b) r _ h f = simp append_assoc
       (alone l _ _ r (at (34 ∷ (flat_map escaped b ++ (34 ∷ r))) r (leaf (trees.text b)) refl
       (ap text_token (text-run b r) ∙ utf8_token b r h.0)))
   printed l lines (trees.boolean true) r _ h f =
@@ -420,9 +415,7 @@ mutual
       alone l _ _ r (at (codes "false" ++ r) r (leaf (trees.boolean false)) refl refl)
   printed l lines trees.null r _ h f = alone l _ _ r (at (codes "null" ++ r) r (leaf trees.null) refl refl)
   printed zero lines (trees.tag n v) r m h f = absurd (omega (arith, m))
-  printed (suc l) lines (trees.tag n v) r m h f = subst (λ (t : List ℕ). Begins (suc l) t (trees.tag n v) r)
-      (sym (append_assoc (decimal n) (40 ∷ (notation_on lines v ++ (41 ∷ []))) r ∙
-      ap (λ (t : List ℕ). decimal n ++ (40 ∷ t)) (append_assoc (notation_on lines v) (41 ∷ []) r)))
+  printed (suc l) lines (trees.tag n v) r m h f = simp append_assoc
       (tagged l n v _ _ (41 ∷ r) r (at (decimal n ++ (40 ∷ (notation_on lines v ++ (41 ∷ r))))
       (notation_on lines v ++ (41 ∷ r)) (begin_tag n) (decimal-not-blank n _ (omega (arith, h.0)))
       (tag-token n (notation_on lines v ++ (41 ∷ r)) h.0)) (printed l lines v (41 ∷ r) (omega (arith, m)) h.1 tag_ends)
@@ -431,9 +424,7 @@ mutual
   printed (suc l) lines (trees.array vs) r n h f =
       let last = last_break lines (trees_count vs) in
       let rows = notations_on (one_level_more lines) [] vs in
-      subst (λ (t : List ℕ). Begins (suc l) t (trees.array vs) r)
-      (sym (ap (λ (t : List ℕ). 91 ∷ t) (append_assoc rows (last ++ (93 ∷ [])) r ∙
-      ap (λ (t : List ℕ). rows ++ t) (append_assoc last (93 ∷ []) r))))
+      simp append_assoc
       (listed l vs _ (rows ++ (last ++ (93 ∷ r))) r (at (91 ∷ (rows ++ (last ++ (93 ∷ r)))) _ begin_array refl refl)
       (printed-items l (one_level_more lines) false vs (last ++ (93 ∷ r)) r (omega (arith, n)) h.1
       (last-follows lines (trees_count vs) 93 r array_ends) (past-token (last ++ (93 ∷ r)) (93 ∷ r) r end_array
@@ -442,9 +433,7 @@ mutual
   printed (suc l) lines (trees.map ps) r n h f =
       let last = last_break lines (tree_pairs_count ps) in
       let rows = pair_notations_on (one_level_more lines) [] ps in
-      subst (λ (t : List ℕ). Begins (suc l) t (trees.map ps) r)
-      (sym (ap (λ (t : List ℕ). 123 ∷ t) (append_assoc rows (last ++ (125 ∷ [])) r ∙
-      ap (λ (t : List ℕ). rows ++ t) (append_assoc last (125 ∷ []) r))))
+      simp append_assoc
       (mapped l ps _ (rows ++ (last ++ (125 ∷ r))) r (at (123 ∷ (rows ++ (last ++ (125 ∷ r)))) _ begin_map refl refl)
       (printed-pairs l (one_level_more lines) false ps (last ++ (125 ∷ r)) r (omega (arith, n)) h.1
       (last-follows lines (tree_pairs_count ps) 125 r map_ends) (past-token (last ++ (125 ∷ r)) (125 ∷ r) r end_map
@@ -458,8 +447,7 @@ mutual
       let more = notations_on lines (comma_text lines) vs in
       let (s, apart, first) = separated l due lines (notation_on lines v ++ (more ++ x)) (more ++ x) v
       (printed l lines v (more ++ x) (omega (arith, n)) h.0 (more-follow lines vs x f)) in
-      subst (λ (t : List ℕ). BeginsItems l due t (trees.tree v vs) r)
-      (sym (regroup (between due lines) (line_break lines) (notation_on lines v) more x))
+      simp append_assoc
       (item l due v vs _ s (more ++ x) r apart first (printed-items l lines true vs x r (omega (arith, n)) h.1 f end))
 
   printed-pairs : (l : ℕ) (lines : Option ℕ) (due : Bool) (ps : TreePairs) (x r : List ℕ) → depth_of_pairs ps ≤ l →
@@ -471,11 +459,7 @@ mutual
       let rest = notation_on lines v ++ (more ++ x) in
       let (s, apart, first) = separated l due lines (notation_on lines k ++ (58 ∷ 32 ∷ rest)) (58 ∷ 32 ∷ rest) k
       (printed l lines k (58 ∷ 32 ∷ rest) (omega (arith, n)) h.0 colon_ends) in
-      subst (λ (t : List ℕ). BeginsPairs l due t (trees.tree_pair k v ps) r)
-      (sym (regroup (between due lines) (line_break lines) (notation_on lines k)
-      (58 ∷ 32 ∷ (notation_on lines v ++ more)) x ∙
-      ap (λ (t : List ℕ). between due lines ++ (line_break lines ++ (notation_on lines k ++ (58 ∷ 32 ∷ t))))
-      (append_assoc (notation_on lines v) more x)))
+      simp append_assoc
       (pair l due k v ps _ s (58 ∷ 32 ∷ rest) (32 ∷ rest) (more ++ x) r apart first
       (at (58 ∷ 32 ∷ rest) (32 ∷ rest) colon refl refl)
       (past l (32 ∷ rest) rest (more ++ x) v refl

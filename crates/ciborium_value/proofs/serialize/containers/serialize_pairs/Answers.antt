@@ -1,9 +1,9 @@
 -- Pairs are written one after the other, each key before its value.
-use Rattle.std.proofs.{Common.{Some, ap, length, subst, rules, sym}, lemmas.Result.{on_ok_weaker, on_err_weaker}}
+use Rattle.std.proofs.{Common.{Some, ap, length, rules}, lemmas.Result.{on_ok_weaker, on_err_weaker}}
 use Rattle.ciborium_value.proofs.Writing.Progress.{exits, length-in_turn, on_err, owes_begin, owes_broken, owes_ready}
 use Rattle.ciborium_value.proofs.Writing.Progress.{owes_broken_begin, owes_broken_end, owes_can_end, owes_ends}
 use Rattle.ciborium_value.proofs.Writing.Progress.{owes_more, owes_no_pair, owes_owed, owes_pair}
-use Rattle.ciborium_value.specs.{Places.dictionary, Progress.Owes, Sinks.{IsOwed, container_of, in_turn}}
+use Rattle.ciborium_value.specs.{Places.dictionary, Sinks.{IsOwed, container_of, in_turn}}
 use Rattle.ciborium_value.proofs.serialize.containers.serialize_pairs.Goals as goal
 
 pub returns-in_err-begin_map-clause-err : goal.returns-in_err-begin_map-clause-err
@@ -16,9 +16,7 @@ returns-in_err-begin_map-clause-err g c =
 pub loop-pair-init : goal.loop-pair-init
 loop-pair-init g c =
     let ps = c.args.pairs.now.items in
-    subst (λ l. Owes g.S.Sink.stands_at dictionary (Some (length ps)) (in_turn g.K.Serialize.written
-    g.V.Serialize.written ps) c.args.sink.now c.begin_map.new.self (in_turn g.K.Serialize.written g.V.Serialize.written
-    l)) (sym c.deref-pair-items.ensures.value) (owes_begin (ap Some (search rules))
+    rw c.deref-pair-items.ensures.value (owes_begin (ap Some (search rules))
     (length-in_turn g.K.Serialize.written g.V.Serialize.written ps) c.in_ok-begin_map.ensures.ok)
 
 pub serialize-requires : goal.serialize-requires

@@ -1,10 +1,10 @@
 -- A map is written entry by entry, each key before its value.
-use Rattle.std.proofs.{Common.{Some, ap, ◌≡◌, length, subst, rules}, lemmas.Map.Iter.{rest_more, rest_all}}
+use Rattle.std.proofs.{Common.{Some, ap, ◌≡◌, length, rules}, lemmas.Map.Iter.{rest_more, rest_all}}
 use Rattle.std.{proofs.lemmas.Result.{on_ok_weaker, on_err_weaker}, specs.Map.Iter.deref_pair}
 use Rattle.ciborium_value.proofs.Writing.Progress.{exits, length-in_turn, on_err, owes_begin, owes_broken, owes_ready}
 use Rattle.ciborium_value.proofs.Writing.Progress.{owes_broken_begin, owes_broken_end, owes_can_end, owes_ends}
 use Rattle.ciborium_value.proofs.Writing.Progress.{owes_entry, owes_more, owes_no_entry, owes_owed}
-use Rattle.ciborium_value.specs.{Places.dictionary, Progress.Owes, Sinks.{IsOwed, container_of, in_turn}}
+use Rattle.ciborium_value.specs.{Places.dictionary, Sinks.{IsOwed, container_of, in_turn}}
 use Rattle.ciborium_value.proofs.serialize.containers.BTreeMapSerialize.serialize.Goals as goal
 
 pub returns-in_err-begin_map-clause-err : goal.returns-in_err-begin_map-clause-err
@@ -17,10 +17,8 @@ returns-in_err-begin_map-clause-err g c =
 pub loop-key-init : goal.loop-key-init
 loop-key-init g c =
     let es = c.args.self.now.entries in
-    let same : es ≡ c.into_iter-key-iterator.result = search rules in
-    subst (λ l. Owes g.S.Sink.stands_at dictionary (Some (length es)) (in_turn g.K.Serialize.written
-    g.V.Serialize.written es) c.args.sink.now c.begin_map.new.self (in_turn g.K.Serialize.written g.V.Serialize.written
-    l)) same (owes_begin (ap Some c.len.ensures.len) (length-in_turn g.K.Serialize.written g.V.Serialize.written es)
+    let same : c.into_iter-key-iterator.result ≡ es = search rules in
+    rw same (owes_begin (ap Some c.len.ensures.len) (length-in_turn g.K.Serialize.written g.V.Serialize.written es)
     c.in_ok-begin_map.ensures.ok)
 
 pub serialize-requires : goal.serialize-requires

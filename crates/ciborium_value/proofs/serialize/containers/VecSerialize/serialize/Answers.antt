@@ -1,9 +1,9 @@
 -- A list is written item by item.
-use Rattle.std.proofs.{Common.{Some, ap, map, length, subst, rules, sym}, lemmas.Result.{on_ok_weaker, on_err_weaker}}
+use Rattle.std.proofs.{Common.{Some, ap, map, length, rules}, lemmas.Result.{on_ok_weaker, on_err_weaker}}
 use Rattle.ciborium_value.proofs.Writing.Progress.{exits, length-map, on_err, owes_begin, owes_broken, owes_can_end}
 use Rattle.ciborium_value.proofs.Writing.Progress.{owes_broken_begin, owes_broken_end, owes_ends, owes_more}
 use Rattle.ciborium_value.proofs.Writing.Progress.{owes_no_part, owes_owed, owes_part, owes_ready}
-use Rattle.ciborium_value.specs.{Places.sequence, Progress.Owes}
+use Rattle.ciborium_value.specs.{Places.sequence}
 use Rattle.ciborium_value.specs.Sinks.{IsOwed, container_of}
 use Rattle.ciborium_value.proofs.serialize.containers.VecSerialize.serialize.Goals as goal
 
@@ -18,8 +18,7 @@ pub loop-item-init : goal.loop-item-init
 loop-item-init g c =
     let f = g.T.Serialize.written in
     let xs = c.args.self.now.items in
-    subst (λ l. Owes g.S.Sink.stands_at sequence (Some (length xs)) (map f xs) c.args.sink.now c.begin_array.new.self
-    (map f l)) (sym c.deref-item-items.ensures.value)
+    rw c.deref-item-items.ensures.value
     (owes_begin (ap Some (search rules)) (length-map f xs) c.in_ok-begin_array.ensures.ok)
 
 pub serialize-requires : goal.serialize-requires

@@ -1,6 +1,6 @@
 -- A value is written level by level.
-use Rattle.std.proofs.{Common.{IfErr, subst}, lemmas.Result.{on_ok_weaker, on_err_weaker}}
-use Rattle.ciborium_value.specs.Sinks.{AddsNamed, BreaksNamed, IsOwed, named_value, tag_of}
+use Rattle.std.proofs.{Common.subst, lemmas.Result.{on_ok_weaker, on_err_weaker}}
+use Rattle.ciborium_value.specs.Sinks.{AddsNamed, BreaksNamed, named_value, tag_of}
 use Rattle.ciborium_value.proofs.Writing.WrittenValues.{named-Tag, named-Array, named-Map}
 use Rattle.ciborium_value.proofs.serialize.values.ValueSerialize.+serialize.Goals as goal
 
@@ -11,10 +11,8 @@ returns-in-Tag-clause-ok g t c = on_ok_weaker _ (λ h. subst
     (tag_of c.in-Tag.tag (named_value v))) c.deref-in-Tag.ensures h)) c.serialize_tagged.ensures.ok
 
 pub returns-in-Tag-clause-cause : goal.returns-in-Tag-clause-cause
-returns-in-Tag-clause-cause g t c = subst (λ n. IfErr c.serialize_tagged.result (λ e. IsOwed (g.S.Sink.cause e) n))
-    (named-Tag _ _ _ c.in-Tag.is)
-    (subst (λ v. IfErr c.serialize_tagged.result (λ e. IsOwed (g.S.Sink.cause e) (tag_of c.in-Tag.tag (named_value v))))
-    c.deref-in-Tag.ensures c.serialize_tagged.ensures.cause)
+returns-in-Tag-clause-cause g t c =
+    rw (c.deref-in-Tag.ensures, named-Tag _ _ _ c.in-Tag.is) at c.serialize_tagged.ensures.cause
 
 pub returns-in-Tag-clause-err : goal.returns-in-Tag-clause-err
 returns-in-Tag-clause-err g t c = on_err_weaker _ (λ h. subst
@@ -24,29 +22,19 @@ returns-in-Tag-clause-err g t c = on_err_weaker _ (λ h. subst
     (tag_of c.in-Tag.tag (named_value v))) c.deref-in-Tag.ensures h)) c.serialize_tagged.ensures.err
 
 pub returns-in-Array-clause-ok : goal.returns-in-Array-clause-ok
-returns-in-Array-clause-ok g t c = on_ok_weaker _ (subst
-    (AddsNamed g.S.Sink.stands_at c.args.sink.now c.serialize.new.sink) (named-Array _ _ c.in-Array.is))
-    c.serialize.ensures.ok
+returns-in-Array-clause-ok g t c = rw (named-Array _ _ c.in-Array.is) at c.serialize.ensures.ok
 
 pub returns-in-Array-clause-cause : goal.returns-in-Array-clause-cause
-returns-in-Array-clause-cause g t c = subst (λ n. IfErr c.serialize.result (λ e. IsOwed (g.S.Sink.cause e) n))
-    (named-Array _ _ c.in-Array.is) c.serialize.ensures.cause
+returns-in-Array-clause-cause g t c = rw (named-Array _ _ c.in-Array.is) at c.serialize.ensures.cause
 
 pub returns-in-Array-clause-err : goal.returns-in-Array-clause-err
-returns-in-Array-clause-err g t c = on_err_weaker _ (subst
-    (BreaksNamed g.S.Sink.stands_at g.S.Sink.out c.args.sink.now c.serialize.new.sink) (named-Array _ _ c.in-Array.is))
-    c.serialize.ensures.err
+returns-in-Array-clause-err g t c = rw (named-Array _ _ c.in-Array.is) at c.serialize.ensures.err
 
 pub returns-in-Map-clause-ok : goal.returns-in-Map-clause-ok
-returns-in-Map-clause-ok g t c = on_ok_weaker _ (subst
-    (AddsNamed g.S.Sink.stands_at c.args.sink.now c.serialize_pairs.new.sink) (named-Map _ _ c.in-Map.is))
-    c.serialize_pairs.ensures.ok
+returns-in-Map-clause-ok g t c = rw (named-Map _ _ c.in-Map.is) at c.serialize_pairs.ensures.ok
 
 pub returns-in-Map-clause-cause : goal.returns-in-Map-clause-cause
-returns-in-Map-clause-cause g t c = subst (λ n. IfErr c.serialize_pairs.result (λ e. IsOwed (g.S.Sink.cause e) n))
-    (named-Map _ _ c.in-Map.is) c.serialize_pairs.ensures.cause
+returns-in-Map-clause-cause g t c = rw (named-Map _ _ c.in-Map.is) at c.serialize_pairs.ensures.cause
 
 pub returns-in-Map-clause-err : goal.returns-in-Map-clause-err
-returns-in-Map-clause-err g t c = on_err_weaker _ (subst
-    (BreaksNamed g.S.Sink.stands_at g.S.Sink.out c.args.sink.now c.serialize_pairs.new.sink)
-    (named-Map _ _ c.in-Map.is)) c.serialize_pairs.ensures.err
+returns-in-Map-clause-err g t c = rw (named-Map _ _ c.in-Map.is) at c.serialize_pairs.ensures.err
