@@ -11,7 +11,7 @@ use Rattle.ciborium_value.specs.{Meaning.simple_meaning, Nesting.{Limit, IsWithi
 use Rattle.ciborium_value.specs.{Sources.IsFaultOf, Spelling.any, Tree.Tree, View.{read_as, tree_of}}
 use Rattle.ciborium_value.specs.declared.tree.Value.{Value}
 use Rattle.ciborium.proofs.Items.{FrontReads.io-outside, ValueFaults.value-faults, ValuesGiven.value-gives}
-use Rattle.ciborium.proofs.{Readers.WhateverFollows.{ahead-same, so-unread}, Turns.Fronts.{ahead-at, front-fits}}
+use Rattle.ciborium.proofs.{Readers.WhateverFollows.{ahead-same, so-unread}, Turns.Fronts.{Front, ahead-at, front-fits}}
 use Rattle.ciborium.specs.{Errors.{fault_of, io_fault}, ValueAnswers.IsRefusedBy}
 use Rattle.ciborium.specs.{declared.de.error.Error.Error, inner.ByteSources.{MeansTree, is_portable, IsUnreadBy}}
 use Rattle.ciborium.specs.inner.{ByteSources.{known_end, reader_of}, Turns.{IsTreeRead, IsValueRead}}
@@ -157,7 +157,8 @@ portable-ahead E remaining d pending h at l v none is stands =
     so-unread remaining d d (λ f g. ReadSo {E = E} l pending f g (Ok v)) (refl, refl) (λ u xs p ahead.
     let (here, x, r, sp, usable, split, count, left) = subst (λ o. IsAheadBy Some (with_left d u) xs p o) is ahead in
     let (i, spelled, means, flat) = stands x sp in
-    let fits = front-fits xs p h x r (record { spelled = sp; usable = usable; split = split }) in (
+    let front : Front xs p h x r = record { spelled = sp; usable = usable; split = split } in
+    let fits = front-fits front in (
       r,
       p + length x,
       record {

@@ -10,8 +10,8 @@ use Rattle.ciborium_value.specs.{View.tree_of, inner.ReadItems.{ReadsItem, strin
 use Rattle.ciborium_value.proofs.GoodItems.Introduced.{reads-string, reads-open_string}
 use Rattle.ciborium.specs.{declared.de.error.Error.Error, ValueAnswers.IsRefusedBy, inner.Parts.IsHeadAccepted}
 use Rattle.ciborium.specs.{inner.Parts.RefusesPart, inner.StringAnswers.IsStringRead, inner.ValuesInBytes.IsAt}
-use Rattle.ciborium.proofs.{Turns.Fronts.{Front, front-of, string-room, IsNoBreak, no-break}, Turns.Heads.{Got, got}}
-use Rattle.ciborium.proofs.{Turns.Heads.good-head, Turns.Pulled.refused-map}
+use Rattle.ciborium.proofs.Turns.{Fronts.{Front, string-room, IsNoBreak, no-break}, Pulled.refused-map}
+use Rattle.ciborium.proofs.Turns.Heads.{Got, accepted-front, good-head, got}
 use Rattle.ciborium_ll.specs.declared.header.Header.TheVariants as header
 
 -- the head of a string of this length
@@ -78,33 +78,31 @@ module _ (spelling : Spelling) (kind : StringType) (l : ℕ) (xs : List ℕ) (p 
         subst (λ k. ChunksRefuse kind r (p + k) e) (ap length is) refuses,
       )
 
-module _ {S W : Type 0} (kind : StringType) (remaining : S → Option (List ℕ)) (d e : Decoder S W) (l : ℕ) (xs : List ℕ)
-    (p : ℕ) (h : Header) where
-  pub got-string : (spelling : Spelling) (E : Type 0) (len : Option ℕ) (v : Value) →
-      e.pushed ≡ None → h ≡ header_of kind len → ((ys : List ℕ) (q : ℕ) → IsAt remaining d ys q →
+module _ {S W : Type 0} {spelling : Spelling} {remaining : S → Option (List ℕ)} {d : Decoder S W} (e : Decoder S W)
+    (l : ℕ) {xs : List ℕ} {p : ℕ} {h : Header} (E : Type 0) (kind : StringType) (len : Option ℕ)
+    (is : h ≡ header_of kind len) where
+  pub got-string : (v : Value) → e.pushed ≡ None → IsHeadAccepted spelling remaining d h xs p →
+      ((ys : List ℕ) (q : ℕ) → IsAt remaining d ys q →
       IsStringRead {S = S} {E = E} kind remaining e len d.last ys q (Ok v)) →
-      IsHeadAccepted spelling remaining d h xs p → Got spelling remaining e l xs p (tree_of v)
-  got-string spelling E len v pushed is read a =
+      Got spelling remaining e l xs p (tree_of v)
+  got-string v pushed a read =
       let b : List ℕ = a.pulled.0 in
       let r : List ℕ = a.pulled.1 in
-      let u : Front xs p (header_of kind len) b r = front-of remaining d h (header_of kind len) xs p is a.pulled in
       let c = read r (p + length b) a.pulled.6 in
-      got spelling remaining e l xs p (string_tree kind c.1) (tree_of v) c.2 (p + length b + length c.0) pushed c.4
-      (string-reads spelling kind l xs p b r (good-head spelling remaining d h xs p a) E len d.last c.0 c.1 c.2 u c.3
-      c.5
-      c.7) c.6
+      got remaining e pushed c.4 (string-reads spelling kind l xs p b r (good-head a) E len d.last c.0 c.1 c.2
+      (accepted-front is a) c.3 c.5 c.7) c.6
 
-  pub string-fault : (spelling : Spelling) (E : Type 0) (len : Option ℕ) (x : Error E) →
-      h ≡ header_of kind len → ((ys : List ℕ) (q : ℕ) → IsAt remaining d ys q →
+  pub string-fault : (x : Error E) → IsHeadAccepted spelling remaining d h xs p →
+      ((ys : List ℕ) (q : ℕ) → IsAt remaining d ys q →
       IsRefusedBy (left_of remaining e) x (λ r. ContentRefuses kind len d.last ys q r)) →
-      IsHeadAccepted spelling remaining d h xs p → IsRefusedBy (left_of remaining e) x (RefusesPart spelling xs p l)
-  string-fault spelling E len x is read a =
+      IsRefusedBy (left_of remaining e) x (RefusesPart spelling xs p l)
+  string-fault x a read =
       let b : List ℕ = a.pulled.0 in
       let r : List ℕ = a.pulled.1 in
-      let u : Front xs p (header_of kind len) b r = front-of remaining d h (header_of kind len) xs p is a.pulled in
+      let u = accepted-front is a in
       refused-map (left_of remaining e) x (λ f. ContentRefuses kind len d.last r (p + length b) f)
       (RefusesPart spelling xs p l)
       (λ f g. (
-        content-refuses spelling kind l xs p b r (good-head spelling remaining d h xs p a) len d.last f a.pulled.5 u g,
-        no-break xs p (header_of kind len) b r (no-break-kind kind len) u,
+        content-refuses spelling kind l xs p b r (good-head a) len d.last f a.pulled.5 u g,
+        no-break (no-break-kind kind len) u,
       )) (read r (p + length b) a.pulled.6)

@@ -24,8 +24,8 @@ pub front-of : {S W : Type 0} (remaining : S → Option (List ℕ)) (d : Decoder
     h ≡ k → (a : IsPulled remaining d h xs p) → Front xs p k a.0 a.1
 front-of remaining d h k xs p e a = record { spelled = subst (SpellsHeader a.0) e a.2; usable = a.3; split = a.4 }
 
-pub front-fits : (xs : List ℕ) (p : ℕ) (h : Header) (b r : List ℕ) → Front xs p h b r → p + length b ≤ greatest_offset
-front-fits xs p h b r u = by (header-begins b h u.spelled)
+pub front-fits : {xs : List ℕ} {p : ℕ} {h : Header} {b r : List ℕ} → Front xs p h b r → p + length b ≤ greatest_offset
+front-fits {xs} {p} {h} {b} {r} u = by (header-begins b h u.spelled)
   where
     by : answers.Begins b (announced_length h) → p + length b ≤ greatest_offset
     by (m, a, c, i, f) =
@@ -65,9 +65,9 @@ IsNoBreak _ = Unit {0}
 same-none : (h : Header) → IsNoBreak h → h ≡ header.Break → ⊥
 same-none h k e = subst IsNoBreak e k
 
-pub no-break : (xs : List ℕ) (p : ℕ) (h : Header) (b r : List ℕ) → IsNoBreak h → Front xs p h b r → ¬ IsBreakAt xs p
-no-break xs p h b r k u (lt, (s, i)) = same-none h k (one_header_at_front b (break_byte ∷ []) r s h header.Break
-    u.spelled refl (sym u.split ∙ i)).2
+pub no-break : {xs : List ℕ} {p : ℕ} {h : Header} {b r : List ℕ} → IsNoBreak h → Front xs p h b r → ¬ IsBreakAt xs p
+no-break {h = h} {b = b} {r = r} k u (lt, (s, i)) = same-none h k (one_header_at_front b (break_byte ∷ []) r s h
+    header.Break u.spelled refl (sym u.split ∙ i)).2
 
 apart : (e : Refusal) → None ≡ Some e → ⊥
 apart e i = cc

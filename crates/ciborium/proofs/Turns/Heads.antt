@@ -10,7 +10,7 @@ use Rattle.ciborium_value.proofs.GoodItems.Faults.{short-fault, fault-head, faul
 use Rattle.ciborium_value.{proofs.GoodItems.Faults.{fault-simple, fault-undefined}, specs.Refuses.HasGoodHead}
 use Rattle.ciborium_value.specs.{Refuses.Refuses, Spelling.{Spelling, any, deterministic, spelling_fault}, Tree.Tree}
 use Rattle.ciborium_value.specs.{declared.key_order.KeyOrder.KeyOrder, inner.ReadItems.ReadsItem}
-use Rattle.ciborium.proofs.{Readers.WhateverFollows.so-both, Turns.Fronts.{front-of, IsNoBreak, no-break}}
+use Rattle.ciborium.proofs.{Readers.WhateverFollows.so-both, Turns.Fronts.{Front, front-of, IsNoBreak, no-break}}
 use Rattle.ciborium.proofs.Turns.{Fronts.{head-no-break, ahead-at, offset-at, PullsSo}, Pulled.refused-map}
 use Rattle.ciborium.specs.{ValueAnswers.IsRefusedBy, declared.de.error.Error.{Error, TheVariants.Semantic}}
 use Rattle.ciborium.specs.inner.{Parts.{IsHeadAccepted, IsHeadMeasured, RefusesPart}, Rules.{long_fault, counted_fault}}
@@ -43,15 +43,14 @@ abbrev pub Got : {S W : Type 0} → Spelling → (S → Option (List ℕ)) → D
 Got spelling remaining d l xs p t = (zs : List ℕ) × (r : ℕ) × ReadsItem spelling (Some l) xs p t zs r ×
     StandsAt spelling remaining d zs r
 
-pub got : {S W : Type 0} (spelling : Spelling) (remaining : S → Option (List ℕ)) (d : Decoder S W) (l : ℕ) (xs : List ℕ)
-    (p : ℕ) (t u : Tree) (zs : List ℕ) (r : ℕ) → d.pushed ≡ None → u ≡ t → ReadsItem spelling (Some l) xs p t zs r →
+pub got : {S W : Type 0} {spelling : Spelling} (remaining : S → Option (List ℕ)) (d : Decoder S W) {l : ℕ} {xs : List ℕ}
+    {p : ℕ} {t u : Tree} {zs : List ℕ} {r : ℕ} → d.pushed ≡ None → u ≡ t → ReadsItem spelling (Some l) xs p t zs r →
     IsAt remaining d zs r → Got spelling remaining d l xs p u
-got spelling remaining d l xs p t u zs r pushed same item at = (
+got {spelling = spelling} remaining d {l} {xs} {p} {zs = zs} {r = r} pushed same item at = (
   zs,
   r,
   subst (λ v. ReadsItem spelling (Some l) xs p v zs r) (sym same) item,
-  stands-at spelling remaining d r zs
-      pushed at,
+  stands-at spelling remaining d r zs pushed at,
 )
 
 -- ---- what a deterministic spelling finds
@@ -141,15 +140,20 @@ module _ {S W : Type 0} (remaining : S → Option (List ℕ)) (d : Decoder S W) 
       (sym here) (Refuses.bad_head kind a.3 f, other)
     where
       other : ¬ Rattle.ciborium.specs.inner.ValuesInBytes.IsBreakAt xs p
-      other = no-break xs p h a.0 a.1 (faulty h wrong) (front-of remaining d h h xs p refl a)
+      other = no-break (faulty h wrong) (front-of remaining d h h xs p refl a)
         where
           faulty : (k : Header) → deterministic_fault k d.head_len ≡ Some kind → IsNoBreak k
           faulty header.Break e = absurd cc
           faulty k e = tt
 
-pub good-head : {S W : Type 0} (spelling : Spelling) (remaining : S → Option (List ℕ)) (d : Decoder S W) (h : Header)
-    (xs : List ℕ) (p : ℕ) → IsHeadAccepted spelling remaining d h xs p → HasGoodHead spelling xs p
-good-head spelling remaining d h xs p a = (a.pulled.3, good-at remaining d h xs p a.pulled spelling a.right a.sized)
+module _ {S W : Type 0} {spelling : Spelling} {remaining : S → Option (List ℕ)} {d : Decoder S W} {h : Header}
+    {xs : List ℕ} {p : ℕ} where
+  pub good-head : IsHeadAccepted spelling remaining d h xs p → HasGoodHead spelling xs p
+  good-head a = (a.pulled.3, good-at remaining d h xs p a.pulled spelling a.right a.sized)
+
+  pub accepted-front : {k : Header} → h ≡ k → (a : IsHeadAccepted spelling remaining d h xs p) →
+      Front xs p k a.pulled.0 a.pulled.1
+  accepted-front {k} is a = front-of remaining d h k xs p is a.pulled
 
 module _ {S W : Type 0} (spelling : Spelling) (remaining : S → Option (List ℕ)) (d e : Decoder S W) (u v xs : List ℕ)
     (p : ℕ) (stands : StandsAt spelling Some (with_left d u) xs p)
@@ -170,21 +174,27 @@ module _ {S W : Type 0} (spelling : Spelling) (remaining : S → Option (List �
   faulty-head E h l offset kind wrong here pulled = bad-at Some (with_left e v) h xs p pulled spelling E l offset kind
       (Some v) wrong (sized spelling stands) (here ∙ pulled.5)
 
--- what is answered where it is accepted
-module _ {S W : Type 0} (spelling : Spelling) (remaining : S → Option (List ℕ)) (d e : Decoder S W) (h : Header)
-    (size : IsMeasured d → e.counter.count ≡ offset_of d + e.head_len) (right : head_fault spelling h e.head_len ≡ None)
-    (pull : TakesBeforeAny remaining d e (λ d e. PullsSo {E = Unit {0}} Some d e (Ok h))) where
+-- a head was pulled, and the spelling accepts it
+pub record PullsAccepted {S W : Type 0} (spelling : Spelling) (remaining : S → Option (List ℕ)) (d e : Decoder S W)
+    (h : Header) : Type 0 where
+  pub size : IsMeasured d → e.counter.count ≡ offset_of d + e.head_len
+  pub right : head_fault spelling h e.head_len ≡ None
+  pub pull : TakesBeforeAny remaining d e (λ d e. PullsSo {E = Unit {0}} Some d e (Ok h))
+
+-- what is answered then
+module _ {S W : Type 0} {spelling : Spelling} {remaining : S → Option (List ℕ)} {d e : Decoder S W} {h : Header}
+    (a : PullsAccepted spelling remaining d e h) where
   -- by the head alone
   pub part-of-head : (P : List ℕ → List ℕ → ℕ → Type 0) →
       ((z xs : List ℕ) (p : ℕ) → IsHeadAccepted spelling Some (with_left e z) h xs p → P z xs p) →
       Takes remaining d e (λ b. (z xs : List ℕ) (p : ℕ) → StandsAt spelling Some (with_left d (b ++ z)) xs p → P z xs p)
-  part-of-head P f = (
-    pull.0,
-    pull.1,
-    pull.2,
-    λ z xs p s. f z xs p (accepted-head spelling remaining d e (pull.0 ++ z) z xs p s size h right
-        (pull.3 z xs p (ahead-of spelling Some (with_left d (pull.0 ++ z)) xs p s))),
-    pull.4,
+  part-of-head P f = let t = a.pull in (
+    t.0,
+    t.1,
+    t.2,
+    λ z xs p s. f z xs p (accepted-head spelling remaining d e (t.0 ++ z) z xs p s a.size h a.right
+        (t.3 z xs p (ahead-of spelling Some (with_left d (t.0 ++ z)) xs p s))),
+    t.4,
   )
 
   -- by what was read behind it
@@ -194,12 +204,12 @@ module _ {S W : Type 0} (spelling : Spelling) (remaining : S → Option (List �
       Q (with_left e m) (with_left f z) → P z xs p) →
       Takes remaining d f (λ b. (z xs : List ℕ) (p : ℕ) → StandsAt spelling Some (with_left d (b ++ z)) xs p → P z xs p)
   part-behind-head f P Q read g =
-      let t = so-both remaining d e f (λ d e. PullsSo {E = Unit {0}} Some d e (Ok h)) Q pull read in (
+      let t = so-both remaining d e f (λ d e. PullsSo {E = Unit {0}} Some d e (Ok h)) Q a.pull read in (
         t.0,
         t.1,
         t.2,
         λ z xs p s. let m = t.3 z in
-            g m.0 z xs p (accepted-head spelling remaining d e (t.0 ++ z) m.0 xs p s size h right
+            g m.0 z xs p (accepted-head spelling remaining d e (t.0 ++ z) m.0 xs p s a.size h a.right
             (m.1 xs p (ahead-of spelling Some (with_left d (t.0 ++ z)) xs p s))) m.2,
         t.4,
       )

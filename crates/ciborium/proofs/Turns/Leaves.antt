@@ -7,9 +7,10 @@ use Rattle.ciborium_ll.specs.declared.{decoder.Decoder.Decoder, header.Header.He
 use Rattle.ciborium_value.proofs.GoodItems.Introduced.{reads-positive, reads-negative, reads-simple, inside-begun}
 use Rattle.ciborium_value.{proofs.GoodItems.Introduced.reads-container, specs.{Meaning.simple_meaning, Refuses.Due}}
 use Rattle.ciborium_value.specs.{Refuses.{items, keys, BeginsContainer, IsInside, Refuses}, Spelling.Spelling}
-use Rattle.ciborium_value.specs.{Tree.Tree, View.tree_of, inner.ReadItems.ReadsItem}
-use Rattle.ciborium.proofs.Turns.{Fronts.{Front, front-of, front-fits, IsNoBreak, no-break}, Heads.{Got, got}}
-use Rattle.ciborium.{proofs.Turns.Heads.{good-head, stands-at}, specs.ValueAnswers.IsRefusedBy}
+use Rattle.ciborium_value.specs.{Tree.Tree, inner.ReadItems.ReadsItem}
+use Rattle.ciborium.proofs.Turns.Fronts.{Front, front-fits, IsNoBreak, no-break}
+use Rattle.ciborium.proofs.Turns.Heads.{Got, accepted-front, good-head, got, stands-at}
+use Rattle.ciborium.specs.ValueAnswers.{IsRefusedBy}
 use Rattle.ciborium.specs.declared.de.{error.Error.Error, front.Part.{Part, TheVariants.{Whole, Begun, Ended}}}
 use Rattle.ciborium.specs.inner.{Around.IsOpen, Parts.{IsHeadAccepted, IsPartRead, RefusesPart, IsContainerBegun}}
 use Rattle.ciborium.specs.inner.Parts.{IsBehind, container_header, empty_container, begun_container}
@@ -18,47 +19,38 @@ use Rattle.ciborium_ll.specs.declared.header.Header.TheVariants as header
 use Rattle.ciborium_ll.specs.declared.kind.Kind.TheVariants as kinds
 use Rattle.ciborium_value.specs.Tree as trees
 
-module _ {S W : Type 0} (remaining : S → Option (List ℕ)) (d : Decoder S W) (l : ℕ) (xs : List ℕ) (p : ℕ) (h : Header)
-    (pushed : d.pushed ≡ None) where
-  pub got-positive : (spelling : Spelling) (n : ℕ) (t : Tree) → t ≡ trees.integer (pos n) → h ≡ header.Positive n →
-      IsHeadAccepted spelling remaining d h xs p → Got spelling remaining d l xs p t
-  got-positive spelling n t same is a =
-      let u : Front xs p (header.Positive n) a.pulled.0 a.pulled.1 =
-      front-of remaining d h (header.Positive n) xs p is a.pulled in
-      let k : ℕ = length a.pulled.0 in
-      got spelling remaining d l xs p (trees.integer (pos n)) t a.pulled.1 (p + k) pushed same
-      (reads-positive spelling xs p n k (Some l) a.pulled.1 (a.pulled.0, u.spelled, refl, u.split)
-      (good-head spelling remaining d h xs p a).1 (front-fits xs p (header.Positive n) a.pulled.0 a.pulled.1 u))
-      a.pulled.6
+module _ {S W : Type 0} {spelling : Spelling} {remaining : S → Option (List ℕ)} {d : Decoder S W} {xs : List ℕ} {p : ℕ}
+    {h : Header} where
+  -- the head is a whole item
+  got-alone : {l : ℕ} {k : Header} {t u : Tree} → d.pushed ≡ None → u ≡ t → h ≡ k →
+      (a : IsHeadAccepted spelling remaining d h xs p) →
+      (Front xs p k a.pulled.0 a.pulled.1 → p + length a.pulled.0 ≤ greatest_offset →
+      ReadsItem spelling (Some l) xs p t a.pulled.1 (p + length a.pulled.0)) → Got spelling remaining d l xs p u
+  got-alone pushed same is a reads =
+      let u = accepted-front is a in got remaining d pushed same (reads u (front-fits u)) a.pulled.6
 
-  pub got-negative : (spelling : Spelling) (n : ℕ) (t : Tree) → t ≡ trees.integer (negsuc n) → h ≡ header.Negative n →
+  pub got-positive : {l n : ℕ} {t : Tree} → d.pushed ≡ None → t ≡ trees.integer (pos n) → h ≡ header.Positive n →
       IsHeadAccepted spelling remaining d h xs p → Got spelling remaining d l xs p t
-  got-negative spelling n t same is a =
-      let u : Front xs p (header.Negative n) a.pulled.0 a.pulled.1 =
-      front-of remaining d h (header.Negative n) xs p is a.pulled in
-      let k : ℕ = length a.pulled.0 in
-      got spelling remaining d l xs p (trees.integer (negsuc n)) t a.pulled.1 (p + k) pushed same
-      (reads-negative spelling xs p n k (Some l) a.pulled.1 (a.pulled.0, u.spelled, refl, u.split)
-      (good-head spelling remaining d h xs p a).1 (front-fits xs p (header.Negative n) a.pulled.0 a.pulled.1 u))
-      a.pulled.6
+  got-positive {l} {n} pushed same is a = got-alone pushed same is a (λ u. reads-positive spelling xs p n
+      (length a.pulled.0) (Some l) a.pulled.1 (a.pulled.0, u.spelled, refl, u.split) (good-head a).1)
 
-  pub got-simple : (spelling : Spelling) (n : ℕ) (t : Tree) → simple_meaning n ≡ Some t → h ≡ header.Simple n →
+  pub got-negative : {l n : ℕ} {t : Tree} → d.pushed ≡ None → t ≡ trees.integer (negsuc n) → h ≡ header.Negative n →
       IsHeadAccepted spelling remaining d h xs p → Got spelling remaining d l xs p t
-  got-simple spelling n t means is a =
-      let u : Front xs p (header.Simple n) a.pulled.0 a.pulled.1 =
-      front-of remaining d h (header.Simple n) xs p is a.pulled in
-      got spelling remaining d l xs p t t a.pulled.1 (p + length a.pulled.0) pushed refl
-      (reads-simple spelling xs p (Some l) a.pulled.0 n a.pulled.1 t u.spelled u.split means
-      (good-head spelling remaining d h xs p a).1 (front-fits xs p (header.Simple n) a.pulled.0 a.pulled.1 u))
-      a.pulled.6
+  got-negative {l} {n} pushed same is a = got-alone pushed same is a (λ u. reads-negative spelling xs p n
+      (length a.pulled.0) (Some l) a.pulled.1 (a.pulled.0, u.spelled, refl, u.split) (good-head a).1)
 
-  pub got-end : (spelling : Spelling) → h ≡ header.Break → IsHeadAccepted spelling remaining d h xs p → (zs : List ℕ) ×
+  pub got-simple : {l n : ℕ} {t : Tree} → d.pushed ≡ None → simple_meaning n ≡ Some t → h ≡ header.Simple n →
+      IsHeadAccepted spelling remaining d h xs p → Got spelling remaining d l xs p t
+  got-simple {l} {n} {t} pushed means is a = got-alone pushed refl is a (λ u. reads-simple spelling xs p (Some l)
+      a.pulled.0 n a.pulled.1 t u.spelled u.split means (good-head a).1)
+
+  pub got-end : d.pushed ≡ None → h ≡ header.Break → IsHeadAccepted spelling remaining d h xs p → (zs : List ℕ) ×
       (xs ≡ break_byte ∷ zs) × (p < greatest_offset) × StandsAt spelling remaining d zs (p + 1)
-  got-end spelling is a =
+  got-end pushed is a =
       let r : List ℕ = a.pulled.1 in
-      let u : Front xs p header.Break a.pulled.0 r = front-of remaining d h header.Break xs p is a.pulled in
+      let u = accepted-front is a in
       let size : length a.pulled.0 ≡ 1 = ap length u.spelled in
-      let fit = front-fits xs p header.Break a.pulled.0 r u in (
+      let fit = front-fits u in (
         r,
         u.split ∙ ap (λ (z : List ℕ). z ++ r) u.spelled,
         omega (arith, size, fit),
@@ -66,6 +58,8 @@ module _ {S W : Type 0} (remaining : S → Option (List ℕ)) (d : Decoder S W) 
             (stands-at spelling remaining d (p + length a.pulled.0) r pushed a.pulled.6),
       )
 
+module _ {S W : Type 0} (remaining : S → Option (List ℕ)) (d : Decoder S W) (l : ℕ) (xs : List ℕ) (p : ℕ) (h : Header)
+    (pushed : d.pushed ≡ None) where
   -- ---- arrays and maps
 
   abbrev due_of : Bool → Option ℕ → Due
@@ -118,23 +112,20 @@ module _ {S W : Type 0} (remaining : S → Option (List ℕ)) (d : Decoder S W) 
       q = p + length a.pulled.0
 
       u : Front xs p (container_header is_map count) a.pulled.0 a.pulled.1
-      u = front-of remaining d h (container_header is_map count) xs p is a.pulled
+      u = accepted-front is a
 
       inside : (m : ℕ) → IsInside spelling xs p (Some (suc m)) [] a.pulled.1 (p + length a.pulled.0)
           (due_of is_map count) (Some m)
       inside m = (inside-begun spelling xs p (length a.pulled.0) (Some (suc m)) (Some m) a.pulled.1
-          (due_of is_map count) (good-head spelling remaining d h xs p a)
-          (opens is_map count a.pulled.0 a.pulled.1 u) refl
-          (front-fits xs p (container_header is_map count) a.pulled.0 a.pulled.1 u)).0
+          (due_of is_map count) (good-head a) (opens is_map count a.pulled.0 a.pulled.1 u) refl (front-fits u)).0
 
       by : (x : Result Part (Error E)) → IsContainerBegun is_map count l x → IsPartRead spelling remaining d l xs p x
       by (Ok (Whole v)) (none, some, same) =
           let less : l ≡ suc (l - 1) = omega (arith, some) in
-          got spelling remaining d l xs p (empty_container is_map) (tree_of v) r q pushed same
+          got remaining d pushed same
           (subst (λ n. ReadsItem spelling (Some n) xs p (empty_container is_map) r q) (sym less)
-          (empty-item spelling is_map (l - 1) r q
-          (subst (λ c. IsInside spelling xs p (Some (suc (l - 1))) [] r q (due_of is_map c) (Some (l - 1))) none
-          (inside (l - 1))))) a.pulled.6
+          (empty-item spelling is_map (l - 1) r q (subst (λ c. IsInside spelling xs p (Some (suc (l - 1))) [] r q
+          (due_of is_map c) (Some (l - 1))) none (inside (l - 1))))) a.pulled.6
       by (Ok (Begun f)) (some, behind, same, left) =
           let less : l ≡ suc (l - 1) = omega (arith, some) in (
             r,
@@ -151,31 +142,27 @@ module _ {S W : Type 0} (remaining : S → Option (List ℕ)) (d : Decoder S W) 
       by (Err e) (none, same) =
           subst (λ z. IsRefusedBy (left_of remaining d) z (RefusesPart spelling xs p l)) (sym same) (
             subst (λ n. Refuses spelling xs p (Some n) recursion_limit_exceeded) (sym none)
-                (Refuses.no_level (length a.pulled.0) r (due_of is_map count) (good-head spelling remaining d h xs p a)
+                (Refuses.no_level (length a.pulled.0) r (due_of is_map count) (good-head a)
                 (opens is_map count a.pulled.0 r u)),
-            no-break xs p (container_header is_map count) a.pulled.0 r (no-container-break is_map count) u,
+            no-break (no-container-break is_map count) u,
           )
 
 -- ---- what has no meaning by itself
 
-module _ {S W : Type 0} (remaining : S → Option (List ℕ)) (d : Decoder S W) (l : ℕ) (xs : List ℕ) (p : ℕ)
-    (h : Header) where
-  pub simple-refuses : (spelling : Spelling) (n : ℕ) → simple_meaning n ≡ None → h ≡ header.Simple n →
+module _ {S W : Type 0} {spelling : Spelling} {remaining : S → Option (List ℕ)} {d : Decoder S W} {l : ℕ} {xs : List ℕ}
+    {p : ℕ} {h : Header} where
+  pub simple-refuses : {n : ℕ} → simple_meaning n ≡ None → h ≡ header.Simple n →
       IsHeadAccepted spelling remaining d h xs p → RefusesPart spelling xs p l (semantic p kinds.Simple)
-  simple-refuses spelling n none is a =
-      let u : Front xs p (header.Simple n) a.pulled.0 a.pulled.1 =
-      front-of remaining d h (header.Simple n) xs p is a.pulled in (
-        Refuses.simple a.pulled.0 n a.pulled.1 u.usable u.spelled none u.split,
-        no-break xs p (header.Simple n) a.pulled.0 a.pulled.1 tt u,
-      )
+  simple-refuses {n} none is a =
+      let u = accepted-front is a in
+      (Refuses.simple a.pulled.0 n a.pulled.1 u.usable u.spelled none u.split, no-break tt u)
 
-  pub float-refuses : (spelling : Spelling) (n : ℕ) → h ≡ header.Float n → IsHeadAccepted spelling remaining d h xs p →
+  pub float-refuses : {n : ℕ} → h ≡ header.Float n → IsHeadAccepted spelling remaining d h xs p →
       RefusesPart spelling xs p l (semantic p kinds.Float)
-  float-refuses spelling n is a =
-      (by a.pulled.0 u.spelled u.split, no-break xs p (header.Float n) a.pulled.0 a.pulled.1 tt u)
+  float-refuses {n} is a = (by a.pulled.0 u.spelled u.split, no-break tt u)
     where
       u : Front xs p (header.Float n) a.pulled.0 a.pulled.1
-      u = front-of remaining d h (header.Float n) xs p is a.pulled
+      u = accepted-front is a
 
       at : (x : ℕ) (raw : List ℕ) → xs ≡ (x ∷ raw) ++ a.pulled.1 → 0xf9 ≤ x → x ≤ 0xfb →
           Refuses spelling xs p (Some l) (semantic p kinds.Float)

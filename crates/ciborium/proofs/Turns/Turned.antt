@@ -1,7 +1,8 @@
 -- The answers of one turn.
 use Rattle.std.proofs.Common.{◌≡◌, ℕ, zero, suc, ◌+◌, ◌-◌, ◌<◌, ◌≤◌, List, [], ◌∷◌, ◌++◌, length, Option, Some, None}
 use Rattle.std.proofs.Common.{Result, Ok, Err, IfOk, MatchOption, IsSome, refl, sym, ap, ◌∙◌, subst, arith, inl, inr}
-use Rattle.ciborium_ll.specs.{Bytes.greatest_offset, Decoding.{offset_of, left_of}, Head.break_byte, Refusal.semantic}
+use Rattle.ciborium_ll.specs.{Bytes.greatest_offset, Decoding.{Takes, TakesBeforeAny, left_of, offset_of, with_left}}
+use Rattle.ciborium_ll.specs.{Head.break_byte, Refusal.semantic}
 use Rattle.ciborium_ll.specs.declared.{decoder.Decoder.Decoder, kind.Kind.TheVariants.Break}
 use Rattle.ciborium_value.{proofs.GoodItems.Steps.opened-has, specs.{Refuses.Refuses, Spelling.Spelling, Tree.Tree}}
 use Rattle.ciborium_value.specs.{View.{tree_of, trees_from, tree_pairs_from}, declared.stack.NewFrame.NewFrame}
@@ -17,27 +18,33 @@ use Rattle.ciborium_value.specs.Tree as trees
 
 -- a value was placed, and its key judged
 turned : {S W E : Type 0} (spelling : Spelling) (remaining : S → Option (List ℕ)) (e : Decoder S W)
-    (os after : List TreeFrame) (l : ℕ) (xs : List ℕ) (p m : ℕ) (ys : List ℕ) (q : ℕ) (v : Tree) (zs : List ℕ)
-    (r end : ℕ) (x : Result (Option Value) (Error E)) → end ≡ r →
-    IsAround spelling l xs p os m ys q → ReadsItem spelling (Some m) ys q v zs r → StandsAt spelling remaining e zs r →
+    (os after : List TreeFrame) (l : ℕ) (xs : List ℕ) (p : ℕ) {m : ℕ} {ys : List ℕ} {q : ℕ} {v : Tree} {zs : List ℕ}
+    {r : ℕ} (end : ℕ) (x : Result (Option Value) (Error E)) → end ≡ r → IsAround spelling l xs p os m ys q →
+    ReadsItem spelling (Some m) ys q v zs r → StandsAt spelling remaining e zs r →
     IsPlacedInOrder spelling os v end after x → IsTurned spelling remaining e after l xs p x
-turned spelling remaining e os after l xs p m ys q v zs r end (Ok None) same a i stands (is, rises) =
-    let k = kept spelling l xs p after zs r (subst (λ (w : Placed). Lands spelling w l xs p zs r) (sym is)
-    (landed spelling l xs p os m ys q v zs r a i)) rises in
-    (k.0, zs, r, k.1, stands)
-turned spelling remaining e os after l xs p m ys q v zs r end (Ok (Some w)) same a i stands is = (
-  zs,
-  r,
-  subst (λ (u : Placed). Lands spelling u l xs p zs r) (sym is) (landed spelling l xs p os m ys q v zs r a i),
-  ahead-of spelling remaining e zs r stands,
-)
-turned spelling remaining e os after l xs p m ys q v zs r end (Err x) same a i stands (inl memory) =
-    subst (λ f. IsRefusedBy (left_of remaining e) f (Refuses spelling xs p (Some l))) (sym memory) tt
-turned spelling remaining e os after l xs p m ys q v zs r end (Err x) same a i stands (inr (is, (at, never, error))) =
-    subst (λ f. IsRefusedBy (left_of remaining e) f (Refuses spelling xs p (Some l))) (sym error)
-    (disordered spelling l xs p after zs end at (subst (λ n. LandsIn spelling after l xs p zs n) (sym same)
-    (subst (λ (w : Placed). Lands spelling w l xs p zs r) (sym is) (landed spelling l xs p os m ys q v zs r a i)))
-    never)
+turned {E = E} spelling remaining e os after l xs p {m} {ys} {q} {v} {zs} {r} end x same a i stands = by x
+  where
+    lands : Lands spelling (placed os v) l xs p zs r
+    lands = landed spelling l xs p os m ys q v zs r a i
+
+    by : (x : Result (Option Value) (Error E)) → IsPlacedInOrder spelling os v end after x →
+        IsTurned spelling remaining e after l xs p x
+    by (Ok None) (is, rises) =
+        let k = kept spelling l xs p after zs r (subst (λ (w : Placed). Lands spelling w l xs p zs r) (sym is) lands)
+        rises in
+        (k.0, zs, r, k.1, stands)
+    by (Ok (Some w)) is = (
+      zs,
+      r,
+      subst (λ (u : Placed). Lands spelling u l xs p zs r) (sym is) lands,
+      ahead-of spelling remaining e zs r stands,
+    )
+    by (Err x) (inl memory) =
+        subst (λ f. IsRefusedBy (left_of remaining e) f (Refuses spelling xs p (Some l))) (sym memory) tt
+    by (Err x) (inr (is, (at, never, error))) =
+        subst (λ f. IsRefusedBy (left_of remaining e) f (Refuses spelling xs p (Some l))) (sym error)
+        (disordered spelling l xs p after zs end at (subst (λ n. LandsIn spelling after l xs p zs n) (sym same)
+        (subst (λ (w : Placed). Lands spelling w l xs p zs r) (sym is) lands)) never)
 
 ends-not : (os : List TreeFrame) → closed os ≡ None → EndsHere os → ⊥
 ends-not os e h = let no = subst (λ o. IsSome o) e h in absurd cc
@@ -52,12 +59,7 @@ broken spelling l xs p os m ys q zs a none is less =
     (Refuses.break {p = q} {b = zs} (opened-has 7 q zs refl less)) in
     refused-turn spelling l xs p os m ys q (semantic q Break) a refuses (λ h. absurd (ends-not os none h))
 
--- ---- what `next` answers, wherever the decoder stands
-
-abbrev pub Answers : {S W E : Type 0} → Spelling → (S → Option (List ℕ)) → Decoder S W → Decoder S W → ℕ →
-    Result Part (Error E) → Type 0
-Answers spelling remaining d e l x = (xs : List ℕ) (p : ℕ) → StandsAt spelling remaining d xs p →
-    IsPartRead spelling remaining e l xs p x
+-- ---- what `next` answers
 
 levels-left : (spelling : Spelling) (l : ℕ) (xs : List ℕ) (p : ℕ) (os : List TreeFrame) (m : ℕ) (ys : List ℕ) (q : ℕ) →
     IsAround spelling l xs p os m ys q → length os + m ≡ l
@@ -68,61 +70,88 @@ left : (spelling : Spelling) (l : ℕ) (xs : List ℕ) (p : ℕ) (os : List Tree
     IsAround spelling l xs p os m zs r → l - length os ≡ m
 left spelling l xs p os m zs r a = omega (arith, levels-left spelling l xs p os m zs r a)
 
+-- what it answers where reading stands, and what is unfinished around that
+pub record IsTold {S W : Type 0} (spelling : Spelling) (remaining : S → Option (List ℕ)) (e : Decoder S W)
+    (os : List TreeFrame) (l : ℕ) (xs : List ℕ) (p : ℕ) (y : Result Part (Error (Unit {0}))) : Type 0 where
+  m : ℕ
+  ys : List ℕ
+  q : ℕ
+  around : IsAround spelling l xs p os m ys q
+  part : IsPartRead spelling remaining e m ys q y
+
+-- a turn answers by that, whatever follows what it takes
+pub turn-by : {S W : Type 0} (spelling : Spelling) (remaining : S → Option (List ℕ)) (d e : Decoder S W)
+    (os : List TreeFrame) (l n : ℕ) {x y : Result Part (Error (Unit {0}))} (P : List ℕ → List ℕ → ℕ → Type 0) →
+    n ≡ length os → x ≡ y → TakesBeforeAny remaining d e (λ d e. (xs : List ℕ) (p : ℕ) →
+    StandsAt spelling Some d xs p → IsPartRead spelling Some e (l - n) xs p x) →
+    ((z xs : List ℕ) (p : ℕ) → IsTold spelling Some (with_left e z) os l xs p y → P z xs p) →
+    Takes remaining d e (λ b. (z xs : List ℕ) (p : ℕ) → IsReading spelling Some (with_left d (b ++ z)) os l xs p →
+    P z xs p)
+turn-by spelling remaining d e os l n {x} P depth same t f = (
+  t.0,
+  t.1,
+  t.2,
+  λ z xs p (m, ys, q, around, stands). f z xs p (record {
+    m = m;
+    ys = ys;
+    q = q;
+    around = around;
+    part = subst (λ r. IsPartRead spelling Some (with_left e z) m ys q r) same
+        (subst (λ k. IsPartRead spelling Some (with_left e z) k ys q x)
+        (ap (λ k. l - k) depth ∙ left spelling l xs p os m ys q around) (t.3 z ys q stands));
+  }),
+  t.4,
+)
+
 -- ---- the answers of a turn
 
-module _ {S W E : Type 0} (spelling : Spelling) (remaining : S → Option (List ℕ)) (d e : Decoder S W)
-    (os : List TreeFrame)
-    (l : ℕ) (xs : List ℕ) (p : ℕ) (n : ℕ) (depth : n ≡ length os) (x y : Result Part (Error E)) (same : x ≡ y)
-    (answers : Answers spelling remaining d e (l - n) x) (s : IsReading spelling remaining d os l xs p) where
-  here : IsPartRead spelling remaining e s.0 s.1 s.2 y
-  here = subst (λ z. IsPartRead spelling remaining e s.0 s.1 s.2 z) same
-      (subst (λ m. IsPartRead spelling remaining e m s.1 s.2 x)
-      (ap (λ k. l - k) depth ∙ left spelling l xs p os s.0 s.1 s.2 s.3) (answers s.1 s.2 s.4))
+module _ {S W : Type 0} {spelling : Spelling} {remaining : S → Option (List ℕ)} {e : Decoder S W} {os : List TreeFrame}
+    {l : ℕ} {xs : List ℕ} {p : ℕ} where
+  pub turn-refused : {f : Error (Unit {0})} → IsTold spelling remaining e os l xs p (Err f) →
+      IsRefusedBy (left_of remaining e) f (Refuses spelling xs p (Some l))
+  turn-refused {f} s = refused-map (left_of remaining e) f (RefusesPart spelling s.ys s.q s.m)
+      (Refuses spelling xs p (Some l)) (λ r h. refused-turn spelling l xs p os s.m s.ys s.q r s.around h.0 (λ _. h.1))
+      s.part
 
-  pub turn-refused : (f : Error E) → y ≡ Err f → IsRefusedBy (left_of remaining e) f (Refuses spelling xs p (Some l))
-  turn-refused f is = refused-map (left_of remaining e) f (RefusesPart spelling s.1 s.2 s.0)
-      (Refuses spelling xs p (Some l)) (λ r h. refused-turn spelling l xs p os s.0 s.1 s.2 r s.3 h.0 (λ _. h.1))
-      (subst (λ z. IsPartRead spelling remaining e s.0 s.1 s.2 z) is here)
+  pub turn-whole : {v : Value} (after : List TreeFrame) (end : ℕ) (z : Result (Option Value) (Error (Unit {0}))) →
+      end ≡ offset_of e → IsPlacedInOrder spelling os (tree_of v) end after z →
+      IsTold spelling remaining e os l xs p (Ok (Whole v)) → IsTurned spelling remaining e after l xs p z
+  turn-whole after end z at placed s =
+      let a = s.part in
+      turned spelling remaining e os after l xs p end z (at ∙ stands-offset spelling remaining e a.1 a.0 a.3) s.around
+      a.2 a.3 placed
 
-  pub turn-whole : (v : Value) (after : List TreeFrame) (end : ℕ) (z : Result (Option Value) (Error E)) →
-      y ≡ Ok (Whole v) → end ≡ offset_of e → IsPlacedInOrder spelling os (tree_of v) end after z →
-      IsTurned spelling remaining e after l xs p z
-  turn-whole v after end z is at placed =
-      let a = subst (λ z. IsPartRead {E = E} spelling remaining e s.0 s.1 s.2 z) is here in
-      turned spelling remaining e os after l xs p s.0 s.1 s.2 (tree_of v) a.0 a.1 end z
-      (at ∙ stands-offset spelling remaining e a.1 a.0 a.3) s.3 a.2 a.3 placed
-
-  pub turn-begun : (f : NewFrame) (after : List TreeFrame) → y ≡ Ok (Begun f) → after ≡ begun_frame f ∷ os →
-      IsReading spelling remaining e after l xs p
-  turn-begun f after is now =
-      let a = subst (λ z. IsPartRead {E = E} spelling remaining e s.0 s.1 s.2 z) is here in
+  pub turn-begun : {f : NewFrame} (after : List TreeFrame) → after ≡ begun_frame f ∷ os →
+      IsTold spelling remaining e os l xs p (Ok (Begun f)) → IsReading spelling remaining e after l xs p
+  turn-begun after now s =
+      let a = s.part in
       let (m, more_levels, inside) = a.2 in (
         m,
         a.0,
         a.1,
         subst (λ us. IsAround spelling l xs p us m a.0 a.1) (sym now)
-            (s.1, s.2, subst (λ k. IsAround spelling l xs p os k s.1 s.2) more_levels s.3, inside),
+            (s.ys, s.q, subst (λ k. IsAround spelling l xs p os k s.ys s.q) more_levels s.around, inside),
         a.3,
       )
 
-  pub turn-ended : (v : Value) (between after : List TreeFrame) (end : ℕ) (z : Result (Option Value) (Error E)) →
-      y ≡ Ok Ended → closed os ≡ Some (tree_of v, between) → end ≡ offset_of e →
-      IsPlacedInOrder spelling between (tree_of v) end after z → IsTurned spelling remaining e after l xs p z
-  turn-ended v between after end z is ends at placed =
-      let a = subst (λ z. IsPartRead {E = E} spelling remaining e s.0 s.1 s.2 z) is here in
-      let (m, ys, q, around, item) = closed-item spelling l xs p os between s.0 s.1 s.2 (tree_of v) a.0 s.3 ends a.1 a.2
-      in
-      turned spelling remaining e between after l xs p m ys q (tree_of v) a.0 (s.2 + 1) end z
-      (at ∙ stands-offset spelling remaining e (s.2 + 1) a.0 a.3) around item a.3 placed
+  pub turn-ended : (v : Value) {between : List TreeFrame} (after : List TreeFrame) (end : ℕ)
+      (z : Result (Option Value) (Error (Unit {0}))) → closed os ≡ Some (tree_of v, between) → end ≡ offset_of e →
+      IsPlacedInOrder spelling between (tree_of v) end after z → IsTold spelling remaining e os l xs p (Ok Ended) →
+      IsTurned spelling remaining e after l xs p z
+  turn-ended v {between} after end z ends at placed s =
+      let a = s.part in
+      let (m, ys, q, around, item) =
+      closed-item spelling l xs p os between s.m s.ys s.q (tree_of v) a.0 s.around ends a.1 a.2 in
+      turned spelling remaining e between after l xs p end z
+      (at ∙ stands-offset spelling remaining e (s.q + 1) a.0 a.3) around item a.3 placed
 
-  pub turn-break : (offset : ℕ) → y ≡ Ok Ended → closed os ≡ None → offset ≡ offset_of e - 1 →
-      Refuses spelling xs p (Some l) (semantic offset Break)
-  turn-break offset is none at =
-      let a = subst (λ z. IsPartRead {E = E} spelling remaining e s.0 s.1 s.2 z) is here in
-      let end = stands-offset spelling remaining e (s.2 + 1) a.0 a.3 in
-      let place : offset ≡ s.2 = omega (arith, at, end) in
-      subst (λ k. Refuses spelling xs p (Some l) (semantic k Break)) (sym place)
-      (broken spelling l xs p os s.0 s.1 s.2 a.0 s.3 none a.1 a.2)
+  pub turn-break : {offset : ℕ} → closed os ≡ None → offset ≡ offset_of e - 1 →
+      IsTold spelling remaining e os l xs p (Ok Ended) → Refuses spelling xs p (Some l) (semantic offset Break)
+  turn-break none at s =
+      let a = s.part in
+      let end = stands-offset spelling remaining e (s.q + 1) a.0 a.3 in
+      subst (λ k. Refuses spelling xs p (Some l) (semantic k Break)) (omega (arith, at, end))
+      (broken spelling l xs p os s.m s.ys s.q a.0 s.around none a.1 a.2)
 
 -- ---- how many are unfinished
 

@@ -1,8 +1,9 @@
-use Rattle.std.proofs.Common.{◌++◌, Some, Ok, Err, ap, sym, ◌∙◌, subst}
+use Rattle.std.proofs.Common.{◌≡◌, None, Some, Ok, Err, ap, sym, ◌∙◌, subst}
 use Rattle.ciborium_ll.{proofs.Decoders.unread-with, specs.Decoding.{ReadsNothing, with_left}}
 use Rattle.ciborium.proofs.{Exits.passed_on, Readers.WhateverFollows.{so-both, so-unread}, Turns.AfterTag.BignumSo}
 use Rattle.ciborium.proofs.Turns.AfterTag.{bignum-refused, got-bignum, tag-faulty, tag-no-level, tag-begun, tag-refused}
 use Rattle.ciborium.{proofs.Turns.Fronts.PullsSo, specs.inner.{Parts.IsFolding, Rules.head_fault}}
+use Rattle.ciborium.proofs.de.tags.read_tag.{Given.Over, Goals.In_default-find_head_fault}
 use Rattle.ciborium.proofs.de.tags.read_tag.Goals as goal
 
 pub returns-in_err-next-clause-part : goal.returns-in_err-next-clause-part
@@ -12,8 +13,8 @@ returns-in_err-next-clause-part g c =
       t.0,
       t.1,
       t.2,
-      λ z xs p a here. tag-refused Some (with_left c.args.decoder.now (t.0 ++ z)) c.args.tag c.args.levels xs p
-          c.requires g.S.Rules.spelling Unit (with_left c.pull.new.decoder z) c.in_err-next.field-0.0 (t.3 z) a,
+      λ z xs p a here. tag-refused c.args.levels c.requires a (with_left c.pull.new.decoder z) c.in_err-next.field-0.0
+          (t.3 z),
       t.4,
     )
 
@@ -23,14 +24,18 @@ returns-in-Some-find_head_fault-clause-part g c =
       t.0,
       t.1,
       t.2,
-      λ z xs p a here. tag-faulty Some (with_left c.args.decoder.now (t.0 ++ z)) c.args.tag c.args.levels xs p
-          c.requires Unit (with_left c.pull.new.decoder z) c.in_ok-next.next c.in-Some.n (t.3 z) c.in-Some.ensures
-          c.in_ok-next.ensures.measured
-          g.S.Rules.spelling c.offset-at.result c.in-Some-find_head_fault.kind
+      λ z xs p a here. tag-faulty c.args.levels c.requires a Unit (with_left c.pull.new.decoder z) (t.3 z)
+          c.in-Some.ensures c.in_ok-next.ensures.measured
           (sym (c.find_head_fault.ensures ∙ ap (head_fault g.S.Rules.spelling c.in_ok-next.next) c.head_len.ensures)
-          ∙ c.in-Some-find_head_fault.is) c.offset-at.ensures a,
+          ∙ c.in-Some-find_head_fault.is) c.offset-at.ensures,
       t.4,
     )
+
+-- the head of the string over which the tag folds is accepted, and its bytes are read
+folding : (g : Over) (c : In_default-find_head_fault g) → head_fault g.S.Rules.spelling c.in_ok-next.next
+    c.pull.new.decoder.head_len ≡ None
+folding g c = sym (c.find_head_fault.ensures ∙ ap (head_fault g.S.Rules.spelling c.in_ok-next.next) c.head_len.ensures)
+    ∙ c.in_default-find_head_fault.is
 
 pub returns-in_err-value-clause-part : goal.returns-in_err-value-clause-part
 returns-in_err-value-clause-part g c =
@@ -43,12 +48,9 @@ returns-in_err-value-clause-part g c =
       t.1,
       t.2,
       λ z xs p a here. let m = t.3 z in
-          bignum-refused Some (with_left c.args.decoder.now (t.0 ++ z)) c.args.tag c.args.levels xs p c.requires Unit
-          (with_left c.pull.new.decoder m.0) c.in_ok-next.next c.in-Some.n m.1 c.in-Some.ensures
+          bignum-refused c.args.levels c.requires a Unit (with_left c.pull.new.decoder m.0) m.1 c.in-Some.ensures
           c.in_ok-next.ensures.measured
-          g.S.Rules.spelling (with_left c.read_bignum.new.decoder z) c.args.offset c.in_err-value.field-0.0 here
-          (sym (c.find_head_fault.ensures ∙ ap (head_fault g.S.Rules.spelling c.in_ok-next.next) c.head_len.ensures) ∙
-          c.in_default-find_head_fault.is) m.2 a,
+          (folding g (goal.at.returns-in_err-value-clause-part g c).In_default-find_head_fault) (with_left c.read_bignum.new.decoder z) c.in_err-value.field-0.0 here m.2,
       t.4,
     )
 
@@ -62,13 +64,9 @@ returns-in-Some-clause-part g c =
       t.1,
       t.2,
       λ z xs p a here. let m = t.3 z in
-          got-bignum Some (with_left c.args.decoder.now (t.0 ++ z)) c.args.tag c.args.levels xs p c.requires Unit
-          (with_left c.pull.new.decoder m.0) c.in_ok-next.next c.in-Some.n m.1 c.in-Some.ensures
-          c.in_ok-next.ensures.measured
-          g.S.Rules.spelling (with_left c.read_bignum.new.decoder z) c.args.offset c.in_ok-value.value
-          c.read_bignum.ensures.pushed
-          (sym (c.find_head_fault.ensures ∙ ap (head_fault g.S.Rules.spelling c.in_ok-next.next) c.head_len.ensures) ∙
-          c.in_default-find_head_fault.is) m.2 a,
+          got-bignum c.args.levels c.requires a Unit (with_left c.pull.new.decoder m.0) m.1 c.in-Some.ensures
+          c.in_ok-next.ensures.measured (folding g (goal.at.returns-in-Some-clause-part g c).In_default-find_head_fault)
+          (with_left c.read_bignum.new.decoder z) c.args.offset c.in_ok-value.value c.read_bignum.ensures.pushed m.2,
       t.4,
     )
 
@@ -78,10 +76,9 @@ returns-then-levels-eq0-clause-part g c =
       t.0,
       t.1,
       t.2,
-      λ z xs p a here. tag-no-level Some (with_left c.args.decoder.now (t.0 ++ z)) c.args.tag c.args.levels xs p
-          c.requires g.S.Rules.spelling Unit (with_left c.pull.new.decoder z) c.in_ok-next.next
-          (t.3 z) (subst (λ o. IsFolding c.args.tag c.in_ok-next.next o) c.in_default.is c.find_folding.ensures)
-          c.if-levels-eq0.true a,
+      λ z xs p a here. tag-no-level c.args.levels c.requires a Unit (with_left c.pull.new.decoder z) (t.3 z)
+          (subst (λ o. IsFolding c.args.tag c.in_ok-next.next o) c.in_default.is c.find_folding.ensures)
+          c.if-levels-eq0.true,
       t.4,
     )
 
@@ -96,11 +93,9 @@ returns-clause-part g c =
       t.1,
       t.2,
       λ z xs p a here. let m = t.3 z in
-          tag-begun Some (with_left c.args.decoder.now (t.0 ++ z)) c.args.tag c.args.levels xs p c.requires
-          g.S.Rules.spelling Unit (with_left c.pull.new.decoder m.0) (with_left c.push.new.self z) c.in_ok-next.next
-          c.offset-at.result
-          m.1 (subst (λ o. IsFolding c.args.tag c.in_ok-next.next o) c.in_default.is c.find_folding.ensures)
-          c.if-levels-eq0.false c.offset-at.ensures
-          m.2 c.push.ensures.pushed c.push.ensures.head_len c.in_ok-next.ensures.measured a,
+          tag-begun c.args.levels c.requires a Unit (with_left c.pull.new.decoder m.0) m.1 (with_left c.push.new.self z)
+          (subst (λ o. IsFolding c.args.tag c.in_ok-next.next o) c.in_default.is c.find_folding.ensures)
+          c.if-levels-eq0.false c.offset-at.ensures m.2 c.push.ensures.pushed c.push.ensures.head_len
+          c.in_ok-next.ensures.measured,
       t.4,
     )
