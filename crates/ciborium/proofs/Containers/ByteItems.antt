@@ -3,16 +3,15 @@ use Rattle.std.proofs.Common.{◌≡◌, ◌≢◌, ℕ, ◌<◌, ◌≤◌, Boo
 use Rattle.std.proofs.Common.{arith, Ok, Err, refl, sym, ap, ◌∙◌, subst, append_assoc, append-nil}
 use Rattle.ciborium_ll.{proofs.UniqueSpelling.one_at_front, specs.{Header.SpellsHeader, Item.Item, Spells.Spells}}
 use Rattle.ciborium_ll.specs.declared.{header.Header.Header, kind.Kind.Kind, strings.StringType.StringType}
-use Rattle.ciborium.proofs.Containers.EnteredContainers.{HasItems, IsEntered, array-entered, entered-kept, items-stand}
 use Rattle.ciborium.proofs.Containers.{EnteredContainers.within-is, NextParts.{fits-past, none-past}}
 use Rattle.ciborium.proofs.Items.BareHeads.{head-denied, nested-denied, other-denied, string-denied, string-read}
-use Rattle.ciborium.proofs.Items.{ItemHeads.{header_of, by-shape, no-bare-tag}, SkippedTags.reads-whole}
+use Rattle.ciborium.proofs.Items.{ItemHeads.{HasItems, by-shape, header_of, no-bare-tag}, SkippedTags.reads-whole}
 use Rattle.ciborium.proofs.Items.{SkippedTags.untagged-under, TakenOnly.{IsKept, kept-reader, rest-end}}
 use Rattle.ciborium.{proofs.Items.Weights.{entered-fewer, taken-fewer}, specs.declared.de.byte_source.ByteSeq.ByteSeq}
 use Rattle.ciborium.specs.declared.de.{byte_source.ByteSource.ByteSource, error.Error.Error}
 use Rattle.ciborium.specs.{declared.de.error.Error.TheVariants.RecursionLimitExceeded, inner.ByteSources.fault_at}
 use Rattle.ciborium.specs.inner.ByteSources.{AnswersItem, PassesItem, IsUnread, StandsBefore, SeqStands, SeqOwes}
-use Rattle.ciborium.specs.inner.ByteSources.{EntersItemsUnread, ReadsRest, RefusesRest, HasTaken, HasTakenSince}
+use Rattle.ciborium.specs.inner.ByteSources.{ReadsRest, RefusesRest, HasTaken, HasTakenSince}
 use Rattle.ciborium.specs.inner.ByteSources.{ReadsBareHead, bytes_weight, end_at, reader_of, weight_left}
 use Rattle.ciborium.specs.inner.{FrontItems.{Reads, Denies, DeniesItem}, Skips.{under, AreSkipped, IsBare, TakesBare}}
 use Rattle.ciborium.specs.inner.{StringContents.{DeniesContent, TakesContent, head_of, string_item}, Unread.IsRest}
@@ -24,6 +23,7 @@ use Rattle.ciborium_value.specs.{Given.{given_integer, given_byte, given_bytes, 
 use Rattle.ciborium_value.specs.{Places.sequence, Sources.{Fault, of_kind, IsFaultOf, TakesAhead, RefusesAhead}}
 use Rattle.ciborium_value.specs.Sources.{TakesItem, TakesTo, GoesOn, Leaves, RefusesNext, OwesLess, OwesNothing}
 use Rattle.ciborium_value.specs.{Sources.{HasItem, TakesOneItem, TakesOnly}, lemmas.GivenOutcomes.and_take}
+use Rattle.ciborium.proofs.Containers.EnteredContainers.{HasEnteredItems, parts-owed, parts-stand}
 use Rattle.ciborium_ll.specs.declared.header.Header.TheVariants as header
 use Rattle.ciborium_ll.specs.declared.kind.Kind.TheVariants as kinds
 
@@ -223,51 +223,26 @@ bytes-given m some ts i xs (o, js, is, all) =
     ap (λ ys. outcome (deeper (Some m)) (take_each given_byte ys)) all
 
 -- an array was entered whose items are read as bytes
-pub record HasBegunArray {S W : Type 0} (remaining : S → Option (List ℕ)) (old mid : ByteSource S W)
-    (q : ByteSeq) : Type 0
-  where
-    pub kept : IsKept remaining old mid
-    pub levels : q.levels ≡ old.levels
-    pub none : mid.pending ≡ None
-    pub fewer : weight_left mid < weight_left old
-    pub opens : EntersItemsUnread remaining old mid given_bytes (λ span is. take_each given_byte is) q
-
-pub array-begun : {S W : Type 0} (can_fail : Bool) (remaining : S → Option (List ℕ)) (old mid new : ByteSource S W)
-    (count : Option ℕ) (q : ByteSeq) (h : Header) (offset : ℕ) → h ≡ header.Array count →
-    TakesBare (IsUnread remaining) old mid false h → ReadsBareHead can_fail remaining old mid false (Ok (h, offset)) →
-    IsEntered mid new count q → q.levels ≡ mid.levels → HasBegunArray remaining old new q
-array-begun can_fail remaining old mid new count q h offset is head reads entered back =
-    let (same, behind, less) = entered-kept new count q entered reads in record {
-      kept = same;
-      levels = back ∙ reads.levels;
-      none = behind;
-      fewer = omega (arith, less);
-      opens = array-entered remaining old mid new count q reads.levels entered given_bytes
-          (λ span is. take_each given_byte is) (subst (TakesBare (IsUnread remaining) old mid false) is head)
-          (bytes-given old.levels (λ z. entered.2 (reads.levels ∙ z)));
-    }
-
-module _ {S W : Type 0} (remaining : S → Option (List ℕ)) (old mid : ByteSource S W) (q : ByteSeq)
-    (begun : HasBegunArray remaining old mid q) where
-  pub array-takes : (new : ByteSource S W) (v : List ℕ) →
-      ReadsRest remaining mid new q (take_each given_byte) v → TakesAhead (StandsBefore remaining) old new given_bytes v
-  array-takes new v reads l i f st =
-      let (span, is, give, stands, holds) = items-stand remaining old mid q begun.kept begun.levels begun.none
-      begun.fewer given_bytes (λ span its. take_each given_byte its) begun.opens l i f st in
+module _ {S W : Type 0} {remaining : S → Option (List ℕ)} {old mid : ByteSource S W} {q : ByteSeq}
+    (begun : HasEnteredItems remaining old mid given_bytes (λ span is. take_each given_byte is) q)
+    (new : ByteSource S W) where
+  pub array-takes : {v : List ℕ} → ReadsRest remaining mid new q (take_each given_byte) v →
+      TakesAhead (StandsBefore remaining) old new given_bytes v
+  array-takes reads l i f st =
+      let (span, is, give, stands, holds) = parts-stand begun l i f st in
       let (e, past) = reads l span is f stands holds in
       (give ∙ e, past)
 
   pub array-refuses : (fault : Fault) → RefusesRest remaining mid q (take_each given_byte) fault →
       RefusesAhead (StandsBefore remaining) old given_bytes fault
   array-refuses fault denied l i f st =
-      let (span, is, give, stands, holds) = items-stand remaining old mid q begun.kept begun.levels begun.none
-      begun.fewer given_bytes (λ span its. take_each given_byte its) begun.opens l i f st in
+      let (span, is, give, stands, holds) = parts-stand begun l i f st in
       subst (λ o. IsFaultOf (end_of f) fault o) (sym give) (denied l span is f stands holds)
 
-  pub array-took : (new : ByteSource S W) → TakesTo (IsUnread remaining) mid new
+  pub array-took : TakesTo (IsUnread remaining) mid new
       (λ c z. (b : List ℕ) → SeqOwes q sequence b c → HasItem b z) → TakesItem (IsUnread remaining) old new
-  array-took new took b u =
-      let (w, un, owes, rest) = begun.opens b u in
+  array-took took b u =
+      let (w, un, owes) = parts-owed begun b u in
       let (z, un', done) = took w un in
       (z, un', done b owes)
 
@@ -300,12 +275,14 @@ module _ {S W A : Type 0} {can_fail : Bool} {remaining : S → Option (List ℕ)
         (other-denied remaining old taken mid h head k blames)
 
     -- no level is left for what it begins
-    pub nested-refuses : (new : ByteSource S W) {e : Error (Unit {0})} (k : Header) → h ≡ k →
+    pub nested-refuses : (new : ByteSource S W) {e : Error (Unit {0})} (k : Header) → h ≡ k → mid.levels ≡ 0 →
         e ≡ RecursionLimitExceeded → ((ts : List ℕ) (i : Item) → AreSkipped false ts → header_of i ≡ k →
-        outcome (Some old.levels) (taken (under ts i)) ≡ nests) →
+        outcome (Some 0) (taken (under ts i)) ≡ nests) →
         RefusesAhead (StandsBefore remaining) old taken (fault_at can_fail remaining new e)
-    nested-refuses new {e} k is err nested = refuses-denied remaining old taken (fault_at can_fail remaining new e)
-        (nested-denied remaining old taken mid h head can_fail new k is e err nested)
+    nested-refuses new {e} k is none err nested = refuses-denied remaining old taken (fault_at can_fail remaining new e)
+        (nested-denied remaining old taken mid h head can_fail new k is e err
+        (λ ts i all same. ap (λ n. outcome (Some n) (taken (under ts i))) (sym reads.levels ∙ none) ∙
+        nested ts i all same))
 
     -- the payload of the string that it begins was refused
     pub string-refuses : (fault : Fault) (kind : StringType) (len : Option ℕ) → h ≡ head_of kind len →

@@ -1,6 +1,6 @@
 -- Keys of a map, which are read by the head with which they begin.
 use Rattle.std.proofs.Common.{◌≡◌, ◌≤◌, ◌+◌, ◌++◌, ◌∙◌, List, None, Option, Some, append_assoc, ap, false, length, refl}
-use Rattle.std.proofs.Common.{sym, subst, ℕ}
+use Rattle.std.proofs.Common.{sym, subst, ℕ, Bool, Result, Ok, Err, arith}
 use Rattle.ciborium_ll.specs.{Header.SpellsHeader, Item.{Item, text, unsigned}, Spells.Spells}
 use Rattle.ciborium_ll.specs.declared.{header.Header.Header, strings.StringType.StringType}
 use Rattle.ciborium_value.{proofs.Sources.Sequences.fault_map, specs.Given.{Given, gives, mapped, outcome}}
@@ -9,9 +9,15 @@ use Rattle.ciborium_value.specs.{Places.is_open, Sources.{Fault, IsFaultOf, Take
 use Rattle.ciborium.proofs.{Containers.NextParts.aside-unread, Items.ItemHeads.{header_of, same-head}}
 use Rattle.ciborium.proofs.Items.{SkippedTags.{bare-head, denies-item, denies-of-item, skips-none}, TakenOnly.same-end}
 use Rattle.ciborium.{proofs.Payloads.StringPayloads.denies-string, specs.declared.de.byte_source.ByteSource.ByteSource}
-use Rattle.ciborium.specs.inner.ByteSources.{CountsHead, HasTaken, IsUnread, end_at, head_label_type}
+use Rattle.ciborium.specs.inner.ByteSources.{CountsHead, HasTaken, IsUnread, end_at, head_label_type, IsUnreadBy}
 use Rattle.ciborium.specs.inner.{FrontItems.{Denies, DeniesHead, Reads, TakesHead}, StringContents.DeniesContent}
 use Rattle.ciborium.specs.inner.StringContents.{TakesPlace}
+use Rattle.ciborium.proofs.Items.TakenOnly.{IsKept}
+use Rattle.ciborium.proofs.Items.Weights.{taken-fewer}
+use Rattle.ciborium.proofs.Containers.ByteItems.{TakesOne, takes-given, takes-denied}
+use Rattle.ciborium.specs.inner.ByteSources.{AnswersItem, PassesItem, bytes_weight, fault_at, head_weight, weight_left}
+use Rattle.ciborium.specs.declared.de.error.Error.{Error}
+use Rattle.ciborium_value.specs.declared.labels.LabelType.{LabelType}
 use Rattle.ciborium_ll.specs.declared.header.Header.TheVariants as header
 
 -- the head tells how the key is read
@@ -32,10 +38,10 @@ denies-mapped IsUnread End old l taken f fault denied b s z i end u sp e fits =
 -- ---- the key whose head was taken
 
 module _ {S W P : Type 0} (remaining : S → Option (List ℕ)) (old : ByteSource S W) (place : Label → P) where
-  abbrev pub IsKey : ByteSource S W → P → Type 0
+  abbrev IsKey : ByteSource S W → P → Type 0
   IsKey new = Reads (IsUnread remaining) old new (Some old.levels) (label_place place)
 
-  abbrev pub IsNoKey : Fault → Type 0
+  abbrev IsNoKey : Fault → Type 0
   IsNoKey = Denies (IsUnread remaining) (end_at remaining) old (Some old.levels) (label_place place)
 
   -- none was
@@ -44,72 +50,98 @@ module _ {S W P : Type 0} (remaining : S → Option (List ℕ)) (old : ByteSourc
       fault (denies-item (IsUnread remaining) (end_at remaining) old old false fault (λ b u. refl)
       (skips-none (IsUnread remaining) old false) denied)
 
-  module _ (mid : ByteSource S W) (h : Header) (head : TakesHead (IsUnread remaining) old mid h) where
-    -- the head is the whole of it
-    pub key-whole : (i : Item) (v : P) → ((x : List ℕ) → SpellsHeader x h → Spells x i) →
-        outcome (Some old.levels) (label_place place i) ≡ gives v → IsKey mid v
-    key-whole i v make give b u = let (x, y, hd, e, un) = head b u in (i, x, y, make x hd, e, give, un)
+-- it was, at offset p
+pub record HasHead {S W : Type 0} (remaining : S → Option (List ℕ)) (old mid : ByteSource S W) (h : Header) (p : ℕ) :
+    Type 0 where
+  pub kept : IsKept remaining old mid
+  pub levels : mid.levels ≡ old.levels
+  pub pending : mid.pending ≡ None
+  pub fewer : bytes_weight mid + head_weight h ≤ weight_left old
+  pub head : TakesHead (IsUnread remaining) old mid h
+  pub counted : CountsHead (IsUnread remaining) old mid (h, p)
 
-    module _ (len : Option ℕ) (is : h ≡ header.Text len) where
-      -- it is a text, whose payload was taken
-      pub key-text : (new : ByteSource S W) (v : P) →
-          TakesPlace (IsUnread remaining mid) (IsUnread remaining new) StringType.Text len (name_place place) v → IsKey
-          new v
-      key-text new v (payload, content, same) b u =
-          let (x, y, hd, e, un) = head b u in
-          let (c, z, make, f, un') = content y un in (
-            text (is_open len) payload,
-            x ++ c,
-            z,
-            make x (subst (SpellsHeader x) is hd),
-            e ∙ ap (λ (r : List ℕ). x ++ r) f ∙ sym (append_assoc x c z),
-            ap gives (sym same),
-            un',
-          )
+module _ {S W P : Type 0} (can_fail : Bool) {remaining : S → Option (List ℕ)} {old mid : ByteSource S W} {h : Header}
+    {p : ℕ} (k : HasHead remaining old mid h p) (place : Label → P) where
+  -- what is answered behind it, with what was taken since
+  abbrev Answered : ByteSource S W → Result P (Error (Unit {0})) → Type 0
+  Answered new = TakesOne can_fail remaining old new (label_place place) (λ v. v)
 
-      -- or refused
-      pub no-key-text : TakesOnly (HasTaken remaining) old.decoder mid.decoder → (fault : Fault) →
-          DeniesContent (IsUnread remaining mid) (end_at remaining mid) StringType.Text len fault → IsNoKey fault
-      no-key-text only fault = denies-string (IsUnread remaining) (end_at remaining) (Some old.levels)
-          (label_place place) old mid StringType.Text len fault (same-end remaining old mid only)
-          (bare-head (IsUnread remaining) old mid false (header.Text len)
-          (subst (TakesHead (IsUnread remaining) old mid) is head))
+  -- the head is the whole of the key
+  pub whole-key : (i : Item) {v : P} → ((x : List ℕ) → SpellsHeader x h → Spells x i) →
+      outcome (Some old.levels) (label_place place i) ≡ gives v → Answered mid (Ok v)
+  whole-key i make give = takes-given can_fail remaining k.kept k.levels k.pending
+      (taken-fewer old mid mid h (omega arith) k.pending k.fewer)
+      (λ b u. let (x, y, hd, e, un) = k.head b u in (i, x, y, make x hd, e, give, un))
 
-    -- the head is put aside, and the key is read as it tells
-    module _ (p : ℕ) (none : mid.pending ≡ None) (counted : CountsHead (IsUnread remaining) old mid (h, p))
-        (levels : mid.levels ≡ old.levels) where
-      abbrev aside : ByteSource S W
-      aside = record mid { pending = Some (h, p) }
+  module _ (len : Option ℕ) (is : h ≡ header.Text len) where
+    -- it is a text, whose payload was taken
+    pub text-key : {new : ByteSource S W} {v : P} → IsKept remaining mid new → new.levels ≡ mid.levels →
+        new.pending ≡ None → bytes_weight new ≤ bytes_weight mid →
+        TakesPlace (IsUnread remaining mid) (IsUnread remaining new) StringType.Text len (name_place place) v →
+        Answered new (Ok v)
+    text-key {new} {v} kept levels none fewer (payload, content, same) = takes-given can_fail remaining
+        (kept.0 ∙ k.kept.0, λ first t. kept.1 first (k.kept.1 first t)) (levels ∙ k.levels) none
+        (taken-fewer old mid new h fewer none k.fewer)
+        (λ b u.
+        let (x, y, hd, e, un) = k.head b u in
+        let (c, z, make, f, un') = content y un in (
+          text (is_open len) payload,
+          x ++ c,
+          z,
+          make x (subst (SpellsHeader x) is hd),
+          e ∙ ap (λ (r : List ℕ). x ++ r) f ∙ sym (append_assoc x c z),
+          ap gives (sym same),
+          un',
+        ))
 
-      told : (b : List ℕ) → IsUnread remaining old b → IsUnread remaining aside b ×
-          ((i : Item) (s z : List ℕ) → Spells s i → b ≡ s ++ z → head_label_type h ≡ label_type i)
-      told b u =
-          let (x, y, hd, e, un) = head b u in (
-            aside-unread remaining mid.decoder mid.pending h p b x y none hd e (counted b x y u hd e) un,
-            λ i s z sp f. label-head h i (same-head s z x y i h sp hd (sym f ∙ e)).0,
-          )
+    -- or refused
+    pub no-text-key : {new : ByteSource S W} {e : Error (Unit {0})} →
+        TakesOnly (HasTaken remaining) mid.decoder new.decoder → weight_left new ≤ weight_left mid →
+        DeniesContent (IsUnread remaining mid) (end_at remaining mid) StringType.Text len
+        (fault_at can_fail remaining new e) → Answered new (Err e)
+    no-text-key {new} {e} only no_more denied = takes-denied can_fail remaining
+        (λ first t. only first (k.kept.1 first t))
+        (let fewer = taken-fewer old mid mid h (omega arith) k.pending k.fewer in omega (arith, no_more, fewer))
+        (denies-string (IsUnread remaining) (end_at remaining) (Some old.levels) (label_place place) old mid
+        StringType.Text len (fault_at can_fail remaining new e) (same-end remaining old mid k.kept.1)
+        (bare-head (IsUnread remaining) old mid false (header.Text len)
+        (subst (TakesHead (IsUnread remaining) old mid) is k.head)) denied)
 
-      pub key-of-kind : (new : ByteSource S W) (v : P) → Reads (IsUnread remaining) aside new (Some mid.levels)
-          (placed place (head_label_type h)) v → IsKey new v
-      key-of-kind new v read b u =
-          let (un, tells) = told b u in
-          let (i, s, z, sp, f, give, un') = read b un in (
-            i,
-            s,
-            z,
-            sp,
-            f,
-            subst (λ n. outcome (Some n) (label_place place i) ≡ gives v) levels
-                (subst (λ k. outcome (Some mid.levels) (placed place k i) ≡ gives v) (tells i s z sp f) give),
-            un',
-          )
+  -- the head is put aside, and the key is read as it tells
+  abbrev aside : mid.decoder.pushed ≡ None → ByteSource S W
+  aside none = record mid { pending = Some (h, p); unpushed = none }
 
-      pub no-key-of-kind : TakesOnly (HasTaken remaining) old.decoder mid.decoder → (fault : Fault) →
-          Denies (IsUnread remaining) (end_at remaining) aside (Some mid.levels) (placed place (head_label_type h))
-          fault → IsNoKey fault
-      no-key-of-kind only fault denied b s z i end u sp f fits =
-          let (un, tells) = told b u in
-          let within = subst (λ n. n ≤ end + length z) (sym (same-end remaining old mid only b u)) fits in
-          subst (λ n. IsFaultOf end fault (outcome (Some n) (label_place place i))) levels
-          (subst (λ k. IsFaultOf end fault (outcome (Some mid.levels) (placed place k i))) (tells i s z sp f)
-          (denied b s z i end un sp f within))
+  told : (b : List ℕ) → IsUnread remaining old b → IsUnreadBy remaining mid.decoder (Some (h, p)) b ×
+      ((i : Item) (s z : List ℕ) → Spells s i → b ≡ s ++ z → head_label_type h ≡ label_type i)
+  told b u =
+      let (x, y, hd, e, un) = k.head b u in (
+        aside-unread remaining mid.decoder mid.pending h p b x y k.pending hd e (k.counted b x y u hd e) un,
+        λ i s z sp f. label-head h i (same-head s z x y i h sp hd (sym f ∙ e)).0,
+      )
+
+  pub told-key : {none : mid.decoder.pushed ≡ None} {new : ByteSource S W} (r : Result P (Error (Unit {0}))) →
+      PassesItem remaining (aside none) new r → (kind : LabelType) → kind ≡ head_label_type h →
+      AnswersItem can_fail remaining (aside none) new (Some mid.levels) (placed place kind) (λ v. v) r → Answered new r
+  told-key (Ok v) keeps kind is read = takes-given can_fail remaining
+      (keeps.same_reader ∙ k.kept.0, λ first t. keeps.only first (k.kept.1 first t)) (keeps.levels ∙ k.levels)
+      keeps.pending (omega (arith, k.fewer, keeps.fewer)) (λ b u.
+      let (un, tells) = told b u in
+      let (i, s, z, sp, f, give, un') = read b un in (
+        i,
+        s,
+        z,
+        sp,
+        f,
+        subst (λ n. outcome (Some n) (label_place place i) ≡ gives v) k.levels
+            (subst (λ t. outcome (Some mid.levels) (placed place t i) ≡ gives v) (is ∙ tells i s z sp f) give),
+        un',
+      ))
+  told-key {new = new} (Err e) keeps kind is denied = takes-denied can_fail remaining
+      (λ first t. keeps.only first (k.kept.1 first t)) (omega (arith, k.fewer, keeps.no_more)) (λ b s z i end u sp f
+      fits.
+      let (un, tells) = told b u in
+      let within = subst (λ n. n ≤ end + length z) (sym (same-end remaining old mid k.kept.1 b u)) fits in
+      let fault = fault_at can_fail remaining new e in
+      subst (λ n. IsFaultOf end fault (outcome (Some n) (label_place place i))) k.levels
+      (subst (λ t. IsFaultOf end fault (outcome (Some mid.levels) (placed place t i))) (is ∙ tells i s z sp f)
+      (denied b s z i end un sp f within)))

@@ -2,7 +2,7 @@
 use Rattle.std.proofs.Common.{◌≡◌, ◌≢◌, ℕ, Bool, false, List, [], ◌∷◌, ◌++◌, Option, Some, None, refl, sym, ap, ◌∙◌}
 use Rattle.std.proofs.Common.{subst, append_assoc, append-nil, arith, inl, length-append}
 use Rattle.std.{proofs.lemmas.Str.is_utf8-from_IsUtf8, specs.Str.{is_utf8, IsUtf8}}
-use Rattle.ciborium_ll.{proofs.{OneHeader.one_header_at_front, UniqueSpelling.one_at_front}, specs.Header.SpellsHeader}
+use Rattle.ciborium_ll.{proofs.UniqueSpelling.one_at_front, specs.Header.SpellsHeader}
 use Rattle.ciborium_ll.specs.Item.{Item, unsigned, negative, bytes, text, array, tag, simple, float, Pairs, no_pairs}
 use Rattle.ciborium_ll.specs.{Item.{pair, pairs_count}, Spells.Spells, declared.decoder.Decoder.Decoder}
 use Rattle.ciborium_ll.specs.declared.{header.Header.Header, strings.StringType.StringType}
@@ -11,7 +11,7 @@ use Rattle.ciborium_value.specs.Given.{nests, deeper, untagged, outcome_map, giv
 use Rattle.ciborium_value.specs.{Given.{bare_variant, outcome, settled}, Nesting.Limit, Places.is_open, Sources.Fault}
 use Rattle.ciborium_value.specs.Sources.{IsFaultOf, of_kind}
 use Rattle.ciborium.proofs.{Containers.EnteredContainers.within-is, Items.ItemHeads.{header_of, same-head, by-shape}}
-use Rattle.ciborium.proofs.Items.{ItemHeads.{no-bare-tag, size_of}, SkippedTags.untagged-under}
+use Rattle.ciborium.proofs.Items.{ItemHeads.{behind-head, no-bare-tag, size_of}, SkippedTags.untagged-under}
 use Rattle.ciborium.specs.inner.{ByteSources.IsUnreadBy, FrontItems.{Reads, Denies}, Skips.{under, AreSkipped, IsBare}}
 use Rattle.ciborium.specs.inner.{Skips.{TakesBare, EntersLevelUnread}, StringContents.TakesContent}
 use Rattle.ciborium_ll.specs.declared.header.Header.TheVariants as header
@@ -110,20 +110,18 @@ pair-front s r x y i sp hd e = by i sp (same-head s r x y i (header.Map (Some 1)
   where
     by : (i : Item) → Spells s i → header_of i ≡ header.Map (Some 1) → (k : Item) × (v : Item) × (a : List ℕ) ×
         (d : List ℕ) × (i ≡ items.map false (pair k v no_pairs)) × Spells a k × Spells d v × (y ≡ a ++ (d ++ r))
-    by (items.map false (pair k v no_pairs)) (c, (a, d, q, ska, sdv, none, f), (hh, g, w)) h =
-        let o = one_header_at_front hh x (c ++ r) y (header.Map (Some 1)) (header.Map (Some 1)) g hd
-        (sym (append_assoc hh c r) ∙ ap (λ (z : List ℕ). z ++ r) (sym w) ∙ e) in (
-          k,
-          v,
-          a,
-          d,
-          refl,
-          ska,
-          sdv,
-          sym o.1 ∙ ap (λ (z : List ℕ). z ++ r)
-              (f ∙ ap (λ (z : List ℕ). a ++ (d ++ z)) none ∙ ap (λ (z : List ℕ). a ++ z) (append-nil d)) ∙
-              append_assoc a d r,
-        )
+    by (items.map false (pair k v no_pairs)) (c, (a, d, q, ska, sdv, none, f), (hh, g, w)) h = (
+      k,
+      v,
+      a,
+      d,
+      refl,
+      ska,
+      sdv,
+      (behind-head s r x y hh c (header.Map (Some 1)) (header.Map (Some 1)) g hd w e).1 ∙ ap (λ (z : List ℕ). z ++ r)
+          (f ∙ ap (λ (z : List ℕ). a ++ (d ++ z)) none ∙ ap (λ (z : List ℕ). a ++ z) (append-nil d)) ∙
+          append_assoc a d r,
+    )
     by _ sp h = cc
 
 module _ {S : Type 0} (IsUnread : S → List ℕ → Type 0) (old mid inner new : S) (m : ℕ) (some : m ≢ 0)
@@ -188,17 +186,15 @@ other-pairs : (l : Limit) (h : Header) → (h ≡ header.Map (Some 1) → ⊥) �
 other-pairs l h q false (pair k v no_pairs) e = absurd (q e)
 other-pairs l h q u v e = refl
 
-pub text-nests : (m : ℕ) (len : Option ℕ) → m ≡ 0 → (ts : List ℕ) (i : Item) → AreSkipped false ts →
-    header_of i ≡ header.Text len → outcome (Some m) (given_variant (under ts i)) ≡ nests
-text-nests m len z ts i all e = ap (λ n. outcome (Some n) (given_variant (under ts i))) z ∙
-    ap (λ j. outcome (Some 0) (bare_variant j)) (untagged-under ts i) ∙
+pub text-nests : (len : Option ℕ) (ts : List ℕ) (i : Item) → AreSkipped false ts → header_of i ≡ header.Text len →
+    outcome (Some 0) (given_variant (under ts i)) ≡ nests
+text-nests len ts i all e = ap (λ j. outcome (Some 0) (bare_variant j)) (untagged-under ts i) ∙
     by-shape (λ j. outcome (Some 0) (bare_variant (untagged j)) ≡ nests) (header.Text len) (λ n k. cc) (λ n k. cc)
     (λ o b k. cc) (λ o b k. refl) (λ o is k. cc) (λ o ps k. cc) (λ n k. cc) (λ raw k. cc) (λ t j k. cc) i e
 
-pub pair-nests : (m : ℕ) → m ≡ 0 → (ts : List ℕ) (i : Item) → AreSkipped false ts → header_of i ≡ header.Map (Some 1) →
-    outcome (Some m) (given_variant (under ts i)) ≡ nests
-pair-nests m z ts i all e = ap (λ n. outcome (Some n) (given_variant (under ts i))) z ∙
-    ap (λ j. outcome (Some 0) (bare_variant j)) (untagged-under ts i) ∙
+pub pair-nests : (ts : List ℕ) (i : Item) → AreSkipped false ts → header_of i ≡ header.Map (Some 1) →
+    outcome (Some 0) (given_variant (under ts i)) ≡ nests
+pair-nests ts i all e = ap (λ j. outcome (Some 0) (bare_variant j)) (untagged-under ts i) ∙
     by-shape (λ j. outcome (Some 0) (bare_variant (untagged j)) ≡ nests) (header.Map (Some 1)) (λ n k. cc) (λ n k. cc)
     (λ o b k. cc) (λ o b k. cc) (λ o is k. cc) pair-only (λ n k. cc) (λ raw k. cc) (λ t j k. cc) i e
 

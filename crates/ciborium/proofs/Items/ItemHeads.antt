@@ -6,7 +6,7 @@ use Rattle.ciborium_ll.specs.{Header.announced_length, Item.{Item, Items, Pairs,
 use Rattle.ciborium_ll.specs.{Item.{array, tag, simple, float, items_count, pairs_count}, Spells.{Spells, SpellsItems}}
 use Rattle.ciborium_ll.specs.{Spells.SpellsPairs, declared.header.Header.Header}
 use Rattle.ciborium_value.specs.Given.{unpack, unpack_pairs}
-use Rattle.ciborium.specs.inner.{Skips.IsBare, Unread.{AreSpelled, SpellsPair}}
+use Rattle.ciborium.specs.inner.{Skips.IsBare, Unread.{AreSpelled, HasCount, SpellsPair, ending, span_of}}
 use Rattle.ciborium_ll.specs.declared.header.Header.TheVariants as header
 use Rattle.ciborium_ll.specs.Item as items
 
@@ -76,14 +76,27 @@ first-payload s (bytes false b) (x, h, a, e) = let k : length b ≤ length b = o
 first-payload s (text false b) (x, h, a, e) = let k : length b ≤ length b = omega arith in k
 first-payload s u v = nothing _
 
+-- what stands behind the head of a spelling stands behind whatever head is at the front
+pub behind-head : (s r x y a c : List ℕ) (k h : Header) → SpellsHeader a k → SpellsHeader x h → s ≡ a ++ c →
+    s ++ r ≡ x ++ y → (a ≡ x) × (y ≡ c ++ r) × (k ≡ h)
+behind-head s r x y a c k h g hd f e =
+    let o = one_header_at_front a x (c ++ r) y k h g hd
+    (sym (append_assoc a c r) ∙ ap (λ (z : List ℕ). z ++ r) (sym f) ∙ e) in (o.0, sym o.1, o.2)
+
+-- and behind that of an open container its parts, and the break
+pub behind-open : (s r x y c : List ℕ) (m : ℕ) (h : Header) → SpellsHeader (open_byte m ∷ []) h → SpellsHeader x h →
+    s ≡ open_byte m ∷ (c ++ (break_byte ∷ [])) → s ++ r ≡ x ++ y → y ≡ c ++ (break_byte ∷ r)
+behind-open s r x y c m h g hd f e =
+    (behind-head s r x y (open_byte m ∷ []) (c ++ (break_byte ∷ [])) h h g hd f e).1 ∙
+    append_assoc c (break_byte ∷ []) r
+
 -- the head at the front is that of the item
 pub same-head : (s r x y : List ℕ) (i : Item) (h : Header) → Spells s i → SpellsHeader x h → s ++ r ≡ x ++ y →
     (header_of i ≡ h) × ((c : List ℕ) × (s ≡ x ++ c) × (y ≡ c ++ r))
 same-head s r x y i h sp hd e =
     let k = first-head s i sp in
-    let o = one_header_at_front k.0 x (k.1 ++ r) y (header_of i) h k.2 hd
-    (sym (append_assoc k.0 k.1 r) ∙ ap (λ (z : List ℕ). z ++ r) (sym k.3) ∙ e) in
-    (o.2, (k.1, k.3 ∙ ap (λ (z : List ℕ). z ++ k.1) o.0, sym o.1))
+    let o = behind-head s r x y k.0 k.1 (header_of i) h k.2 hd k.3 e in
+    (o.2, (k.1, k.3 ∙ ap (λ (z : List ℕ). z ++ k.1) o.0, o.1))
 
 -- a break begins no item
 pub no-break-head : (i : Item) → header_of i ≡ header.Break → ⊥
@@ -97,10 +110,13 @@ tag-front s r x y i t sp hd e = by i sp (same-head s r x y i (header.Tag t) sp h
   where
     by : (i : Item) → Spells s i → header_of i ≡ header.Tag t → (j : Item) × (c : List ℕ) × (i ≡ tag t j) × Spells c j ×
         (y ≡ c ++ r)
-    by (tag u j) (a, c, k, sp, f) h =
-        let o = one_header_at_front a x (c ++ r) y (header.Tag u) (header.Tag t) k hd
-        (sym (append_assoc a c r) ∙ ap (λ (z : List ℕ). z ++ r) (sym f) ∙ e) in
-        (j, c, (let n : u ≡ t = cc in ap (λ v. tag v j) n), sp, sym o.1)
+    by (tag u j) (a, c, k, sp, f) h = (
+      j,
+      c,
+      (let n : u ≡ t = cc in ap (λ v. tag v j) n),
+      sp,
+      (behind-head s r x y a c (header.Tag u) (header.Tag t) k hd f e).1,
+    )
     by _ sp h = cc
 
 -- ---- items in a row
@@ -119,32 +135,35 @@ unpacked-count : (is : Items) → length (unpack is) ≡ items_count is
 unpacked-count items.no_items = refl
 unpacked-count (items.item i is) = ap suc (unpacked-count is)
 
--- behind the head of a definite array its items stand
-pub counted-front : (s r x y : List ℕ) (i : Item) (n : ℕ) →
-    Spells s i → SpellsHeader x (header.Array (Some n)) → s ++ r ≡ x ++ y → (is : Items) ×
-    (c : List ℕ) × (i ≡ array false is) × AreSpelled Spells c (unpack is) × (length (unpack is) ≡ n) × (y ≡ c ++ r)
-counted-front s r x y i n sp hd e = by i sp (same-head s r x y i (header.Array (Some n)) sp hd e).0
-  where
-    by : (i : Item) → Spells s i → header_of i ≡ header.Array (Some n) → (is : Items) × (c : List ℕ) ×
-        (i ≡ array false is) × AreSpelled Spells c (unpack is) × (length (unpack is) ≡ n) × (y ≡ c ++ r)
-    by (array false is) (c, k, (a, g, f)) h =
-        let o = one_header_at_front a x (c ++ r) y (header.Array (Some (items_count is))) (header.Array (Some n)) g hd
-        (sym (append_assoc a c r) ∙ ap (λ (z : List ℕ). z ++ r) (sym f) ∙ e) in
-        (is, c, refl, unpacked c is k, unpacked-count is ∙ (let m : items_count is ≡ n = cc in m), sym o.1)
-    by _ sp h = cc
+abbrev pub HasItems : Item → List Item → Type 0
+HasItems i is = (o : Bool) × (js : Items) × (i ≡ array o js) × (unpack js ≡ is)
 
--- behind the head of an open array its items stand, and the break
-pub open-front : (s r x y : List ℕ) (i : Item) → Spells s i → SpellsHeader x (header.Array None) → s ++ r ≡ x ++ y →
-    (is : Items) × (c : List ℕ) × (i ≡ array true is) × AreSpelled Spells c (unpack is) × (y ≡ c ++ (break_byte ∷ r))
-open-front s r x y i sp hd e = by i sp (same-head s r x y i (header.Array None) sp hd e).0
+-- behind the head of an array its items stand, and the break if it is open
+pub array-front : (count : Option ℕ) (s r x y : List ℕ) (i : Item) →
+    Spells s i → SpellsHeader x (header.Array count) → s ++ r ≡ x ++ y → (xs : List Item) × (c : List ℕ) ×
+    HasItems i xs × AreSpelled Spells c xs × HasCount count xs × (y ≡ c ++ (ending (span_of count) ++ r))
+array-front count s r x y i sp hd e = by count i sp (same-head s r x y i (header.Array count) sp hd e).0 hd
   where
-    by : (i : Item) → Spells s i → header_of i ≡ header.Array None → (is : Items) × (c : List ℕ) × (i ≡ array true is) ×
-        AreSpelled Spells c (unpack is) × (y ≡ c ++ (break_byte ∷ r))
-    by (array true is) (c, k, f) h =
-        let o = one_header_at_front (open_byte 4 ∷ []) x ((c ++ (break_byte ∷ [])) ++ r) y (header.Array None)
-        (header.Array None) refl hd (ap (λ (z : List ℕ). z ++ r) (sym f) ∙ e) in
-        (is, c, refl, unpacked c is k, sym o.1 ∙ append_assoc c (break_byte ∷ []) r)
-    by _ sp h = cc
+    by : (count : Option ℕ) (i : Item) → Spells s i → header_of i ≡ header.Array count →
+        SpellsHeader x (header.Array count) → (xs : List Item) × (c : List ℕ) × HasItems i xs × AreSpelled Spells c xs ×
+        HasCount count xs × (y ≡ c ++ (ending (span_of count) ++ r))
+    by (Some n) (array false is) (c, k, (a, g, f)) h hd = (
+      unpack is,
+      c,
+      (false, is, refl, refl),
+      unpacked c is k,
+      unpacked-count is ∙ (let m : items_count is ≡ n = cc in m),
+      (behind-head s r x y a c (header.Array (Some (items_count is))) (header.Array (Some n)) g hd f e).1,
+    )
+    by None (array true is) (c, k, f) h hd = (
+      unpack is,
+      c,
+      (true, is, refl, refl),
+      unpacked c is k,
+      tt,
+      behind-open s r x y c 4 (header.Array None) refl hd f e,
+    )
+    by _ _ sp h hd = cc
 
 -- ---- pairs in a row
 
@@ -168,31 +187,32 @@ unpacked-pairs-count : (ps : Pairs) → length (unpack_pairs ps) ≡ pairs_count
 unpacked-pairs-count items.no_pairs = refl
 unpacked-pairs-count (items.pair k v ps) = ap suc (unpacked-pairs-count ps)
 
--- behind the head of a definite map its pairs stand
-pub counted-pairs-front : (s r x y : List ℕ) (i : Item) (n : ℕ) →
-    Spells s i → SpellsHeader x (header.Map (Some n)) → s ++ r ≡ x ++ y → (ps : Pairs) × (c : List ℕ) ×
-    (i ≡ items.map false ps) × AreSpelled SpellsPair c (unpack_pairs ps) × (length (unpack_pairs ps) ≡ n) × (y ≡ c ++ r)
-counted-pairs-front s r x y i n sp hd e = by i sp (same-head s r x y i (header.Map (Some n)) sp hd e).0
-  where
-    by : (i : Item) → Spells s i → header_of i ≡ header.Map (Some n) → (ps : Pairs) × (c : List ℕ) ×
-        (i ≡ items.map false ps) × AreSpelled SpellsPair c (unpack_pairs ps) × (length (unpack_pairs ps) ≡ n) ×
-        (y ≡ c ++ r)
-    by (items.map false ps) (c, k, (a, g, f)) h =
-        let o = one_header_at_front a x (c ++ r) y (header.Map (Some (pairs_count ps))) (header.Map (Some n)) g hd
-        (sym (append_assoc a c r) ∙ ap (λ (z : List ℕ). z ++ r) (sym f) ∙ e) in
-        (ps, c, refl, unpacked-pairs c ps k, unpacked-pairs-count ps ∙ (let m : pairs_count ps ≡ n = cc in m), sym o.1)
-    by _ sp h = cc
+abbrev pub HasPairs : Item → List (Item × Item) → Type 0
+HasPairs i ps = (o : Bool) × (qs : Pairs) × (i ≡ items.map o qs) × (unpack_pairs qs ≡ ps)
 
--- behind the head of an open map its pairs stand, and the break
-pub open-pairs-front : (s r x y : List ℕ) (i : Item) → Spells s i → SpellsHeader x (header.Map None) → s ++ r ≡ x ++ y →
-    (ps : Pairs) × (c : List ℕ) × (i ≡ items.map true ps) × AreSpelled SpellsPair c (unpack_pairs ps) ×
-    (y ≡ c ++ (break_byte ∷ r))
-open-pairs-front s r x y i sp hd e = by i sp (same-head s r x y i (header.Map None) sp hd e).0
+-- behind the head of a map its pairs stand, and the break if it is open
+pub map-front : (count : Option ℕ) (s r x y : List ℕ) (i : Item) →
+    Spells s i → SpellsHeader x (header.Map count) → s ++ r ≡ x ++ y → (xs : List (Item × Item)) × (c : List ℕ) ×
+    HasPairs i xs × AreSpelled SpellsPair c xs × HasCount count xs × (y ≡ c ++ (ending (span_of count) ++ r))
+map-front count s r x y i sp hd e = by count i sp (same-head s r x y i (header.Map count) sp hd e).0 hd
   where
-    by : (i : Item) → Spells s i → header_of i ≡ header.Map None → (ps : Pairs) × (c : List ℕ) ×
-        (i ≡ items.map true ps) × AreSpelled SpellsPair c (unpack_pairs ps) × (y ≡ c ++ (break_byte ∷ r))
-    by (items.map true ps) (c, k, f) h =
-        let o = one_header_at_front (open_byte 5 ∷ []) x ((c ++ (break_byte ∷ [])) ++ r) y (header.Map None)
-        (header.Map None) refl hd (ap (λ (z : List ℕ). z ++ r) (sym f) ∙ e) in
-        (ps, c, refl, unpacked-pairs c ps k, sym o.1 ∙ append_assoc c (break_byte ∷ []) r)
-    by _ sp h = cc
+    by : (count : Option ℕ) (i : Item) → Spells s i → header_of i ≡ header.Map count →
+        SpellsHeader x (header.Map count) → (xs : List (Item × Item)) × (c : List ℕ) × HasPairs i xs ×
+        AreSpelled SpellsPair c xs × HasCount count xs × (y ≡ c ++ (ending (span_of count) ++ r))
+    by (Some n) (items.map false ps) (c, k, (a, g, f)) h hd = (
+      unpack_pairs ps,
+      c,
+      (false, ps, refl, refl),
+      unpacked-pairs c ps k,
+      unpacked-pairs-count ps ∙ (let m : pairs_count ps ≡ n = cc in m),
+      (behind-head s r x y a c (header.Map (Some (pairs_count ps))) (header.Map (Some n)) g hd f e).1,
+    )
+    by None (items.map true ps) (c, k, f) h hd = (
+      unpack_pairs ps,
+      c,
+      (true, ps, refl, refl),
+      unpacked-pairs c ps k,
+      tt,
+      behind-open s r x y c 5 (header.Map None) refl hd f e,
+    )
+    by _ _ sp h hd = cc

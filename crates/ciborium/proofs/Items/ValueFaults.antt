@@ -1,9 +1,8 @@
 -- What refuses where an item stands is what the item refuses.
 use Rattle.std.proofs.Common.{◌≡◌, ◌⊎◌, ℕ, ◌+◌, ◌*◌, ◌^◌, ◌<◌, ◌≤◌, cond, ◌/◌, ◌%◌, ltb, Bool, true, false, ◌&&◌, List}
-use Rattle.std.proofs.Common.{[], ◌∷◌, ◌++◌, length, Option, Some, None, refl, sym, ap, ◌∙◌, subst, append_assoc}
+use Rattle.std.proofs.Common.{[], ◌∷◌, ◌++◌, length, Option, Some, None, refl, sym, ap, ◌∙◌, subst, append_assoc, zero}
 use Rattle.std.proofs.Common.{append-nil, length-append, arith, inl, inr, ltb-true, ltb-false, option_and_then, suc}
-use Rattle.std.proofs.Common.{zero}
-use Rattle.ciborium_ll.proofs.{OneHeader.one_header_at_front, UniqueSpelling.one_at_front}
+use Rattle.ciborium_ll.proofs.{UniqueSpelling.one_at_front}
 use Rattle.ciborium_ll.specs.{Bytes.greatest_offset, Head.{IsHead, within, one_byte, two_bytes, four_bytes}}
 use Rattle.ciborium_ll.specs.{Head.{eight_bytes, open_byte, break_byte}, Header.SpellsHeader, Item.{Item, Items, Pairs}}
 use Rattle.ciborium_ll.specs.Item.{no_items, item, no_pairs, pair, unsigned, negative, bytes, text, array, tag, simple}
@@ -22,6 +21,7 @@ use Rattle.ciborium_value.specs.{Refuses.Refuses, Sources.{Fault, of_kind, of_ne
 use Rattle.ciborium_value.specs.{Sources.{of_end, of_length, IsFaultOf, IsOutsideFault}, Spelling.any, Tree.Tree}
 use Rattle.ciborium_value.specs.{Tree.{Trees, TreePairs}, lemmas.GivenOutcomes.{pair_first, tree_first}}
 use Rattle.ciborium.proofs.Items.{FrontReads.{head-passes, only-long}, ItemHeads.{header_of, first-head, first-payload}}
+use Rattle.ciborium.proofs.Items.ItemHeads.{behind-head, behind-open}
 use Rattle.ciborium.proofs.Items.{ItemHeads.{same-head, no-break-head, tag-front}, ValuesGiven.level-taken}
 use Rattle.ciborium.proofs.{Items.ValuesGiven.value-gives, Payloads.SpelledStrings.{definite-never, content-long}}
 use Rattle.ciborium.proofs.Payloads.{SpelledStrings.{content-only, string-spells}, StringPayloads.string-only}
@@ -185,57 +185,45 @@ IsOpening _ w = ⊥
 holds-of : (i : Item) (w : Due) (x r s z : List ℕ) → Spells s i → SpellsHeader x (header_of i) → s ++ z ≡ x ++ r →
     IsOpening (header_of i) w → Holds i w r z
 holds-of (array false js) w x r s z (c, k, (a, g, f)) hd e o =
-    let one = one_header_at_front a x (c ++ z) r (header.Array (Some (items_count js)))
-    (header.Array (Some (items_count js))) g hd (sym (append_assoc a c z) ∙ ap (λ (y : List ℕ). y ++ z) (sym f) ∙ e)
-    in
+    let h : Header = header.Array (Some (items_count js)) in
     record {
       is = js;
       inside = c;
       end = [];
       spelled = k;
-      split = sym one.1;
+      split = (behind-head s z x r a c h h g hd f e).1;
       all = subst (λ d. IsAll d js []) (sym o) (refl, refl);
       holds = refl;
     }
-holds-of (array true js) w x r s z (c, k, f) hd e o =
-    let one = one_header_at_front (open_byte 4 ∷ []) x ((c ++ (break_byte ∷ [])) ++ z) r (header.Array None)
-    (header.Array None) refl hd (ap (λ (y : List ℕ). y ++ z) (sym f) ∙ e) in
-    record {
-      is = js;
-      inside = c;
-      end = break_byte ∷ [];
-      spelled = k;
-      split = sym one.1 ∙
-          append_assoc c (break_byte ∷ []) z;
-      all = subst (λ d. IsAll d js (break_byte ∷ [])) (sym o) refl;
-      holds = refl;
-    }
+holds-of (array true js) w x r s z (c, k, f) hd e o = record {
+  is = js;
+  inside = c;
+  end = break_byte ∷ [];
+  spelled = k;
+  split = behind-open s z x r c 4 (header.Array None) refl hd f e;
+  all = subst (λ d. IsAll d js (break_byte ∷ [])) (sym o) refl;
+  holds = refl;
+}
 holds-of (maps.map false ps) w x r s z (c, k, (a, g, f)) hd e o =
-    let one = one_header_at_front a x (c ++ z) r (header.Map (Some (pairs_count ps)))
-    (header.Map (Some (pairs_count ps))) g hd (sym (append_assoc a c z) ∙ ap (λ (y : List ℕ). y ++ z) (sym f) ∙ e)
-    in
+    let h : Header = header.Map (Some (pairs_count ps)) in
     record {
       is = flat ps;
       inside = c;
       end = [];
       spelled = flat-spells ps c k;
-      split = sym one.1;
+      split = (behind-head s z x r a c h h g hd f e).1;
       all = subst (λ d. IsAll d (flat ps) []) (sym o) (ps, refl, (refl, refl));
       holds = refl;
     }
-holds-of (maps.map true ps) w x r s z (c, k, f) hd e o =
-    let one = one_header_at_front (open_byte 5 ∷ []) x ((c ++ (break_byte ∷ [])) ++ z) r (header.Map None)
-    (header.Map None) refl hd (ap (λ (y : List ℕ). y ++ z) (sym f) ∙ e) in
-    record {
-      is = flat ps;
-      inside = c;
-      end = break_byte ∷ [];
-      spelled = flat-spells ps c k;
-      split = sym one.1 ∙
-          append_assoc c (break_byte ∷ []) z;
-      all = subst (λ d. IsAll d (flat ps) (break_byte ∷ [])) (sym o) (ps, refl, refl);
-      holds = refl;
-    }
+holds-of (maps.map true ps) w x r s z (c, k, f) hd e o = record {
+  is = flat ps;
+  inside = c;
+  end = break_byte ∷ [];
+  spelled = flat-spells ps c k;
+  split = behind-open s z x r c 5 (header.Map None) refl hd f e;
+  all = subst (λ d. IsAll d (flat ps) (break_byte ∷ [])) (sym o) (ps, refl, refl);
+  holds = refl;
+}
 holds-of u w x r s z sp hd e o = absurd o
 
 holds-by : (h : Header) (i : Item) (w : Due) (x r s z : List ℕ) → Spells s i → SpellsHeader x h → s ++ z ≡ x ++ r →
@@ -484,8 +472,8 @@ large-refuses l y small large = ap (λ o. outcome l (given_tag 3 o (given_value 
 
 -- ---- every refusal
 
-behind-head : (b r : List ℕ) (p k m : ℕ) → length b ≡ k + length r → p + length b ≤ m → p + k + length r ≤ m
-behind-head b r p k m size fits = omega (arith, size, fits)
+rest-fits : (b r : List ℕ) (p k m : ℕ) → length b ≡ k + length r → p + length b ≤ m → p + k + length r ≤ m
+rest-fits b r p k m size fits = omega (arith, size, fits)
 
 -- what tag t of the bytes b encloses, which end at `end` as b does
 record Enclosed (t : ℕ) (i : Item) (r z : List ℕ) (q end : ℕ) : Type 0 where
@@ -545,7 +533,7 @@ value-faults (Refuses.key_order vs r s t key q w below a due read g bad) i s' z 
 value-faults {b = b} {p = p} {l = l} {e = e} (Refuses.tag_no_head t k r u (x, hd, len, g) h) i s z end sp f fits =
     let (j, c, is, sj, q) = tag-front s z x r i t sp hd (sym f ∙ g) in
     head-faults r (p + k) end e j c z (outcome l (given_value i)) h sj q
-    (behind-head b r p k (end + length z) (head-size b r 6 t k (x, hd, len, g)) fits)
+    (rest-fits b r p k (end + length z) (head-size b r 6 t k (x, hd, len, g)) fits)
 value-faults {l = l} {e = e} (Refuses.folding t r q a fo sub) i s z end sp f fits =
     let w = enclosed a i s z end sp f fits in
     let (y, is, few) = folding-string t w.within w.spelling z r w.spelled w.split fo in

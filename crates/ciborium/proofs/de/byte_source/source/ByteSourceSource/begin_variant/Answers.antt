@@ -1,27 +1,31 @@
 use Rattle.std.proofs.Common.{rules, ◌≡◌, ◌≢◌, ◌≤◌, ◌+◌, length, ap, ◌∙◌, sym, Some, false, subst, arith, string_bytes}
 use Rattle.std.proofs.Common.{le_of_eq, le_refl, le_trans, Bool, Ok, List, Option, ℕ}
-use Rattle.std.proofs.lemmas.Result.{err_from_is_err_and}
 use Rattle.ciborium_ll.specs.declared.{header.Header.Header, strings.StringType.StringType}
 use Rattle.ciborium_value.specs.Given.{deeper, given_name, given_variant}
 use Rattle.ciborium.proofs.Containers.ByteItems.{head-refuses, nested-refuses, other-refuses, refuses-denied}
 use Rattle.ciborium.proofs.Containers.{DueLevels.{completes-begun, holds-begun}, EnteredContainers.deeper-is}
 use Rattle.ciborium.proofs.Containers.{EnteredContainers.same-unread, NamedVariants.{key-denied, map-no-text}}
 use Rattle.ciborium.proofs.Containers.NamedVariants.{map-not-one, null-unread, pair-nests, pair-begun, text-nests}
-use Rattle.ciborium.proofs.{Containers.NamedVariants.{text-begun, variant-other}, Items.SkippedTags.denies-of-item}
+use Rattle.ciborium.proofs.{Containers.NamedVariants.{text-begun, variant-other}}
 use Rattle.ciborium.proofs.Items.{TakenOnly.{kept-alone, same-end}, Weights.{no-more-left, same-left}}
-use Rattle.ciborium.{proofs.Payloads.StringPayloads.denies-content, specs.declared.de.byte_source.ByteSource.ByteSource}
+use Rattle.ciborium.{specs.declared.de.byte_source.ByteSource.ByteSource}
 use Rattle.ciborium.specs.inner.ByteSources.{IsUnread, ReadsBareHead, weight_left, end_at, reader_of, fault_at}
 use Rattle.ciborium.specs.inner.{FrontItems.{Denies, Reads}, Skips.TakesBare}
 use Rattle.ciborium_ll.specs.declared.header.Header.TheVariants as header
 use Rattle.ciborium.proofs.Exits.{passed_on}
+use Rattle.ciborium.proofs.Containers.ByteItems.{string-refuses}
 use Rattle.ciborium.proofs.de.byte_source.source.ByteSourceSource.begin_variant.Goals as goal
 
 -- no more is left than before the head
-behind-bare : {S W : Type 0} {can_fail numbers : Bool} {remaining : S → Option (List ℕ)} {old mid : ByteSource S W}
-    {h : Header × ℕ} (new : ByteSource S W) → ReadsBareHead can_fail remaining old mid numbers (Ok h) →
-    weight_left new ≤ weight_left mid → weight_left new ≤ weight_left old
-behind-bare {mid = mid} {h = h} new reads fewer =
-    no-more-left new mid _ _ h.0 reads.pending fewer (le_refl _) reads.fewer
+module _ {S W : Type 0} {can_fail numbers : Bool} {remaining : S → Option (List ℕ)} {old mid : ByteSource S W}
+    {h : Header × ℕ} (new : ByteSource S W) (reads : ReadsBareHead can_fail remaining old mid numbers (Ok h)) where
+  behind-bare : weight_left new ≤ weight_left mid → weight_left new ≤ weight_left old
+  behind-bare fewer = no-more-left new mid _ _ h.0 reads.pending fewer (le_refl _) reads.fewer
+
+  -- and a level
+  behind-level : (taken : ByteSource S W) → taken.decoder ≡ mid.decoder → taken.pending ≡ mid.pending →
+      weight_left new ≤ weight_left taken → weight_left new ≤ weight_left old
+  behind-level taken same none fewer = behind-bare (le_trans fewer (le_of_eq (same-left taken mid same none)))
 
 pub returns-in_err-header-clause-refused : goal.returns-in_err-header-clause-refused
 returns-in_err-header-clause-refused g c =
@@ -31,38 +35,26 @@ returns-in_err-header-clause-refused g c =
 pub returns-in_err-level-in-Text-clause-refused : goal.returns-in_err-level-in-Text-clause-refused
 returns-in_err-level-in-Text-clause-refused g c =
     rw (passed_on c.from_residual-in_err-level-in-Text.result _ c.from_residual-in_err-level-in-Text.ensures.1)
-    (nested-refuses given_variant c.in_ok-header.ensures.reads c.in_ok-header.ensures.head
-    c.take_level.new.self
-    (header.Text c.in-Text.len) c.in-Text.is c.in_err-level-in-Text.ensures.err (text-nests c.args.self.now.levels
-    c.in-Text.len (sym c.in_ok-header.ensures.reads.levels ∙ c.in_err-level-in-Text.ensures.none)))
+    (nested-refuses given_variant c.in_ok-header.ensures.reads c.in_ok-header.ensures.head c.take_level.new.self
+    (header.Text c.in-Text.len) c.in-Text.is c.in_err-level-in-Text.ensures.none c.in_err-level-in-Text.ensures.err
+    (text-nests c.in-Text.len))
 
 pub returns-in_err-level-in-Map-clause-refused : goal.returns-in_err-level-in-Map-clause-refused
 returns-in_err-level-in-Map-clause-refused g c =
     rw (passed_on c.from_residual-in_err-level-in-Map.result _ c.from_residual-in_err-level-in-Map.ensures.1)
-    (nested-refuses given_variant c.in_ok-header.ensures.reads c.in_ok-header.ensures.head
-    c.take_level-in-Map.new.self
-    (header.Map (Some 1)) (c.in-Map.is ∙ ap header.Map c.if-not-is_one.ensures) c.in_err-level-in-Map.ensures.err
-    (pair-nests c.args.self.now.levels (sym c.in_ok-header.ensures.reads.levels ∙
-    c.in_err-level-in-Map.ensures.none)))
+    (nested-refuses given_variant c.in_ok-header.ensures.reads c.in_ok-header.ensures.head c.take_level-in-Map.new.self
+    (header.Map (Some 1)) (c.in-Map.is ∙ ap header.Map c.if-not-is_one.ensures) c.in_err-level-in-Map.ensures.none
+    c.in_err-level-in-Map.ensures.err pair-nests)
 
 pub returns-in_err-name-in-Text-clause-refused : goal.returns-in_err-name-in-Text-clause-refused
 returns-in_err-name-in-Text-clause-refused g c =
-    let U = IsUnread g.A.Access.remaining in
-    let fault = fault_at g.A.Access.can_fail g.A.Access.remaining c.text_content.new.self
-    c.in_err-name-in-Text.field-0.0 in
     let level = c.in_ok-level-in-Text.ensures in
     rw (passed_on c.from_residual-in_err-name-in-Text.result _ c.from_residual-in_err-name-in-Text.ensures.1)
-    (refuses-denied g.A.Access.remaining c.args.self.now given_variant fault
-    (denies-of-item U (end_at g.A.Access.remaining) (Some c.args.self.now.levels) given_variant
-    c.args.self.now fault
-    (denies-content U (end_at g.A.Access.remaining) false c.args.self.now c.bare_head.new.self StringType.Text
-    c.in-Text.len
-    fault
-    (same-end g.A.Access.remaining c.args.self.now c.bare_head.new.self c.in_ok-header.ensures.reads.only)
-    (subst (TakesBare U c.args.self.now c.bare_head.new.self false) c.in-Text.is c.in_ok-header.ensures.head)
-    (λ y x s z payload end u hd sp e fits. c.in_err-name-in-Text.ensures.denied y x s z payload end
-    (same-unread g.A.Access.remaining c.bare_head.new.self c.take_level.new.self level.decoder level.pending y u) hd
-    sp e (subst (λ d. (reader_of g.A.Access.remaining d).1 ≤ end + length z) (sym level.decoder) fits)))))
+    (string-refuses given_variant c.in_ok-header.ensures.reads c.in_ok-header.ensures.head _ StringType.Text
+    c.in-Text.len c.in-Text.is (λ y x s z payload end u hd sp e fits. c.in_err-name-in-Text.ensures.denied y x s z
+    payload end (same-unread g.A.Access.remaining c.bare_head.new.self c.take_level.new.self level.decoder
+    level.pending y u) hd sp e (subst (λ d. (reader_of g.A.Access.remaining d).1 ≤ end + length z) (sym level.decoder)
+    fits)))
 
 pub returns-in_ok-name-in-Text : goal.returns-in_ok-name-in-Text
 returns-in_ok-name-in-Text g c =
@@ -170,40 +162,31 @@ returns-in_default-clause-refused g c =
 
 pub returns-in_err-header-clause-no_more : goal.returns-in_err-header-clause-no_more
 returns-in_err-header-clause-no_more g c =
-    let exit = err_from_is_err_and c.from_residual.result c.from_residual.ensures.1 in
-    rw exit.1 c.in_err-header.ensures.reads.no_more
+    rw (passed_on c.from_residual.result _ c.from_residual.ensures.1) c.in_err-header.ensures.reads.no_more
 
 pub returns-in_err-level-in-Text-clause-no_more : goal.returns-in_err-level-in-Text-clause-no_more
 returns-in_err-level-in-Text-clause-no_more g c =
-    let exit = err_from_is_err_and c.from_residual-in_err-level-in-Text.result
-    c.from_residual-in_err-level-in-Text.ensures.1 in
-    rw exit.1 (behind-bare c.take_level.new.self c.in_ok-header.ensures.reads (le_of_eq (same-left c.take_level.new.self
-    c.bare_head.new.self
-    c.take_level.ensures.decoder c.take_level.ensures.pending)))
+    rw (passed_on c.from_residual-in_err-level-in-Text.result _ c.from_residual-in_err-level-in-Text.ensures.1)
+    (behind-level c.take_level.new.self c.in_ok-header.ensures.reads c.take_level.new.self c.take_level.ensures.decoder
+    c.take_level.ensures.pending (le_refl _))
 
 pub returns-in_err-name-in-Text-clause-no_more : goal.returns-in_err-name-in-Text-clause-no_more
 returns-in_err-name-in-Text-clause-no_more g c =
-    let exit = err_from_is_err_and c.from_residual-in_err-name-in-Text.result
-    c.from_residual-in_err-name-in-Text.ensures.1 in
-    rw exit.1 (behind-bare c.text_content.new.self c.in_ok-header.ensures.reads (le_trans
-    c.in_err-name-in-Text.ensures.no_more (le_of_eq (same-left c.take_level.new.self c.bare_head.new.self
-    c.take_level.ensures.decoder c.take_level.ensures.pending))))
+    rw (passed_on c.from_residual-in_err-name-in-Text.result _ c.from_residual-in_err-name-in-Text.ensures.1)
+    (behind-level c.text_content.new.self c.in_ok-header.ensures.reads c.take_level.new.self
+    c.take_level.ensures.decoder c.take_level.ensures.pending c.in_err-name-in-Text.ensures.no_more)
 
 pub returns-in_err-level-in-Map-clause-no_more : goal.returns-in_err-level-in-Map-clause-no_more
 returns-in_err-level-in-Map-clause-no_more g c =
-    let exit = err_from_is_err_and c.from_residual-in_err-level-in-Map.result
-    c.from_residual-in_err-level-in-Map.ensures.1 in
-    rw exit.1 (behind-bare c.take_level-in-Map.new.self c.in_ok-header.ensures.reads (le_of_eq (same-left
-    c.take_level-in-Map.new.self c.bare_head.new.self
-    c.take_level-in-Map.ensures.decoder c.take_level-in-Map.ensures.pending)))
+    rw (passed_on c.from_residual-in_err-level-in-Map.result _ c.from_residual-in_err-level-in-Map.ensures.1)
+    (behind-level c.take_level-in-Map.new.self c.in_ok-header.ensures.reads c.take_level-in-Map.new.self
+    c.take_level-in-Map.ensures.decoder c.take_level-in-Map.ensures.pending (le_refl _))
 
 pub returns-in_err-name-in-Map-clause-no_more : goal.returns-in_err-name-in-Map-clause-no_more
 returns-in_err-name-in-Map-clause-no_more g c =
-    let exit = err_from_is_err_and c.from_residual-in_err-name-in-Map.result
-    c.from_residual-in_err-name-in-Map.ensures.1 in
-    rw exit.1 (behind-bare c.name.new.self c.in_ok-header.ensures.reads (le_trans
-    c.in_err-name-in-Map.ensures.keeps.no_more (le_of_eq (same-left c.take_level-in-Map.new.self c.bare_head.new.self
-    c.take_level-in-Map.ensures.decoder c.take_level-in-Map.ensures.pending))))
+    rw (passed_on c.from_residual-in_err-name-in-Map.result _ c.from_residual-in_err-name-in-Map.ensures.1)
+    (behind-level c.name.new.self c.in_ok-header.ensures.reads c.take_level-in-Map.new.self
+    c.take_level-in-Map.ensures.decoder c.take_level-in-Map.ensures.pending c.in_err-name-in-Map.ensures.keeps.no_more)
 
 pub returns-then-not-is_one-clause-no_more : goal.returns-then-not-is_one-clause-no_more
 returns-then-not-is_one-clause-no_more g c = behind-bare c.bare_head.new.self c.in_ok-header.ensures.reads (le_refl _)

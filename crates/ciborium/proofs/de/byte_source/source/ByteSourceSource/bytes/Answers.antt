@@ -1,13 +1,15 @@
-use Rattle.std.proofs.Common.{Some, ap, arith, le_of_eq, refl, rules, subst, sym, ◌∙◌}
+use Rattle.std.proofs.Common.{Some, ap, arith, le_of_eq, refl, rules, subst, sym}
 use Rattle.ciborium_ll.specs.declared.strings.StringType.{StringType}
-use Rattle.ciborium_value.specs.Given.{bare_bytes, given_bytes, outcome}
-use Rattle.ciborium.proofs.Containers.ByteItems.{array-begun, array-refuses, array-takes, array-took, bytes-other}
+use Rattle.ciborium_value.specs.Given.{bare_bytes, given_bytes, outcome, given_byte, take_each}
+use Rattle.ciborium.proofs.Containers.ByteItems.{array-refuses, array-takes, array-took, bytes-other, bytes-given}
 use Rattle.ciborium.proofs.Containers.ByteItems.{bare-refused, behind-refused, head-refused, nested-refuses}
 use Rattle.ciborium.proofs.Containers.ByteItems.{other-refuses, string-given, string-refuses}
 use Rattle.ciborium.proofs.{Containers.EnteredContainers.array-nests, Exits.passed_on, Items.SkippedTags.untagged-under}
-use Rattle.ciborium.{proofs.Items.Weights.same-left, specs.inner.ByteSources.{HasTaken, fault_at}}
+use Rattle.ciborium.{proofs.Items.Weights.same-left, specs.inner.ByteSources.{HasTaken}}
 use Rattle.ciborium.specs.inner.StringContents.{string_item}
 use Rattle.ciborium_ll.specs.declared.header.Header.TheVariants as header
+use Rattle.ciborium.proofs.de.byte_source.source.ByteSourceSource.bytes.{Given.Over, Goals.In_ok-seq-in-Array}
+use Rattle.ciborium.proofs.Containers.EnteredContainers.{HasEnteredItems, array-container, entered}
 use Rattle.ciborium.proofs.de.byte_source.source.ByteSourceSource.bytes.Goals as goal
 
 pub returns-in_err-header : goal.returns-in_err-header
@@ -50,27 +52,28 @@ returns-in_err-seq-in-Array g c =
       takes = behind-refused c.in_ok-header.ensures.reads (λ first t. subst
           (HasTaken g.A.Access.remaining first) (sym enter.decoder) t)
           (le_of_eq (same-left c.enter.new.self c.bare_head.new.self enter.decoder enter.pending))
-          (nested-refuses given_bytes c.in_ok-header.ensures.reads c.in_ok-header.ensures.head
-          c.enter.new.self
-          (header.Array c.in-Array.count) c.in-Array.is enter.err (array-nests bare_bytes (λ o is. refl)
-          c.args.self.now.levels c.in-Array.count (sym c.in_ok-header.ensures.reads.levels ∙ enter.none)));
+          (nested-refuses given_bytes c.in_ok-header.ensures.reads c.in_ok-header.ensures.head c.enter.new.self
+          (header.Array c.in-Array.count) c.in-Array.is enter.none enter.err
+          (array-nests bare_bytes (λ o is. refl) c.in-Array.count));
     })
+
+-- the array was entered
+begun : (g : Over) (c : In_ok-seq-in-Array g) → HasEnteredItems g.A.Access.remaining c.args.self.now
+    c.enter.new.self given_bytes (λ span is. take_each given_byte is) c.in_ok-seq-in-Array.seq
+begun g c =
+    let enter = c.in_ok-seq-in-Array.ensures in
+    entered array-container c.enter.new.self c.in-Array.count c.in_ok-seq-in-Array.seq c.in_ok-header.ensures.reads
+    c.in_ok-header.ensures.head (enter.decoder, enter.pending, enter.some, enter.levels, enter.left) enter.back
+    given_bytes (λ span is. take_each given_byte is) c.in-Array.is bytes-given
 
 pub returns-in_ok-bytes-in-Array : goal.returns-in_ok-bytes-in-Array
 returns-in_ok-bytes-in-Array g c =
-    let enter = c.in_ok-seq-in-Array.ensures in
-    let entered = array-begun g.A.Access.can_fail g.A.Access.remaining c.args.self.now c.bare_head.new.self
-    c.enter.new.self c.in-Array.count
-    c.in_ok-seq-in-Array.seq c.in_ok-header.header c.in_ok-header.offset c.in-Array.is c.in_ok-header.ensures.head
-    c.in_ok-header.ensures.reads (enter.decoder, enter.pending, enter.some, enter.levels, enter.left) enter.back in
-    record {
+    let all = begun g (goal.at.returns-in_ok-bytes-in-Array g c).In_ok-seq-in-Array in record {
       takes = record {
-        ok = array-takes g.A.Access.remaining c.args.self.now c.enter.new.self c.in_ok-seq-in-Array.seq entered
-            c.read_byte_items.new.self c.in_ok-bytes-in-Array.bytes.items c.in_ok-bytes-in-Array.ensures.ok;
+        ok = array-takes all c.read_byte_items.new.self c.in_ok-bytes-in-Array.ensures.ok;
         refused = tt;
-        took = array-took g.A.Access.remaining c.args.self.now c.enter.new.self c.in_ok-seq-in-Array.seq entered
-            c.read_byte_items.new.self c.in_ok-bytes-in-Array.ensures.took;
-        only = λ first t. c.read_byte_items.ensures.only first (entered.kept.1 first.decoder t);
+        took = array-took all c.read_byte_items.new.self c.in_ok-bytes-in-Array.ensures.took;
+        only = λ first t. c.read_byte_items.ensures.only first (all.kept.1 first.decoder t);
         less = search rules;
         no_more = tt;
       };
@@ -78,20 +81,14 @@ returns-in_ok-bytes-in-Array g c =
 
 pub returns-in_err-bytes-in-Array : goal.returns-in_err-bytes-in-Array
 returns-in_err-bytes-in-Array g c =
-    let enter = c.in_ok-seq-in-Array.ensures in
-    let entered = array-begun g.A.Access.can_fail g.A.Access.remaining c.args.self.now c.bare_head.new.self
-    c.enter.new.self c.in-Array.count
-    c.in_ok-seq-in-Array.seq c.in_ok-header.header c.in_ok-header.offset c.in-Array.is c.in_ok-header.ensures.head
-    c.in_ok-header.ensures.reads (enter.decoder, enter.pending, enter.some, enter.levels, enter.left) enter.back in
+    let all = begun g (goal.at.returns-in_err-bytes-in-Array g c).In_ok-seq-in-Array in
     rw (passed_on c.from_residual-in_err-bytes-in-Array.result _ c.from_residual-in_err-bytes-in-Array.ensures.1)
     (record {
       takes = record {
         ok = tt;
-        refused = array-refuses g.A.Access.remaining c.args.self.now c.enter.new.self c.in_ok-seq-in-Array.seq
-            entered (fault_at g.A.Access.can_fail g.A.Access.remaining c.read_byte_items.new.self
-            c.in_err-bytes-in-Array.field-0.0) c.in_err-bytes-in-Array.ensures.refused;
+        refused = array-refuses all c.read_byte_items.new.self _ c.in_err-bytes-in-Array.ensures.refused;
         took = tt;
-        only = λ first t. c.read_byte_items.ensures.only first (entered.kept.1 first.decoder t);
+        only = λ first t. c.read_byte_items.ensures.only first (all.kept.1 first.decoder t);
         less = tt;
         no_more = search rules;
       };
