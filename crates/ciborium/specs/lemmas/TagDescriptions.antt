@@ -39,19 +39,11 @@ under_tag t part d = record {
 
 -- the same, but it is also read without the tag
 abbrev pub under_tag_or_none : {T V : Type 0} → ℕ → (T → V) → Description V → Description T
-under_tag_or_none t part d = record {
-  Content = d.Content;
+under_tag_or_none t part d = record (under_tag t part d) {
   reading = tag_accepted t part d.reading;
-  written = λ v. tag_of t (d.written (part v));
-  is_valid = λ v. d.is_valid (part v);
-  levels = λ v. suc (d.levels (part v));
-  avoids = λ a. true;
-  is_sound = folds_nothing t d && d.is_sound;
   reads_back = λ sound way v valid.
       let s = both (folds_nothing t d) d.is_sound sound in
       accepted-back t (folds-nothing t d s.0 way (part v)) (d.reads_back s.1 way (part v) valid);
-  writes_content = λ v w same. tagged-alike d.writes_content t (part v) (part w) same;
-  never = λ a h v. tag-never a t (d.written (part v));
 }
 
 -- what is written as this part under this tag, if there is one
