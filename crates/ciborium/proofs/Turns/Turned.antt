@@ -25,7 +25,7 @@ turned : {S W E : Type 0} (spelling : Spelling) (remaining : S → Option (List 
 turned {E = E} spelling remaining e os after l xs p {m} {ys} {q} {v} {zs} {r} end x same a i stands = by x
   where
     lands : Lands spelling (placed os v) l xs p zs r
-    lands = landed spelling l xs p os m ys q v zs r a i
+    lands = landed spelling l xs p os a i
 
     by : (x : Result (Option Value) (Error E)) → IsPlacedInOrder spelling os v end after x →
         IsTurned spelling remaining e after l xs p x

@@ -119,68 +119,36 @@ module _ (spelling : Spelling) where
       subst (λ n. ReadsItem spelling (Some l) xs n v zs r) a.2 y
 
   -- an item of an array, or a value behind its key
-  part-more : (b : List ℕ) (q m : ℕ) (vs ws : List Tree) (v : Tree) (ys zs : List ℕ) (u r : ℕ) (now next : Due) →
-      IsNoKey now → next_due now ≡ Some next → vs ++ (v ∷ []) ≡ ws →
-      IsInside spelling b q (Some (suc m)) vs ys u now (Some m) → ReadsItem spelling (Some m) ys u v zs r →
-      IsInside spelling b q (Some (suc m)) ws zs r next (Some m)
-  part-more b q m vs ws v ys zs u r now next other due same a i =
+  part-more : {b : List ℕ} {q m : ℕ} {vs ws : List Tree} {v : Tree} {ys zs : List ℕ} {u r : ℕ} {now next : Due} →
+      IsInside spelling b q (Some (suc m)) vs ys u now (Some m) → ReadsItem spelling (Some m) ys u v zs r → IsNoKey now →
+      next_due now ≡ Some next → vs ++ (v ∷ []) ≡ ws → IsInside spelling b q (Some (suc m)) ws zs r next (Some m)
+  part-more {b} {q} {m} {vs} {ws} {v} {ys} {zs} {u} {r} {now} {next} a i other due same =
       subst (λ us. IsInside spelling b q (Some (suc m)) us zs r next (Some m)) same
       (inside-more spelling b q (Some (suc m)) (Some m) vs v ys zs u r now next a i due
       (no-key-order spelling a.start vs v now other a.due a.in_order)).0
 
-  pub landed : (l : ℕ) (xs : List ℕ) (p : ℕ) (os : List TreeFrame) (m : ℕ) (ys : List ℕ) (q : ℕ) (v : Tree)
-      (zs : List ℕ) (r : ℕ) → IsAround spelling l xs p os m ys q → ReadsItem spelling (Some m) ys q v zs r →
+  pub landed : (l : ℕ) (xs : List ℕ) (p : ℕ) (os : List TreeFrame) {m : ℕ} {ys : List ℕ} {q : ℕ} {v : Tree}
+      {zs : List ℕ} {r : ℕ} → IsAround spelling l xs p os m ys q → ReadsItem spelling (Some m) ys q v zs r →
       Lands (placed os v) l xs p zs r
-  landed l xs p [] m ys q v zs r a i = top l xs p m ys q v zs r a i
-  landed l xs p (array vs None ∷ os) m ys q v zs r (bs, b, around, c) i =
-      (m, (bs, b, around, part-more bs b m vs (vs ++ v ∷ []) v ys zs q r (items None) (items None) tt refl refl c i))
-  landed l xs p (array vs (Some (suc n)) ∷ os) m ys q v zs r (bs, b, around, c) i = (
-    m,
-    (
-      bs,
-      b,
-      around,
-      part-more bs b m vs (vs ++ v ∷ []) v ys zs q r (items (Some (suc (suc n)))) (items (Some (suc n))) tt refl refl c
-          i,
-    ),
-  )
-  landed l xs p (array vs (Some zero) ∷ os) m ys q v zs r (bs, b, around, c) i =
-      landed l xs p os (suc m) bs b (trees.array (trees_from (vs ++ v ∷ []))) zs r around
+  landed l xs p [] {m} {ys} {q} {v} {zs} {r} a i = top l xs p m ys q v zs r a i
+  landed l xs p (array vs None ∷ os) {m} (bs, b, around, c) i = (m, (bs, b, around, part-more c i tt refl refl))
+  landed l xs p (array vs (Some (suc n)) ∷ os) {m} (bs, b, around, c) i =
+      (m, (bs, b, around, part-more c i tt refl refl))
+  landed l xs p (array vs (Some zero) ∷ os) {m} {v = v} {zs} {r} (bs, b, around, c) i = landed l xs p os around
       (reads-container spelling bs b (Some (suc m)) (Some m) (vs ++ v ∷ []) zs zs r r (items (Some 0))
-      (part-more bs b m vs (vs ++ v ∷ []) v ys zs q r (items (Some 1)) (items (Some 0)) tt refl refl c i)
-      (refl, refl, refl))
-  landed l xs p (map ps behind None ∷ os) m ys q v zs r a i = (m, ys, q, a, i)
-  landed l xs p (map ps None (Some k) ∷ os) m ys q v zs r (bs, b, around, c) i = (
-    m,
-    (
-      bs,
-      b,
-      around,
-      part-more bs b m (trees_in_turn ps (Some k)) (trees_in_turn (ps ++ (k, v) ∷ []) None) v ys zs q r (values None)
-          (keys None) tt refl (in_turn-value ps k v) c i,
-    ),
-  )
-  landed l xs p (map ps (Some (suc n)) (Some k) ∷ os) m ys q v zs r (bs, b, around, c) i = (
-    m,
-    (
-      bs,
-      b,
-      around,
-      part-more bs b m (trees_in_turn ps (Some k)) (trees_in_turn (ps ++ (k, v) ∷ []) None) v ys zs q r
-          (values (Some (suc n))) (keys (Some (suc n))) tt refl (in_turn-value ps k v) c i,
-    ),
-  )
-  landed l xs p (map ps (Some zero) (Some k) ∷ os) m ys q v zs r (bs, b, around, c) i =
+      (part-more c i tt refl refl) (refl, refl, refl))
+  landed l xs p (map ps behind None ∷ os) {m} {ys} {q} a i = (m, ys, q, a, i)
+  landed l xs p (map ps None (Some k) ∷ os) {m} {v = v} (bs, b, around, c) i =
+      (m, (bs, b, around, part-more c i tt refl (in_turn-value ps k v)))
+  landed l xs p (map ps (Some (suc n)) (Some k) ∷ os) {m} {v = v} (bs, b, around, c) i =
+      (m, (bs, b, around, part-more c i tt refl (in_turn-value ps k v)))
+  landed l xs p (map ps (Some zero) (Some k) ∷ os) {m} {v = v} {zs} {r} (bs, b, around, c) i =
       let ws : List (Tree × Tree) = ps ++ (k, v) ∷ [] in
-      landed l xs p os (suc m) bs b (trees.map (tree_pairs_from ws)) zs r around
-      (subst (λ ts. ReadsItem spelling (Some (suc m)) bs b (trees.map ts) zs r) (turns-paired ws)
-      (reads-container spelling bs b (Some (suc m)) (Some m) (trees_in_turn ws None) zs zs r r (keys (Some 0))
-      (part-more bs b m (trees_in_turn ps (Some k)) (trees_in_turn ws None) v ys zs q r (values (Some 0))
-      (keys (Some 0))
-      tt refl (in_turn-value ps k v) c i) (refl, refl, refl)))
-  landed l xs p (tag t ∷ os) m ys q v zs r (bs, b, around, (a, never)) i =
-      landed l xs p os (suc m) bs b (trees.tag t v) zs r around
-      (reads-tag spelling bs b t (Some (suc m)) (Some m) ys zs q r v a never refl i)
+      landed l xs p os around (subst (λ ts. ReadsItem spelling (Some (suc m)) bs b (trees.map ts) zs r)
+      (turns-paired ws) (reads-container spelling bs b (Some (suc m)) (Some m) (trees_in_turn ws None) zs zs r r
+      (keys (Some 0)) (part-more c i tt refl (in_turn-value ps k v)) (refl, refl, refl)))
+  landed l xs p (tag t ∷ os) {m} {ys} {q} {v} {zs} {r} (bs, b, around, (a, never)) i =
+      landed l xs p os around (reads-tag spelling bs b t (Some (suc m)) (Some m) ys zs q r v a never refl i)
 
   -- in order, the key goes on
   pub kept : (l : ℕ) (xs : List ℕ) (p : ℕ) (os : List TreeFrame) (zs : List ℕ) (r : ℕ) → LandsIn os l xs p zs r →
@@ -220,10 +188,10 @@ module _ (spelling : Spelling) where
   Closes l xs p os v zs r = (m : ℕ) × (ys : List ℕ) × (q : ℕ) × IsAround spelling l xs p os m ys q ×
       ReadsItem spelling (Some m) ys q v zs r
 
-  closes-as : (l : ℕ) (xs : List ℕ) (p : ℕ) (os us : List TreeFrame) (m : ℕ) (ys : List ℕ) (q : ℕ) (t v : Tree)
-      (zs : List ℕ) (r : ℕ) → (t ≡ v) × (os ≡ us) → IsAround spelling l xs p os m ys q →
+  closes-as : (l : ℕ) (xs : List ℕ) (p : ℕ) {os us : List TreeFrame} {m : ℕ} {ys : List ℕ} {q : ℕ} {t v : Tree}
+      {zs : List ℕ} {r : ℕ} → (t ≡ v) × (os ≡ us) → IsAround spelling l xs p os m ys q →
       ReadsItem spelling (Some m) ys q t zs r → Closes l xs p us v zs r
-  closes-as l xs p os us m ys q t v zs r same a i = (
+  closes-as l xs p {m = m} {ys} {q} {zs = zs} {r} same a i = (
     m,
     ys,
     q,
@@ -236,15 +204,13 @@ module _ (spelling : Spelling) where
       q < greatest_offset → Closes l xs p us v zs (q + 1)
   closed-item l xs p [] us m ys q v zs a e f g = absurd cc
   closed-item l xs p (array vs None ∷ os) us m ys q v zs (bs, b, around, c) e f g =
-      closes-as l xs p os us (suc m) bs b (trees.array (trees_from vs)) v zs (q + 1)
-      (some-both (trees.array (trees_from vs)) v os us e) around
+      closes-as l xs p (some-both (trees.array (trees_from vs)) v os us e) around
       (reads-container spelling bs b (Some (suc m)) (Some m) vs ys zs q (q + 1) (items None) c
       (f, refl, omega (arith, g)))
   closed-item l xs p (array vs (Some n) ∷ os) us m ys q v zs a e f g = absurd cc
   closed-item l xs p (tag t ∷ os) us m ys q v zs a e f g = absurd cc
   closed-item l xs p (map ps None None ∷ os) us m ys q v zs (bs, b, around, c) e f g =
-      closes-as l xs p os us (suc m) bs b (trees.map (tree_pairs_from ps)) v zs (q + 1)
-      (some-both (trees.map (tree_pairs_from ps)) v os us e) around
+      closes-as l xs p (some-both (trees.map (tree_pairs_from ps)) v os us e) around
       (subst (λ ts. ReadsItem spelling (Some (suc m)) bs b (trees.map ts) zs (q + 1)) (turns-paired ps)
       (reads-container spelling bs b (Some (suc m)) (Some m) (trees_in_turn ps None) ys zs q (q + 1) (keys None) c
       (f, refl, omega (arith, g))))
