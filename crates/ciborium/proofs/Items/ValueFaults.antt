@@ -100,40 +100,34 @@ head-first h m n (eight_bytes, lt, e) = (27, _, omega arith, e)
 same-first : (x y : ℕ) (b s t z : List ℕ) → x ∷ b ≡ s ++ z → s ≡ y ∷ t → x ≡ y
 same-first x y b s t z e f = let g : x ∷ b ≡ y ∷ (t ++ z) = e ∙ ap (λ (k : List ℕ). k ++ z) f in cc
 
-low-head : (x m n : ℕ) (b s h c z : List ℕ) → x ∷ b ≡ s ++ z → IsHead h m n → s ≡ h ++ c → x < m * 32 + 28
-low-head x m n b s h c z e hd f =
-    let (a, t, lt, g) = head-first h m n hd in
-    let is : x ≡ m * 32 + a = same-first x (m * 32 + a) b s (t ++ c) z e (f ∙ ap (λ (k : List ℕ). k ++ c) g) in
-    omega (arith, lt, is)
+-- the first byte of a float is that of no other item
+module _ {A : Type 0} (x : ℕ) (b s z : List ℕ) (e : x ∷ b ≡ s ++ z) (low : 249 ≤ x) where
+  no-head : (m n : ℕ) (h c : List ℕ) → m < 7 → IsHead h m n → s ≡ h ++ c → A
+  no-head m n h c major hd f =
+      let (a, t, lt, g) = head-first h m n hd in
+      let is : x ≡ m * 32 + a = same-first x (m * 32 + a) b s (t ++ c) z e (f ∙ ap (λ (k : List ℕ). k ++ c) g) in
+      absurd (omega (arith, lt, is, low, major))
+
+  no-first : (y : ℕ) (t : List ℕ) → y < 249 → s ≡ y ∷ t → A
+  no-first y t lt f = let is = same-first x y b s t z e f in absurd (omega (arith, is, low, lt))
 
 float-only : (x : ℕ) (b s z : List ℕ) (i : Item) → Spells s i → x ∷ b ≡ s ++ z → 249 ≤ x → x ≤ 251 → (raw : List ℕ) ×
     (i ≡ float raw)
-float-only x b s z (unsigned n) sp e lo hi = let k = low-head x 0 n b s s [] z e sp (sym (append-nil s)) in
-    let never : ⊥ = omega (arith, k, lo) in absurd never
-float-only x b s z (negative n) sp e lo hi = let k = low-head x 1 n b s s [] z e sp (sym (append-nil s)) in
-    let never : ⊥ = omega (arith, k, lo) in absurd never
-float-only x b s z (bytes false p) (h, hd, ok, g) e lo hi = let k = low-head x 2 (length p) b s h p z e hd g in
-    let never : ⊥ = omega (arith, k, lo) in absurd never
-float-only x b s z (bytes true p) (ps, r, are, j, g) e lo hi = let k =
-    same-first x 95 b s (r ++ (break_byte ∷ [])) z e g in let never : ⊥ = omega (arith, k, lo) in absurd never
-float-only x b s z (text false p) (h, hd, ok, g) e lo hi = let k = low-head x 3 (length p) b s h p z e hd g in
-    let never : ⊥ = omega (arith, k, lo) in absurd never
-float-only x b s z (text true p) (ps, r, are, j, g) e lo hi = let k =
-    same-first x 127 b s (r ++ (break_byte ∷ [])) z e g in let never : ⊥ = omega (arith, k, lo) in absurd never
-float-only x b s z (array false is) (r, sps, (h, hd, g)) e lo hi = let k =
-    low-head x 4 (items_count is) b s h r z e hd g in let never : ⊥ = omega (arith, k, lo) in absurd never
-float-only x b s z (array true is) (r, sps, g) e lo hi = let k = same-first x 159 b s (r ++ (break_byte ∷ [])) z e g in
-    let never : ⊥ = omega (arith, k, lo) in absurd never
-float-only x b s z (maps.map false ps) (r, sps, (h, hd, g)) e lo hi = let k =
-    low-head x 5 (pairs_count ps) b s h r z e hd g in let never : ⊥ = omega (arith, k, lo) in absurd never
-float-only x b s z (maps.map true ps) (r, sps, g) e lo hi = let k =
-    same-first x 191 b s (r ++ (break_byte ∷ [])) z e g in let never : ⊥ = omega (arith, k, lo) in absurd never
-float-only x b s z (tag t j) (h, r, hd, sp, g) e lo hi = let k = low-head x 6 t b s h r z e hd g in let never : ⊥ =
-    omega (arith, k, lo) in absurd never
-float-only x b s z (simple n) (inl (lt, g)) e lo hi = let k = same-first x (224 + n) b s [] z e g in let never : ⊥ =
-    omega (arith, k, lo, lt) in absurd never
-float-only x b s z (simple n) (inr (a, c, g)) e lo hi = let k = same-first x 248 b s (n ∷ []) z e g in let never : ⊥ =
-    omega (arith, k, lo) in absurd never
+float-only x b s z (unsigned n) sp e lo hi = no-head x b s z e lo 0 n s [] (omega arith) sp (sym (append-nil s))
+float-only x b s z (negative n) sp e lo hi = no-head x b s z e lo 1 n s [] (omega arith) sp (sym (append-nil s))
+float-only x b s z (bytes false p) (h, hd, ok, g) e lo hi = no-head x b s z e lo 2 (length p) h p (omega arith) hd g
+float-only x b s z (bytes true p) (ps, r, are, j, g) e lo hi = no-first x b s z e lo 95 _ (omega arith) g
+float-only x b s z (text false p) (h, hd, ok, g) e lo hi = no-head x b s z e lo 3 (length p) h p (omega arith) hd g
+float-only x b s z (text true p) (ps, r, are, j, g) e lo hi = no-first x b s z e lo 127 _ (omega arith) g
+float-only x b s z (array false is) (r, sps, (h, hd, g)) e lo hi =
+    no-head x b s z e lo 4 (items_count is) h r (omega arith) hd g
+float-only x b s z (array true is) (r, sps, g) e lo hi = no-first x b s z e lo 159 _ (omega arith) g
+float-only x b s z (maps.map false ps) (r, sps, (h, hd, g)) e lo hi =
+    no-head x b s z e lo 5 (pairs_count ps) h r (omega arith) hd g
+float-only x b s z (maps.map true ps) (r, sps, g) e lo hi = no-first x b s z e lo 191 _ (omega arith) g
+float-only x b s z (tag t j) (h, r, hd, sp, g) e lo hi = no-head x b s z e lo 6 t h r (omega arith) hd g
+float-only x b s z (simple n) (inl (lt, g)) e lo hi = no-first x b s z e lo (224 + n) [] (omega (arith, lt)) g
+float-only x b s z (simple n) (inr (a, c, g)) e lo hi = no-first x b s z e lo 248 (n ∷ []) (omega arith) g
 float-only x b s z (float raw) sp e lo hi = (raw, refl)
 
 simple-only : (i : Item) (n : ℕ) → header_of i ≡ header.Simple n → i ≡ simple n

@@ -121,6 +121,16 @@ module _ {S W T A : Type 0} (E : Type 0) (can_fail : Bool) (remaining : S →
   ends b known h taken = takes-end remaining d s.decoder _ b (begun-left remaining d lent p begins ∙ known) taken ∙
       ap (λ n. n + length b) begins.count
 
+  -- what holds of each item that is read holds where the answer is not the end
+  item-says : (P : Result T (Error E) → Type 0) (first : Option Header) (r : Result (Option T) (Error E)) →
+      ((h : Header) → First (Some h) → (q : Result T (Error E)) →
+      IsReadFrom {E = E} can_fail remaining reading (behind_head s p h) t q → P q) → First first → End first r →
+      Behind first r → Otherwise r P
+  item-says P None r f taken (is, same) item = end-says r P is
+  item-says P (Some h) (Ok None) f taken none item = absurd item
+  item-says P (Some h) (Ok (Some v)) f taken none item = f h taken (Ok v) item
+  item-says P (Some h) (Err e) f taken none item = f h taken (Err e) item
+
   module _ (back : s.decoder.reader.ghost_name ≡ t.decoder.reader.ghost_name → x ≡ t.decoder.reader.now) where
     tells-end : (first : Option Header) (r : Result (Option T) (Error E)) → First first →
         IfNone first (IsAtEnd (left_of remaining s.decoder)) →
@@ -140,44 +150,6 @@ module _ {S W T A : Type 0} (E : Type 0) (can_fail : Bool) (remaining : S →
         λ known. empty (begun-left remaining d lent p begins ∙ known)
     tells-end (Some h) (Err e) taken end empty none item =
         λ known. absurd (empty (begun-left remaining d lent p begins ∙ known))
-
-    next-ok : (first : Option Header) (r : Result (Option T) (Error E)) → First first → End first r →
-        Behind first r → Otherwise r (λ q. TakesGiven (Some s.levels) reading.taken (remaining lent) (remaining x)
-        (read_as reading.content q))
-    next-ok None r taken (is, same) item = end-says r (λ q. TakesGiven (Some s.levels) reading.taken (remaining lent)
-        (remaining x) (read_as reading.content q)) is
-    next-ok (Some h) (Ok None) taken none item = absurd item
-    next-ok (Some h) (Ok (Some v)) taken none item = λ b known. handed-given E can_fail remaining reading
-        (behind_head s p h) t b p (front E can_fail remaining d s lent p begins kept h taken b known)
-        (ends b known h taken) x back (Ok v) item
-    next-ok (Some h) (Err e) taken none item = λ b known. tt
-
-    next-value : (first : Option Header) (r : Result (Option T) (Error E)) → First first → End first r →
-        Behind first r →
-        Otherwise r (λ q. IfSome reading.whole (λ tree. TakesBytes any p (remaining lent) s.levels (remaining x)
-        (read_as (λ v. tree (reading.content v)) q)))
-    next-value None r taken (is, same) item = end-says r
-        (λ q. IfSome reading.whole (λ tree. TakesBytes any p (remaining lent) s.levels (remaining x)
-        (read_as (λ v. tree (reading.content v)) q))) is
-    next-value (Some h) (Ok None) taken none item = absurd item
-    next-value (Some h) (Ok (Some v)) taken none item =
-        some-map reading.whole item.whole (λ tree reads. joined E can_fail remaining d s lent p begins kept h taken t x
-        (Ok (tree (reading.content v))) back reads)
-    next-value (Some h) (Err e) taken none item =
-        some-map reading.whole item.whole (λ tree reads. joined E can_fail remaining d s lent p begins kept h taken t x
-        (Err e) back reads)
-
-    next-refused : (first : Option Header) (r : Result (Option T) (Error E)) → First first →
-        End first r → Behind first r → Otherwise r (λ q. RefusesGiven p (Some s.levels) reading.taken (remaining lent)
-        (left_at_failure can_fail (remaining x)) (read_as reading.content q))
-    next-refused None r taken (is, same) item = end-says r
-        (λ q. RefusesGiven p (Some s.levels) reading.taken (remaining lent)
-        (left_at_failure can_fail (remaining x)) (read_as reading.content q)) is
-    next-refused (Some h) (Ok None) taken none item = absurd item
-    next-refused (Some h) (Ok (Some v)) taken none item = λ b known. tt
-    next-refused (Some h) (Err e) taken none item = λ b known. handed-denied E can_fail remaining reading
-        (behind_head s p h) t b p (front E can_fail remaining d s lent p begins kept h taken b known)
-        (ends b known h taken) x back (Err e) item
 
     next-memory : (first : Option Header) (r : Result (Option T) (Error E)) → End first r → Behind first r →
         IfErr r (λ e. IsGrantedFault (fault_of (left_at_failure can_fail (remaining x)) e) reading.needs_memory)
@@ -214,11 +186,21 @@ module _ {S W T A : Type 0} (E : Type 0) (can_fail : Bool) (remaining : S →
             end-at p (remaining lent) (remaining x) r (tells-end back first r taken end empty none item),
             λ full. absurd (omega (arith, less, full)),
           );
-          ok = next-ok back first r taken none item;
-          refused = next-refused back first r taken none item;
+          ok = item-says (λ q. TakesGiven (Some s.levels) reading.taken (remaining lent) (remaining x)
+              (read_as reading.content q)) first r (λ h read q item b known. handed-given E can_fail remaining reading
+              (behind_head s p h) t b p (front E can_fail remaining d s lent p begins kept h read b known)
+              (ends b known h read) x back q item) taken none item;
+          refused = item-says (λ q. RefusesGiven p (Some s.levels) reading.taken (remaining lent)
+              (left_at_failure can_fail (remaining x)) (read_as reading.content q)) first r
+              (λ h read q item b known. handed-denied E can_fail remaining reading (behind_head s p h) t b p
+              (front E can_fail remaining d s lent p begins kept h read b known) (ends b known h read) x back q item)
+              taken none item;
           memory = next-memory back first r none item;
           taken = (all.0, all.1);
-          value = next-value back first r taken none item;
+          value = item-says (λ q. IfSome reading.whole (λ tree. TakesBytes any p (remaining lent) s.levels (remaining x)
+              (read_as (λ v. tree (reading.content v)) q))) first r (λ h read q item. some-map reading.whole item.whole
+              (λ tree reads. joined E can_fail remaining d s lent p begins kept h read t x
+              (read_as (λ v. tree (reading.content v)) q) back reads)) taken none item;
         },
         moves-offset r q all at,
       )
