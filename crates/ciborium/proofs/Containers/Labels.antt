@@ -10,7 +10,7 @@ use Rattle.ciborium.proofs.{Containers.NextParts.aside-unread, Items.ItemHeads.{
 use Rattle.ciborium.proofs.Items.{SkippedTags.{bare-head, denies-item, denies-of-item, skips-none}, TakenOnly.same-end}
 use Rattle.ciborium.{proofs.Payloads.StringPayloads.denies-string, specs.declared.de.byte_source.ByteSource.ByteSource}
 use Rattle.ciborium.specs.inner.ByteSources.{CountsHead, HasTaken, IsUnread, end_at, head_label_type, IsUnreadBy}
-use Rattle.ciborium.specs.inner.{FrontItems.{Denies, DeniesHead, Reads, TakesHead}, StringContents.DeniesContent}
+use Rattle.ciborium.specs.inner.{FrontItems.{Denies, DeniesHead, TakesHead}, StringContents.DeniesContent}
 use Rattle.ciborium.specs.inner.StringContents.{TakesPlace}
 use Rattle.ciborium.proofs.Items.TakenOnly.{IsKept}
 use Rattle.ciborium.proofs.Items.Weights.{taken-fewer}
@@ -37,18 +37,17 @@ denies-mapped IsUnread End old l taken f fault denied b s z i end u sp e fits =
 
 -- ---- the key whose head was taken
 
-module _ {S W P : Type 0} (remaining : S → Option (List ℕ)) (old : ByteSource S W) (place : Label → P) where
-  abbrev IsKey : ByteSource S W → P → Type 0
-  IsKey new = Reads (IsUnread remaining) old new (Some old.levels) (label_place place)
-
-  abbrev IsNoKey : Fault → Type 0
-  IsNoKey = Denies (IsUnread remaining) (end_at remaining) old (Some old.levels) (label_place place)
-
-  -- none was
-  pub no-key : (fault : Fault) → DeniesHead (IsUnread remaining) (end_at remaining) old fault → IsNoKey fault
-  no-key fault denied = denies-of-item (IsUnread remaining) (end_at remaining) (Some old.levels) (label_place place) old
-      fault (denies-item (IsUnread remaining) (end_at remaining) old old false fault (λ b u. refl)
-      (skips-none (IsUnread remaining) old false) denied)
+-- none was
+pub no-key : {S W P : Type 0} (can_fail : Bool) (remaining : S → Option (List ℕ)) {old new : ByteSource S W}
+    {content : P → P} (place : Label → P) (e : Error (Unit {0})) → TakesOnly (HasTaken remaining) old.decoder new.decoder →
+    weight_left new ≤ weight_left old →
+    DeniesHead (IsUnread remaining) (end_at remaining) old (fault_at can_fail remaining new e) →
+    TakesOne can_fail remaining old new (label_place place) content (Err e)
+no-key can_fail remaining {old} {new} place e only no_more denied =
+    let fault = fault_at can_fail remaining new e in
+    takes-denied can_fail remaining only no_more (denies-of-item (IsUnread remaining) (end_at remaining)
+    (Some old.levels) (label_place place) old fault (denies-item (IsUnread remaining) (end_at remaining) old old false
+    fault (λ b u. refl) (skips-none (IsUnread remaining) old false) denied))
 
 -- it was, at offset p
 pub record HasHead {S W : Type 0} (remaining : S → Option (List ℕ)) (old mid : ByteSource S W) (h : Header) (p : ℕ) :

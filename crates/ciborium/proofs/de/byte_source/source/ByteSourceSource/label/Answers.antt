@@ -1,9 +1,7 @@
 use Rattle.std.{proofs.Common.{◌≡◌, ap, false, subst, sym, true}, specs.Int.complement_if}
 use Rattle.ciborium_ll.specs.{Header.SpellsHeader, Item.{negative, unsigned}}
 use Rattle.ciborium_value.specs.{Given.gives, Labels.{numbered}}
-use Rattle.ciborium.proofs.Containers.{ByteItems.{takes-denied}}
 use Rattle.ciborium.proofs.{Containers.Labels.{no-key}, Exits.passed_on}
-use Rattle.ciborium.{specs.inner.ByteSources.{fault_at}}
 use Rattle.ciborium.proofs.de.byte_source.source.ByteSourceSource.label.{Given.Over, Goals.In_ok-header}
 use Rattle.ciborium.proofs.Containers.Labels.{HasHead, no-text-key, text-key, told-key, whole-key}
 use Rattle.std.proofs.Common.{Err, Ok}
@@ -23,12 +21,9 @@ head g c = let e = c.in_ok-header.ensures in record {
 
 pub returns-in_err-header : goal.returns-in_err-header
 returns-in_err-header g c =
-    let place = g.N.Labels.place_of c.args.labels.now in
     let head = c.in_err-header.ensures in
     rw (passed_on c.from_residual.result _ c.from_residual.ensures.1) (record {
-      takes = takes-denied _ _ head.only head.no_more (no-key g.A.Access.remaining c.args.self.now place
-          (fault_at g.A.Access.can_fail g.A.Access.remaining c.next_head.new.self c.in_err-header.field-0.0)
-          head.denied);
+      takes = no-key _ g.A.Access.remaining (g.N.Labels.place_of c.args.labels.now) _ head.only head.no_more head.denied;
     })
 
 pub returns-in_err-place-in-Text : goal.returns-in_err-place-in-Text
