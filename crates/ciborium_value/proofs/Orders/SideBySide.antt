@@ -6,7 +6,7 @@ use Rattle.std.proofs.Common.{Global, rules, refl, sym, ap, ◌∙◌, subst, li
 use Rattle.std.proofs.{Common.{append_assoc, append-nil}, lemmas.Cmp.{tied_itself, nat_cmp_total, nat_list_cmp_total}}
 use Rattle.std.{proofs.lemmas.List.{map-append, take_all}, specs.Cmp.Lexicographic.slice_cmp}
 use Rattle.std.specs.{FinMap.{nat_cmp-IsAntisymmetric, slice_cmp-IsAntisymmetric}, Ordering.{is_ne, ordering_then}}
-use Rattle.ciborium_ll.{proofs.HeadOrder.then_equal, specs.Head.shortest_head}
+use Rattle.ciborium_ll.{proofs.HeadOrder.then_equal}
 use Rattle.ciborium_value.proofs.Orders.Encodings.{encodings-around, pair_encodings-around}
 use Rattle.ciborium_value.proofs.Orders.HeadsInOrder.{fronts_decide, heads_decide, one_length}
 use Rattle.ciborium_value.proofs.Orders.TreeEncodings.{encoding-is, argument_of-Array, argument_of-Map}
@@ -45,19 +45,16 @@ nothing_left u p q ne = refl
 
 -- one list of bytes on both sides
 pub same_decides : (a b : List ℕ) → a ≡ b → Decides Equal a b
-same_decides a b e x y = ap (λ l. slice_cmp nat_cmp (l ++ x) (b ++ y)) e ∙ behind_front b x y
+same_decides a b e x y = rw e (behind_front b x y)
 
 -- behind one front
 pub behind_decides : (o : Ordering) (a b c d : List ℕ) → a ≡ b → Decides o c d → Decides o (a ++ c) (b ++ d)
-behind_decides o a b c d e h x y = ap (λ l. slice_cmp nat_cmp ((l ++ c) ++ x) ((b ++ d) ++ y)) e ∙
-    ap (λ l. slice_cmp nat_cmp l ((b ++ d) ++ y)) (append_assoc b c x) ∙
-    ap (slice_cmp nat_cmp (b ++ (c ++ x))) (append_assoc b d y) ∙ behind_front b (c ++ x) (d ++ y) ∙ h x y
+behind_decides o a b c d e h x y = rw e (simp append_assoc (behind_front b (c ++ x) (d ++ y) ∙ h x y))
 
 -- before any two lists, where it is not `Equal`
 pub before_decides : (o : Ordering) (a c d e : List ℕ) → is_ne o ≡ true → Decides o a c → Decides o (a ++ d) (c ++ e)
-before_decides o a c d e ne h x y = ap (λ l. slice_cmp nat_cmp l ((c ++ e) ++ y)) (append_assoc a d x) ∙
-    ap (slice_cmp nat_cmp (a ++ (d ++ x))) (append_assoc c e y) ∙
-    h (d ++ x) (e ++ y) ∙ nothing_left o (slice_cmp nat_cmp (d ++ x) (e ++ y)) (slice_cmp nat_cmp x y) ne
+before_decides o a c d e ne h x y = simp append_assoc
+    (h (d ++ x) (e ++ y) ∙ nothing_left o (slice_cmp nat_cmp (d ++ x) (e ++ y)) (slice_cmp nat_cmp x y) ne)
 
 -- two payloads of one length
 pub payloads_decide : (a b : List ℕ) (o : Ordering) → length a ≡ length b → o ≡ slice_cmp nat_cmp a b → Decides o a b
@@ -80,14 +77,8 @@ equal_where_same o v w h e = decided_alone o (encoding v) (encoding w) h ∙
 heads_first : (v w : Tree) (x y : List ℕ) → argument_of v < 2 ^ 64 → argument_of w < 2 ^ 64
     → slice_cmp nat_cmp (encoding v ++ x) (encoding w ++ y) ≡ ordering_then (head_order v w)
     (slice_cmp nat_cmp (content_bytes v ++ x) (content_bytes w ++ y))
-heads_first v w x y h k = ap (λ l. slice_cmp nat_cmp (l ++ x) (encoding w ++ y)) (encoding-is v) ∙
-    ap (λ l. slice_cmp nat_cmp ((shortest_head (tree_major v) (argument_of v) ++ content_bytes v) ++ x) (l ++ y))
-    (encoding-is w) ∙
-    ap (λ l. slice_cmp nat_cmp l ((shortest_head (tree_major w) (argument_of w) ++ content_bytes w) ++ y))
-    (append_assoc (shortest_head (tree_major v) (argument_of v)) (content_bytes v) x) ∙
-    ap (slice_cmp nat_cmp (shortest_head (tree_major v) (argument_of v) ++ (content_bytes v ++ x)))
-    (append_assoc (shortest_head (tree_major w) (argument_of w)) (content_bytes w) y) ∙ heads_decide (tree_major v)
-    (tree_major w) (argument_of v) (argument_of w) (content_bytes v ++ x) (content_bytes w ++ y) h k
+heads_first v w x y h k = rw (encoding-is v, encoding-is w) (simp append_assoc (heads_decide (tree_major v)
+    (tree_major w) (argument_of v) (argument_of w) (content_bytes v ++ x) (content_bytes w ++ y) h k))
 
 pub different_heads : (v w : Tree) (o : Ordering) → argument_of v < 2 ^ 64 → argument_of w < 2 ^ 64 →
     o ≡ head_order v w → is_ne o ≡ true → Decides o (encoding v) (encoding w)
@@ -204,9 +195,7 @@ same_payload-Text w u s z is other e =
 pub items_same : {i : ℕ} {vs ws : List Value} {v w : Value} → At i vs v → At i ws w →
     map tree_of (take i vs) ≡ map tree_of (take i ws) → tree_of v ≡ tree_of w →
     map tree_of (take (suc i) vs) ≡ map tree_of (take (suc i) ws)
-items_same {i} {vs} {ws} {v} {w} a b before same = ap (map tree_of) (one_more a) ∙ map-append tree_of (take i vs)
-    (v ∷ []) ∙ ap (λ l. l ++ (tree_of v ∷ [])) before ∙ ap (λ t. map tree_of (take i ws) ++ (t ∷ [])) same ∙
-    sym (ap (map tree_of) (one_more b) ∙ map-append tree_of (take i ws) (w ∷ []))
+items_same a b before same = rw (one_more a, one_more b) (simp map-append (cc (before, same)))
 
 -- behind values that are the same, two that differ decide
 pub items_differ : {i : ℕ} {vs ws : List Value} {v w : Value} (o : Ordering) → At i vs v → At i ws w →
@@ -223,11 +212,7 @@ items_differ {i} {vs} {ws} {v} {w} o a b before ne decides =
 pub pairs_same : {i : ℕ} {ps qs : List (Value × Value)} {p q : Value × Value} → At i ps p → At i qs q →
     map pair_trees (take i ps) ≡ map pair_trees (take i qs) → tree_of p.0 ≡ tree_of q.0 → tree_of p.1 ≡ tree_of q.1 →
     map pair_trees (take (suc i) ps) ≡ map pair_trees (take (suc i) qs)
-pairs_same {i} {ps} {qs} {p} {q} a b before keys values =
-    ap (map pair_trees) (one_more a) ∙ map-append pair_trees (take i ps) (p ∷ [])
-    ∙ ap (λ l. l ++ (pair_trees p ∷ [])) before ∙ ap (λ t. map pair_trees (take i qs) ++ ((t, tree_of p.1) ∷ [])) keys
-    ∙ ap (λ t. map pair_trees (take i qs) ++ ((tree_of q.0, t) ∷ [])) values
-    ∙ sym (ap (map pair_trees) (one_more b) ∙ map-append pair_trees (take i qs) (q ∷ []))
+pairs_same a b before keys values = rw (one_more a, one_more b) (simp map-append (cc (before, keys, values)))
 
 -- behind pairs that are the same, two keys that differ decide
 pub keys_differ : {i : ℕ} {ps qs : List (Value × Value)} {p q : Value × Value} (o : Ordering) → At i ps p → At i qs q →

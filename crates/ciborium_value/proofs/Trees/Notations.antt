@@ -113,23 +113,13 @@ pub lead_behind-more : {A : Type 0} (lines : Option ℕ) (lead : List ℕ) {i : 
 lead_behind-more lines lead here = refl
 lead_behind-more lines lead (behind a) = refl
 
-apart : (a b c : List ℕ) → a ++ (b ++ c) ≡ (a ++ b) ++ c
-apart a b c = sym (append_assoc a b c)
-
 notations_on-append : (lines : Option ℕ) (lead : List ℕ) (vs : List Value) (v : Value) →
     notations_on lines lead (trees_of (vs ++ (v ∷ [])))
     ≡ notations_on lines lead (trees_of vs) ++ (lead_behind lines lead vs ++
     (line_break lines ++ notation_on lines (tree_of v)))
 notations_on-append lines lead [] v = ap (λ l. lead ++ (line_break lines ++ l)) (append-nil _)
 notations_on-append lines lead (x ∷ xs) v =
-    let rest = notations_on lines (comma lines) (trees_of xs) in
-    let one = line_break lines ++ notation_on lines (tree_of v) in
-    let there = notations_on-append lines (comma lines) xs v ∙
-    ap (λ l. rest ++ (l ++ one)) (lead_behind-comma lines xs) in
-    ap (λ l. lead ++ (line_break lines ++ (notation_on lines (tree_of x) ++ l))) there
-    ∙ ap (λ l. lead ++ (line_break lines ++ l)) (apart (notation_on lines (tree_of x)) rest _)
-    ∙ ap (λ l. lead ++ l) (apart (line_break lines) _ _)
-    ∙ apart lead _ _
+    rw (notations_on-append lines (comma lines) xs v, lead_behind-comma lines xs) (simp append_assoc)
 
 -- one more item
 pub notations_on-more : (lines : Option ℕ) {i : ℕ} {vs : List Value} {v : Value} → At i vs v →
@@ -144,18 +134,7 @@ pair_notations_on-append : (lines : Option ℕ) (lead : List ℕ) (ps : List (Va
 pair_notations_on-append lines lead [] p = ap (λ l. lead ++
     (line_break lines ++ (notation_on lines (tree_of p.0) ++ (codes ": " ++ l)))) (append-nil _)
 pair_notations_on-append lines lead (x ∷ xs) p =
-    let rest = pair_notations_on lines (comma lines) (tree_pairs_of xs) in
-    let one = line_break lines ++ (notation_on lines (tree_of p.0) ++ (codes ": " ++ notation_on lines (tree_of p.1)))
-    in
-    let there = pair_notations_on-append lines (comma lines) xs p ∙
-    ap (λ l. rest ++ (l ++ one)) (lead_behind-comma lines xs) in
-    ap (λ l. lead ++ (line_break lines ++ (notation_on lines (tree_of x.0) ++
-    (codes ": " ++ (notation_on lines (tree_of x.1) ++ l))))) there
-    ∙ ap (λ l. lead ++ (line_break lines ++ (notation_on lines (tree_of x.0) ++ (codes ": " ++ l))))
-    (apart (notation_on lines (tree_of x.1)) rest _)
-    ∙ ap (λ l. lead ++ (line_break lines ++ l)) (apart (notation_on lines (tree_of x.0)) _ _)
-    ∙ ap (λ l. lead ++ l) (apart (line_break lines) _ _)
-    ∙ apart lead _ _
+    rw (pair_notations_on-append lines (comma lines) xs p, lead_behind-comma lines xs) (simp append_assoc)
 
 -- one more pair
 pub pair_notations_on-more : (lines : Option ℕ) {i : ℕ} {ps : List (Value × Value)} {p : Value × Value} → At i ps p →

@@ -57,12 +57,7 @@ pub bytes_at-added : (p : Place) (i : Item) → bytes_at (added p i) ≡ bytes_a
 unfolding bytes_at
 bytes_at-added (top name before done) i = ap (λ b. before ++ b) (items_bytes-one done i) ∙
     sym (append_assoc before (items_bytes (items_from done)) (written_bytes i))
-bytes_at-added (within s n done around) i =
-    ap (λ b. bytes_at around ++ (begin_bytes s n ++ b)) (items_bytes-one done i) ∙
-    regroup (bytes_at around) (begin_bytes s n) (items_bytes (items_from done)) (written_bytes i)
-  where
-    regroup : (a b c d : List ℕ) → a ++ (b ++ (c ++ d)) ≡ (a ++ (b ++ c)) ++ d
-    regroup a b c d = simp append_assoc
+bytes_at-added (within s n done around) i = rw (items_bytes-one done i) (simp append_assoc)
 bytes_at-added (tagged t p) i = bytes_at-added p (item.tag t i) ∙
     sym (append_assoc (bytes_at p) (shortest_head 6 t) (written_bytes i))
 
@@ -78,12 +73,8 @@ bytes_at-tagged p t = refl
 pub bytes_at-ended : (s : Shape) (n : Option ℕ) (done : List Item) (p : Place) → IsFull s n done →
     bytes_at (ended (within s n done p)) ≡ bytes_at (within s n done p) ++ end_bytes n
 unfolding bytes_at
-bytes_at-ended s n done p h =
-    bytes_at-added p (container s (is_open n) done) ∙ ap (λ b. bytes_at p ++ b) (bytes-container s n done h) ∙
-    regroup (bytes_at p) (begin_bytes s n) (items_bytes (items_from done)) (end_bytes n)
-  where
-    regroup : (a b c d : List ℕ) → a ++ (b ++ (c ++ d)) ≡ (a ++ (b ++ c)) ++ d
-    regroup a b c d = simp append_assoc
+bytes_at-ended s n done p h = bytes_at-added p (container s (is_open n) done) ∙
+    rw (bytes-container s n done h) (simp append_assoc)
 
 pub bytes_at-top : (name : Option GName) (before : List ℕ) → bytes_at (top name before []) ≡ before
 unfolding bytes_at
@@ -123,15 +114,9 @@ pub before_full : (p : Place) (s : Shape) (n : Option ℕ) (done rest : List Ite
 unfolding bytes_at
 before_full p s n done rest h = (
   items_bytes (items_from rest) ++ end_bytes n,
-  bytes_at-added p (container s (is_open n) (done ++ rest))
-      ∙ ap (λ b. bytes_at p ++ b) (bytes-container s n (done ++ rest) h)
-      ∙ ap (λ b. bytes_at p ++ (begin_bytes s n ++ (b ++ end_bytes n))) (items_bytes-append done rest)
-      ∙ regroup (bytes_at p) (begin_bytes s n) (items_bytes (items_from done)) (items_bytes (items_from rest))
-      (end_bytes n),
+  bytes_at-added p (container s (is_open n) (done ++ rest)) ∙
+      rw (bytes-container s n (done ++ rest) h, items_bytes-append done rest) (simp append_assoc),
 )
-  where
-    regroup : (a b c d e : List ℕ) → a ++ (b ++ ((c ++ d) ++ e)) ≡ (a ++ (b ++ c)) ++ (d ++ e)
-    regroup a b c d e = simp append_assoc
 
 -- ---- what is out, between two places that lie further apart
 
