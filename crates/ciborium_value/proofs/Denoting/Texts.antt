@@ -62,21 +62,15 @@ not-low n h = of (is_low n) refl
         absurd (elim h [ inl a ↦ omega (arith, a, both) | inr r ↦ omega (arith, r, both) ])
 
 pub unit_high : (t r : List ℕ) (n : ℕ) → unit_in t ≡ Some (n, r) → is_high n ≡ true → unit_at t ≡ low_at n r
-unit_high t r n e high = unit_some t r n e ∙
-    ap (λ c. if c then low_at n r else if is_low n then None else prepended (encode_utf8 n) (text_at r)) high
+unit_high t r n e high = unit_some t r n e ∙ rw high
 
 pub unit_character : (t r : List ℕ) (n c : ℕ) → unit_in t ≡ Some (n, r) → is_high n ≡ false → InScalarRange n → c ≡ n →
     unit_at t ≡ prepended (encode_utf8 c) (text_at r)
-unit_character t r n c e high range same = unit_some t r n e ∙
-    ap (λ b. if b then low_at n r else if is_low n then None else prepended (encode_utf8 n) (text_at r)) high ∙
-    ap (λ b. if b then None else prepended (encode_utf8 n) (text_at r)) (not-low n range) ∙
-    ap (λ x. prepended (encode_utf8 x) (text_at r)) (sym same)
+unit_character t r n c e high range same = unit_some t r n e ∙ rw (high, not-low n range, same)
 
 pub unit_alone : (t r : List ℕ) (n : ℕ) → unit_in t ≡ Some (n, r) → is_high n ≡ false → OutOfScalarRange n →
     n < 65536 → unit_at t ≡ None
-unit_alone t r n e high out small = unit_some t r n e ∙
-    ap (λ b. if b then low_at n r else if is_low n then None else prepended (encode_utf8 n) (text_at r)) high ∙
-    ap (λ b. if b then None else prepended (encode_utf8 n) (text_at r)) low
+unit_alone t r n e high out small = unit_some t r n e ∙ rw (high, low)
   where
     of : (b : Bool) → b ≡ nat_lt n 56320 → 55296 ≤ n → n < 57344 → is_low n ≡ true
     of true e range below = let yes : is_high n ≡ true = search (rules, e, range) in absurd (cc (yes, high))
@@ -87,14 +81,11 @@ unit_alone t r n e high out small = unit_some t r n e ∙
         (elim out [ inl a ↦ omega (arith, a) | inr b ↦ omega (arith, b, small) ])
 
 pub low_not : (high : ℕ) (t r : List ℕ) (n : ℕ) → unit_in t ≡ Some (n, r) → is_low n ≡ false → low_unit_at high t ≡ None
-low_not high t r n e low = low_some high t r n e ∙
-    ap (λ b. if b then prepended (encode_utf8 (paired high n)) (text_at r) else None) low
+low_not high t r n e low = low_some high t r n e ∙ rw low
 
 pub low_character : (high : ℕ) (t r : List ℕ) (n c : ℕ) → unit_in t ≡ Some (n, r) → is_low n ≡ true →
     c ≡ paired high n → low_unit_at high t ≡ prepended (encode_utf8 c) (text_at r)
-low_character high t r n c e low same = low_some high t r n e ∙
-    ap (λ b. if b then prepended (encode_utf8 (paired high n)) (text_at r) else None) low ∙
-    ap (λ x. prepended (encode_utf8 x) (text_at r)) (sym same)
+low_character high t r n c e low same = low_some high t r n e ∙ rw (low, same)
 
 -- ---- runs of plain bytes
 

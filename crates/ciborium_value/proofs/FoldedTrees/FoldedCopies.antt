@@ -62,19 +62,13 @@ mutual
 
   items-folded : (vs : Trees) → outcome None (given_items (items_of vs)) ≡ of_meaning kinds.TooLarge (trees_folded vs)
   items-folded trees.no_trees = refl
-  items-folded (trees.tree v vs) = ap (λ o. tree_first o (outcome None (given_items (items_of vs)))) (given-folded v) ∙
-      (ap (tree_first (of_meaning kinds.TooLarge (folded v))) (items-folded vs) ∙
-      more-meaning kinds.TooLarge (folded v) (trees_folded vs))
+  items-folded (trees.tree v vs) = rw (given-folded v, items-folded vs) (more-meaning kinds.TooLarge (folded v) _)
 
   pairs-folded : (ps : TreePairs) → outcome None (given_tree_pairs (pairs_of ps)) ≡ of_meaning kinds.TooLarge
       (tree_pairs_folded ps)
   pairs-folded trees.no_tree_pairs = refl
-  pairs-folded (trees.tree_pair k v ps) =
-      ap (λ o. pair_first o (outcome None (given_value (item_of v))) (outcome None (given_tree_pairs (pairs_of ps))))
-      (given-folded k) ∙
-      (ap (λ o. pair_first (of_meaning kinds.TooLarge (folded k)) o (outcome None (given_tree_pairs (pairs_of ps))))
-      (given-folded v) ∙ (ap (pair_first (of_meaning kinds.TooLarge (folded k)) (of_meaning kinds.TooLarge (folded v)))
-      (pairs-folded ps) ∙ pair-meaning kinds.TooLarge (folded k) (folded v) (tree_pairs_folded ps)))
+  pairs-folded (trees.tree_pair k v ps) = rw (given-folded k, given-folded v, pairs-folded ps)
+      (pair-meaning kinds.TooLarge (folded k) (folded v) (tree_pairs_folded ps))
 
 -- ---- the end of the walk
 

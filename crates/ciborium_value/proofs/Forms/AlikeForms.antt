@@ -5,7 +5,7 @@ use Rattle.std.specs.Option.{option_and_then}
 use Rattle.ciborium_value.specs.DeterministicForms.{inserted, sorted_pairs, tag_form, deterministic_form, one_pair_more}
 use Rattle.ciborium_value.specs.{DeterministicForms.{deterministic_forms, pair_forms}, Folded.short_bytes}
 use Rattle.ciborium_value.specs.{Folded.tree_folding_bytes, laws.FormLaws.{AlikeHaveOneForm, OneFormWhereAlike}}
-use Rattle.ciborium_value.specs.{laws.FormLaws.FormIsAlike, Meaning.{is_bignum_tag, bignum_meaning, trees_more}}
+use Rattle.ciborium_value.specs.{laws.FormLaws.FormIsAlike, Meaning.{is_bignum_tag, bignum_meaning}}
 use Rattle.ciborium_value.specs.SameContents.{IsAlike, turned, through, folds, in_tag, in_array, in_map, AreAlike}
 use Rattle.ciborium_value.specs.SameContents.{PairsAreAlike, no_pairs, more_pairs, exchanged, one_after_another}
 use Rattle.ciborium_value.specs.{Given.{Outcome, gives, then_take, of_meaning}, Tree.{Tree, integer, bytes, text}}
@@ -117,19 +117,26 @@ mutual
   all_given-alike : (o : KeyOrder) {vs ws : Trees} → AreAlike vs ws →
       given (deterministic_forms o vs) ≡ given (deterministic_forms o ws)
   all_given-alike o same.none = refl
-  all_given-alike o (same.more {v} {w} {vs} {ws} h l) = given-more (deterministic_form o v) (deterministic_forms o vs) ∙
-      ap (λ m. trees_more m (given (deterministic_forms o vs))) (given-alike o h) ∙
-      ap (trees_more (given (deterministic_form o w))) (all_given-alike o l) ∙
-      sym (given-more (deterministic_form o w) (deterministic_forms o ws))
+  all_given-alike o (same.more {v} {w} {vs} {ws} h l) =
+      rw (
+        given-more (deterministic_form o v) (deterministic_forms o vs),
+        given-more (deterministic_form o w)
+            (deterministic_forms o ws),
+        given-alike o h,
+        all_given-alike o l,
+      )
 
   -- and the sorted pairs
   sorted_forms-alike : (o : KeyOrder) {ps qs : TreePairs} → PairsAreAlike ps qs → sorted_forms o ps ≡ sorted_forms o qs
   sorted_forms-alike o no_pairs = refl
-  sorted_forms-alike o (more_pairs {k} {l} {v} {w} {ps} {qs} h i j) = more-sorted_forms o k v ps ∙
-      ap (λ m. put_among o m (given (deterministic_form o v)) (sorted_forms o ps)) (given-alike o h) ∙
-      ap (λ m. put_among o (given (deterministic_form o l)) m (sorted_forms o ps)) (given-alike o i) ∙
-      ap (put_among o (given (deterministic_form o l)) (given (deterministic_form o w))) (sorted_forms-alike o j) ∙
-      sym (more-sorted_forms o l w qs)
+  sorted_forms-alike o (more_pairs {k} {l} {v} {w} {ps} {qs} h i j) =
+      rw (
+        more-sorted_forms o k v ps,
+        more-sorted_forms o l w qs,
+        given-alike o h,
+        given-alike o i,
+        sorted_forms-alike o j,
+      )
   sorted_forms-alike o (exchanged {k} {l} {v} {w} {ps}) = sorted_forms-exchanged o k v l w ps
   sorted_forms-alike o (one_after_another h l) = sorted_forms-alike o h ∙ sorted_forms-alike o l
 
