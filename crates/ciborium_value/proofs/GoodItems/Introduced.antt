@@ -382,8 +382,7 @@ complete-items : (n : ℕ) (vs : List Tree) (now : Due) (r s : List ℕ) (q u : 
     due_after (items (Some n)) vs ≡ Some now → IsComplete now r q s u → (now ≡ items (Some 0)) × (r ≡ s) × (q ≡ u)
 complete-items n [] now r s q u due done =
     let same : now ≡ items (Some n) = cc in
-    let d : IsComplete (items (Some n)) r q s u = subst (λ w. IsComplete w r q s u) same done in
-    (same ∙ ap (λ k. items (Some k)) d.0, d.1, d.2)
+    let d = rw same at done in (same ∙ ap (λ k. items (Some k)) d.0, d.1, d.2)
 complete-items zero (v ∷ vs) now r s q u due done = absurd cc
 complete-items (suc n) (v ∷ vs) now r s q u due done = complete-items n vs now r s q u due done
 
@@ -391,11 +390,10 @@ complete-keys : (n : ℕ) (vs : List Tree) (now : Due) (r s : List ℕ) (q u : �
     due_after (keys (Some n)) vs ≡ Some now → IsComplete now r q s u → (now ≡ keys (Some 0)) × (r ≡ s) × (q ≡ u)
 complete-keys n [] now r s q u due done =
     let same : now ≡ keys (Some n) = cc in
-    let d : IsComplete (keys (Some n)) r q s u = subst (λ w. IsComplete w r q s u) same done in
-    (same ∙ ap (λ k. keys (Some k)) d.0, d.1, d.2)
+    let d = rw same at done in (same ∙ ap (λ k. keys (Some k)) d.0, d.1, d.2)
 complete-keys zero (v ∷ vs) now r s q u due done = absurd cc
 complete-keys (suc n) (k ∷ []) now r s q u due done =
-    let same : now ≡ values (Some n) = cc in absurd (subst (λ w. IsComplete w r q s u) same done)
+    let same : now ≡ values (Some n) = cc in absurd (rw same at done)
 complete-keys (suc n) (k ∷ (v ∷ vs)) now r s q u due done = complete-keys n vs now r s q u due done
 
 complete-open_items : (vs : List Tree) (now : Due) → due_after (items None) vs ≡ Some now → now ≡ items None
@@ -406,7 +404,7 @@ complete-open_keys : (vs : List Tree) (now : Due) (r s : List ℕ) (q u : ℕ) �
     due_after (keys None) vs ≡ Some now → IsComplete now r q s u → now ≡ keys None
 complete-open_keys [] now r s q u due done = cc
 complete-open_keys (k ∷ []) now r s q u due done =
-    let same : now ≡ values None = cc in absurd (subst (λ w. IsComplete w r q s u) same done)
+    let same : now ≡ values None = cc in absurd (rw same at done)
 complete-open_keys (k ∷ (v ∷ vs)) now r s q u due done = complete-open_keys vs now r s q u due done
 
 -- an array or map, with the item of its parts
@@ -464,8 +462,7 @@ reads-container spelling b p l below vs r s q u now i done = by i.start i.begins
         let w = items-read spelling vs g (p + i.size) below i.parts in
         let size : length vs ≡ n = counted-items vs n (due ∙ ap Some c.0) in
         let short = good-short spelling b 4 n i.size (g ++ r) (omega arith) (h, is, len, split) i.head.1 in
-        subst (λ z. ReadsItem spelling l b p (container_of z vs) s u) (sym c.0)
-        (definite-read spelling h g b p l (item.array false w.0) (trees.array (trees_from vs)) r s i.size q u
+        rw c.0 (definite-read spelling h g b p l (item.array false w.0) (trees.array (trees_from vs)) r s i.size q u
         (g, w.1, (h, subst (IsHead h 4) (sym (w.4 ∙ size)) is, refl)) (ap (option_map trees.array) w.2)
         (raise l below _ i.level w.3)
         (so-array spelling h g (p + i.size) below vs (subst (IsShortIn spelling h 4) (sym size) short) i.parts)
@@ -476,8 +473,7 @@ reads-container spelling b p l below vs r s q u now i done = by i.start i.begins
         let w = pairs-read spelling vs g (p + i.size) below e.0 i.parts in
         let size = e.1 in
         let short = good-short spelling b 5 n i.size (g ++ r) (omega arith) (h, is, len, split) i.head.1 in
-        subst (λ z. ReadsItem spelling l b p (container_of z vs) s u) (sym c.0)
-        (definite-read spelling h g b p l (item.map false w.0) (trees.map (pairs_in vs)) r s i.size q u
+        rw c.0 (definite-read spelling h g b p l (item.map false w.0) (trees.map (pairs_in vs)) r s i.size q u
         (g, w.1, (h, subst (IsHead h 5) (sym (w.4 ∙ size)) is, refl)) (ap (option_map trees.map) w.2)
         (raise l below _ i.level w.3)
         (so-map spelling h g (p + i.size) below vs e.0 (subst (IsShortIn spelling h 5) (sym size) short) i.parts rises)
@@ -486,16 +482,14 @@ reads-container spelling b p l below vs r s q u now i done = by i.start i.begins
         let none = complete-open_items vs now due in
         let c : IsComplete (items None) r q s u = subst (λ z. IsComplete z r q s u) none done in
         let w = items-read spelling vs g (p + i.size) below i.parts in
-        subst (λ z. ReadsItem spelling l b p (container_of z vs) s u) (sym none)
-        (opened-read spelling 4 g b p l (item.array true w.0) (trees.array (trees_from vs)) r s q u (omega arith)
+        rw none (opened-read spelling 4 g b p l (item.array true w.0) (trees.array (trees_from vs)) r s q u (omega arith)
         (omega arith) i.head.1 (g, w.1, refl) (ap (option_map trees.array) w.2) (raise l below _ i.level w.3) split c.0
         c.1 (omega (arith, at, k)) c.2)
     by start (BeginsContainer.open_map k split) due rises =
         let none = complete-open_keys vs now r s q u due done in
         let c : IsComplete (keys None) r q s u = subst (λ z. IsComplete z r q s u) none done in
         let w = pairs-read spelling vs g (p + i.size) below (open-pairs vs (due ∙ ap Some none)) i.parts in
-        subst (λ z. ReadsItem spelling l b p (container_of z vs) s u) (sym none)
-        (opened-read spelling 5 g b p l (item.map true w.0) (trees.map (pairs_in vs)) r s q u (omega arith)
+        rw none (opened-read spelling 5 g b p l (item.map true w.0) (trees.map (pairs_in vs)) r s q u (omega arith)
         (omega arith) i.head.1 (g, w.1, refl) (ap (option_map trees.map) w.2) (raise l below _ i.level w.3) split c.0
         c.1 (omega (arith, at, k)) c.2)
 

@@ -20,3 +20,8 @@ around (behind {y = y} a) = ap (λ l. y ∷ l) (around a)
 pub one_more : {A : Type 0} {i : ℕ} {xs : List A} {x : A} → At i xs x → take (suc i) xs ≡ take i xs ++ (x ∷ [])
 one_more here = refl
 one_more (behind {y = y} a) = ap (λ l. y ∷ l) (one_more a)
+
+-- what is left from it on
+pub left_from : {A : Type 0} {i : ℕ} {xs : List A} {x : A} → At i xs x → drop i xs ≡ x ∷ drop (suc i) xs
+left_from here = refl
+left_from (behind a) = left_from a

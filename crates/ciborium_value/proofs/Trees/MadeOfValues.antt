@@ -1,29 +1,20 @@
 -- What is made of the values of a list, one by one: the parts of a type that holds itself, whose values are trees of
 -- one shape.
 use Rattle.std.proofs.Common.{◌≡◌, ℕ, zero, suc, ◌+◌, ◌<◌, Bool, true, false, ◌&&◌, List, [], ◌∷◌, ◌++◌, length, map}
-use Rattle.std.proofs.{Common.{take, get_or, refl, sym, ap, ◌∙◌, add-one, arith}, Math.Seq.take-suc}
+use Rattle.std.proofs.{Common.{take, get_or, sym, ap, ◌∙◌, add-one, arith}, lemmas.List.map-append}
+use Rattle.ciborium_value.proofs.Trees.Elements.{at, one_more}
 use Rattle.ciborium_value.specs.{Tree.{Tree, Trees}, View.{tree_of, trees_of}, declared.tree.Value.Value}
 use Rattle.ciborium_value.specs.lemmas.Descriptions.{both}
 use Rattle.ciborium_ll.proofs.UsableHeads.{and_false}
 use Rattle.std.specs.Cmp.Derive.{both_true}
 use Rattle.ciborium_value.specs.Tree as trees
 
--- the next element
-one_more : {A : Type 0} (i : ℕ) (xs : List A) (x : A) → i < length xs → x ≡ get_or xs i x →
-    take (i + 1) xs ≡ take i xs ++ x ∷ []
-one_more i xs x h e = ap (λ n. take n xs) (add-one i) ∙ take-suc xs i x h ∙ ap (λ y. take i xs ++ (y ∷ [])) (sym e)
-
-map-append : {A B : Type 0} (f : A → B) (xs : List A) (x : A) → map f (xs ++ x ∷ []) ≡ map f xs ++ f x ∷ []
-map-append f [] x = refl
-map-append f (y ∷ ys) x = ap (λ zs. f y ∷ zs) (map-append f ys x)
-
 -- one part more was made, of the next value
 pub one_made : {T : Type 0} (f : T → Tree) (i : ℕ) (vs : List Value) (v : Value) (ts us : List T) (t : T) →
     i < length vs → v ≡ get_or vs i v →
     map f ts ≡ map tree_of (take i vs) → us ≡ ts ++ t ∷ [] → f t ≡ tree_of v → map f us ≡ map tree_of (take (i + 1) vs)
-one_made f i vs v ts us t h e before more same = ap (map f) more ∙
-    map-append f ts t ∙ ap (λ l. l ++ f t ∷ []) before ∙ ap (λ x. map tree_of (take i vs) ++ x ∷ []) same ∙
-    sym (map-append tree_of (take i vs) v) ∙ ap (map tree_of) (sym (one_more i vs v h e))
+one_made f i vs v ts us t h e before more same =
+    rw (add-one, one_more (at h e), more) (simp map-append (cc (before, same)))
 
 -- a test of trees, and of lists of trees: each passes it
 module _ (is : Tree → Bool) (are : Trees → Bool) (none : are trees.no_trees ≡ true)
@@ -38,8 +29,7 @@ module _ (is : Tree → Bool) (are : Trees → Bool) (none : are trees.no_trees 
   -- the next value passes it
   pub one_right : (i : ℕ) (vs : List Value) (v : Value) → i < length vs → v ≡ get_or vs i v →
       are (trees_of (take i vs)) ≡ true → is (tree_of v) ≡ true → are (trees_of (take (i + 1) vs)) ≡ true
-  one_right i vs v h e before right = ap (λ l. are (trees_of l)) (one_more i vs v h e) ∙
-      right-append (take i vs) v before right
+  one_right i vs v h e before right = rw (add-one, one_more (at h e)) (right-append (take i vs) v before right)
 
   -- one value that does not is enough
   pub one_wrong : (i : ℕ) (vs : List Value) (v : Value) → i < length vs → v ≡ get_or vs i v → is (tree_of v) ≡ false →

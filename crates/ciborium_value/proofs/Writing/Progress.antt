@@ -1,8 +1,9 @@
 -- A definite container that is written part by part, whatever the sink.
 use Rattle.std.proofs.Common.{Bool, true, cond, nat_le, ◌≡◌, ℕ, ◌+◌, suc, map, ◌<◌, ◌≤◌, false, List, [], ◌∷◌, ◌++◌}
 use Rattle.std.proofs.Common.{length, Option, Some, None, Result, Ok, Err, OnErr, IfErr, IsErrAnd, refl, sym, ◌∙◌, ap}
-use Rattle.std.proofs.Common.{subst, append_assoc, append-nil, arith, length-append, drop, drop-cons, get_or}
-use Rattle.std.proofs.lemmas.List.{drop_all}
+use Rattle.std.proofs.Common.{subst, append_assoc, append-nil, arith, length-append, drop, get_or}
+use Rattle.std.proofs.{Common.add-one, lemmas.List.drop_all}
+use Rattle.ciborium_value.proofs.Trees.Elements.{at, left_from}
 use Rattle.ciborium_ll.specs.{Bytes.greatest_offset, Item.Item, declared.kind.Kind.{Kind, TheVariants.Other}}
 use Rattle.ciborium_value.proofs.Writing.Standing.{IsBefore, before_itself, before_within, before_full, before_tagged}
 use Rattle.ciborium_value.{proofs.Writing.Standing.{tagged_before, cut_nothing, cut_wider}, specs.Places.Shape}
@@ -317,18 +318,14 @@ module _ {S : Type 0} (StandsAt : S → Place → Type 0) (out : S → Out) (s :
 
 pub next_part : {A : Type 0} (f : A → Named) (xs : List A) (k : ℕ) (x : A) → k < length xs → x ≡ get_or xs k x →
     map f (drop k xs) ≡ f x ∷ map f (drop (k + 1) xs)
-next_part f xs k x lt is =
-    let e : suc k ≡ k + 1 = omega arith in
-    ap (map f) (drop-cons xs k x lt ∙ ap (λ y. y ∷ drop (suc k) xs) (sym is) ∙ ap (λ j. x ∷ drop j xs) e)
+next_part f xs k x lt is = rw add-one (ap (map f) (left_from (at lt is)))
 
 pub no_part : {A : Type 0} (f : A → Named) (xs : List A) (k : ℕ) → length xs ≤ k → map f (drop k xs) ≡ []
 no_part f xs k le = ap (map f) (drop_all k xs le)
 
 pub next_pair : {A B : Type 0} (f : A → Named) (g : B → Named) (es : List (A × B)) (k : ℕ) (e : A × B) →
     k < length es → e ≡ get_or es k e → in_turn f g (drop k es) ≡ f e.0 ∷ g e.1 ∷ in_turn f g (drop (k + 1) es)
-next_pair f g es k e lt is =
-    let same : suc k ≡ k + 1 = omega arith in
-    ap (in_turn f g) (drop-cons es k e lt ∙ ap (λ y. y ∷ drop (suc k) es) (sym is) ∙ ap (λ j. e ∷ drop j es) same)
+next_pair f g es k e lt is = rw add-one (ap (in_turn f g) (left_from (at lt is)))
 
 pub no_pair : {A B : Type 0} (f : A → Named) (g : B → Named) (es : List (A × B)) (k : ℕ) → length es ≤ k →
     in_turn f g (drop k es) ≡ []

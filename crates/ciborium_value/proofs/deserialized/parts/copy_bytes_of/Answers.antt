@@ -1,6 +1,7 @@
-use Rattle.std.proofs.Common.{◌≡◌, ◌∙◌, ◌+◌, ◌<◌, ◌++◌, ◌∷◌, ℕ, List, [], None, ap, add-one, arith, drop, drop-cons}
-use Rattle.std.proofs.{Common.{get_or, length, map, rules, subst, suc, sym}, lemmas.Grind.common_steps}
+use Rattle.std.proofs.Common.{◌≡◌, ◌∙◌, ◌+◌, ◌<◌, ◌++◌, ◌∷◌, ℕ, List, [], None, ap, add-one, arith, drop}
+use Rattle.std.proofs.{Common.{get_or, length, map, rules, subst, sym}, lemmas.Grind.common_steps}
 use Rattle.ciborium_ll.specs.Item.{Item}
+use Rattle.ciborium_value.proofs.Trees.Elements.{at, left_from}
 use Rattle.ciborium_value.{proofs.Sources.TreeReading.behind_these, specs.Given.{given_byte, gives, outcome, take_each}}
 use Rattle.ciborium_value.specs.{TreeAnswers.{IsErrorOf, value_item}, declared.error.Error.Error}
 use Rattle.ciborium_value.specs.declared.{error.Error.TheVariants.{Custom, Memory}, tree.Value.Value}
@@ -19,8 +20,7 @@ refused_byte (Custom k) bs i is h = cc h
 
 -- a value and those behind it
 here : (vs : List Value) (i : ℕ) (v : Value) → i < length vs → v ≡ get_or vs i v → drop i vs ≡ v ∷ drop (i + 1) vs
-here vs i v h e = drop-cons vs i v h ∙ ap (λ w. w ∷ drop (suc i) vs) (sym e) ∙
-    ap (λ n. v ∷ drop n vs) (sym (add-one i))
+here vs i v h e = rw add-one (left_from (at h e))
 
 pub loop-value-preserved : goal.loop-value-preserved
 loop-value-preserved c =
