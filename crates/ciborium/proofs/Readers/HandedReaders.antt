@@ -45,48 +45,54 @@ module _ {S W A : Type 0} (remaining : S → Option (List ℕ)) (old : ByteSourc
   handed-refused fault h i s z sp e = h (Some old.levels) i
       (bottom (old.decoder.reader.ghost_name, p + length s) z) (ahead i s z sp e)
 
+pub some-map : {A : Type 0} {P Q : A → Type 0} (o : Option A) → IfSome o P → ((v : A) → P v → Q v) → IfSome o Q
+some-map (Some v) p f = f v p
+some-map None p f = tt
+
+pub err-read : {T A E : Type 0} (content : T → A) (P : E → Type 0) (r : Result T E) → IfErr (read_as content r) P →
+    IfErr r P
+err-read content P (Ok v) h = tt
+err-read content P (Err e) h = h
+
 -- the same, of what was read from the source
-pub handed-given : {S W T A : Type 0} (E : Type 0) (can_fail : Bool)
-    (remaining : S → Option (List ℕ)) (reading : Reading T A) (old new : ByteSource S W) (b : List ℕ) (p : ℕ) →
-    IsUnread remaining old b → end_at remaining old ≡ p + length b →
-    (x : S) → (old.decoder.reader.ghost_name ≡ new.decoder.reader.ghost_name → x ≡ new.decoder.reader.now) →
-    (r : Result T (Error E)) → IsReadFrom {E = E} can_fail remaining reading old new r →
-    IfOk (read_as reading.content r) (λ v. TakesGiving (Some old.levels) reading.taken b v (remaining x))
-handed-given E can_fail remaining reading old new b p front ends x back (Ok v) h =
-    handed-ok remaining old reading.taken b front p ends new (reading.content v) x back h.took h.ok
-handed-given E can_fail remaining reading old new b p front ends x back (Err e) h = tt
+module _ {S W T A : Type 0} (E : Type 0) (can_fail : Bool) (remaining : S → Option (List ℕ)) (reading : Reading T A)
+    (old new : ByteSource S W) (x : S)
+    (back : old.decoder.reader.ghost_name ≡ new.decoder.reader.ghost_name → x ≡ new.decoder.reader.now) where
+  abbrev IsRead : Result T (Error E) → Type 0
+  IsRead = IsReadFrom {E = E} can_fail remaining reading old new
 
--- the reader that was lent is what the source is left with
-handed-back : {S W T A : Type 0} (E : Type 0)
-    (can_fail : Bool) (remaining : S → Option (List ℕ)) (reading : Reading T A) (old new : ByteSource S W) (x : S) →
-    (old.decoder.reader.ghost_name ≡ new.decoder.reader.ghost_name → x ≡ new.decoder.reader.now) →
-    (r : Result T (Error E)) → IsReadFrom {E = E} can_fail remaining reading old new r → x ≡ new.decoder.reader.now
-handed-back E can_fail remaining reading old new x back r h =
-    back (sym (taken-name remaining old.decoder new.decoder (h.only old (taken-none remaining old.decoder))))
+  -- the reader that was lent is what the source is left with
+  handed-back : (r : Result T (Error E)) → IsRead r → x ≡ new.decoder.reader.now
+  handed-back r h =
+      back (sym (taken-name remaining old.decoder new.decoder (h.only old (taken-none remaining old.decoder))))
 
-pub handed-denied : {S W T A : Type 0} (E : Type 0) (can_fail : Bool)
-    (remaining : S → Option (List ℕ)) (reading : Reading T A) (old new : ByteSource S W) (b : List ℕ) (p : ℕ) →
-    IsUnread remaining old b → end_at remaining old ≡ p + length b →
-    (x : S) → (old.decoder.reader.ghost_name ≡ new.decoder.reader.ghost_name → x ≡ new.decoder.reader.now) →
-    (r : Result T (Error E)) →
-    IsReadFrom {E = E} can_fail remaining reading old new r → IfErr (read_as reading.content r)
-    (λ e. IsFaultAhead p (Some old.levels) reading.taken b (fault_of (left_at_failure can_fail (remaining x)) e))
-handed-denied E can_fail remaining reading old new b p front ends x back (Ok v) h = tt
-handed-denied E can_fail remaining reading old new b p front ends x back (Err e) h =
-    let given = handed-back E can_fail remaining reading old new x back (Err e) h in
-    handed-refused remaining old reading.taken b front p ends (fault_of (left_at_failure can_fail (remaining x)) e)
-    (subst (λ y. RefusesAhead (StandsBefore remaining) old reading.taken (fault_of (left_at_failure can_fail
-    (remaining y)) e)) (sym given) h.refused)
+  pub handed-memory : (r : Result T (Error E)) → IsRead r →
+      IfErr r (λ e. IsGrantedFault (fault_of (left_at_failure can_fail (remaining x)) e) reading.needs_memory)
+  handed-memory r h =
+      subst (λ y. IfErr r (λ e. IsGrantedFault (fault_of (left_at_failure can_fail (remaining y)) e)
+      reading.needs_memory)) (sym (handed-back r h)) h.memory
 
-pub handed-memory : {S W T A : Type 0} (E : Type 0)
-    (can_fail : Bool) (remaining : S → Option (List ℕ)) (reading : Reading T A) (old new : ByteSource S W) (x : S) →
-    (old.decoder.reader.ghost_name ≡ new.decoder.reader.ghost_name → x ≡ new.decoder.reader.now) →
-    (r : Result T (Error E)) → IsReadFrom {E = E} can_fail remaining reading old new r →
-    IfErr r (λ e. IsGrantedFault (fault_of (left_at_failure can_fail (remaining x)) e) reading.needs_memory)
-handed-memory E can_fail remaining reading old new x back r h =
-    subst (λ y. IfErr r (λ e. IsGrantedFault (fault_of (left_at_failure can_fail
-    (remaining y)) e) reading.needs_memory))
-    (sym (handed-back E can_fail remaining reading old new x back r h)) h.memory
+  module _ (b : List ℕ) (p : ℕ) (front : IsUnread remaining old b) (ends : end_at remaining old ≡ p + length b) where
+    pub handed-given : (r : Result T (Error E)) → IsRead r →
+        IfOk (read_as reading.content r) (λ v. TakesGiving (Some old.levels) reading.taken b v (remaining x))
+    handed-given (Ok v) h =
+        handed-ok remaining old reading.taken b front p ends new (reading.content v) x back h.took h.ok
+    handed-given (Err e) h = tt
+
+    pub handed-denied : (r : Result T (Error E)) → IsRead r → IfErr (read_as reading.content r)
+        (λ e. IsFaultAhead p (Some old.levels) reading.taken b (fault_of (left_at_failure can_fail (remaining x)) e))
+    handed-denied (Ok v) h = tt
+    handed-denied (Err e) h =
+        handed-refused remaining old reading.taken b front p ends (fault_of (left_at_failure can_fail (remaining x)) e)
+        (subst (λ y. RefusesAhead (StandsBefore remaining) old reading.taken (fault_of (left_at_failure can_fail
+        (remaining y)) e)) (sym (handed-back (Err e) h)) h.refused)
+
+  -- a reader that cannot fail before its end has nothing left at `Io`
+  pub handed-ended : (r : Result T (Error E)) → IsRead r →
+      IfSome reading.whole (λ _. IfErr r (λ e. HasEndedBy can_fail (remaining x) e))
+  handed-ended r h = some-map reading.whole h.whole (λ tree reads.
+      subst (λ y. IfErr r (λ e. HasEndedBy can_fail (remaining y) e)) (sym (handed-back r h))
+      (err-read (λ v. tree (reading.content v)) (λ e. HasEndedBy can_fail (left_of remaining new.decoder) e) r reads.1))
 
 -- ---- where reading is one call of `value`
 
@@ -114,26 +120,6 @@ handed-from E {S} {W} can_fail remaining old new lent x p r begins none back rea
       bytes,
     )
 
-pub some-map : {A : Type 0} {P Q : A → Type 0} (o : Option A) → IfSome o P → ((v : A) → P v → Q v) → IfSome o Q
-some-map (Some v) p f = f v p
-some-map None p f = tt
-
-pub err-read : {T A E : Type 0} (content : T → A) (P : E → Type 0) (r : Result T E) → IfErr (read_as content r) P →
-    IfErr r P
-err-read content P (Ok v) h = tt
-err-read content P (Err e) h = h
-
--- a reader that cannot fail before its end has nothing left at `Io`
-pub handed-ended : {S W T A : Type 0} (E : Type 0) (can_fail : Bool) (remaining : S → Option (List ℕ))
-    (reading : Reading T A) (old new : ByteSource S W) (x : S) →
-    (old.decoder.reader.ghost_name ≡ new.decoder.reader.ghost_name → x ≡ new.decoder.reader.now) →
-    (r : Result T (Error E)) → IsReadFrom {E = E} can_fail remaining reading old new r →
-    IfSome reading.whole (λ _. IfErr r (λ e. HasEndedBy can_fail (remaining x) e))
-handed-ended E can_fail remaining reading old new x back r h =
-    some-map reading.whole h.whole (λ tree reads. subst (λ y. IfErr r (λ e. HasEndedBy can_fail (remaining y) e))
-    (sym (handed-back E can_fail remaining reading old new x back r h))
-    (err-read (λ v. tree (reading.content v)) (λ e. HasEndedBy can_fail (left_of remaining new.decoder) e) r reads.1))
-
 -- all that a call says that reads one value from a source of its own
 pub handed-all : {S W T A : Type 0} (E : Type 0) (can_fail : Bool) (remaining : S → Option (List ℕ))
     (reading : Reading T A) (old new : ByteSource S W) (lent x : S) (p : ℕ) → HasBegun old.decoder lent p →
@@ -149,8 +135,8 @@ handed-all E can_fail remaining reading old new lent x p begins none back r h =
     λ b e. ap (λ o. known_end o old.decoder.counter.count) (begun-left remaining old.decoder lent p begins ∙ e) ∙
     ap (λ n. n + length b) begins.count in
     record {
-      ok = λ b e. handed-given E can_fail remaining reading old new b p (front b e) (ends b e) x back r h;
-      refused = λ b e. handed-denied E can_fail remaining reading old new b p (front b e) (ends b e) x back r h;
+      ok = λ b e. handed-given E can_fail remaining reading old new x back b p (front b e) (ends b e) r h;
+      refused = λ b e. handed-denied E can_fail remaining reading old new x back b p (front b e) (ends b e) r h;
       memory = handed-memory E can_fail remaining reading old new x back r h;
       taken = taken-beginning remaining old.decoder new.decoder lent x p begins back
           (h.only old (taken-none remaining old.decoder));

@@ -188,12 +188,12 @@ module _ {S W T A : Type 0} (E : Type 0) (can_fail : Bool) (remaining : S →
           );
           ok = item-says (λ q. TakesGiven (Some s.levels) reading.taken (remaining lent) (remaining x)
               (read_as reading.content q)) first r (λ h read q item b known. handed-given E can_fail remaining reading
-              (behind_head s p h) t b p (front E can_fail remaining d s lent p begins kept h read b known)
-              (ends b known h read) x back q item) taken none item;
+              (behind_head s p h) t x back b p (front E can_fail remaining d s lent p begins kept h read b known)
+              (ends b known h read) q item) taken none item;
           refused = item-says (λ q. RefusesGiven p (Some s.levels) reading.taken (remaining lent)
               (left_at_failure can_fail (remaining x)) (read_as reading.content q)) first r
-              (λ h read q item b known. handed-denied E can_fail remaining reading (behind_head s p h) t b p
-              (front E can_fail remaining d s lent p begins kept h read b known) (ends b known h read) x back q item)
+              (λ h read q item b known. handed-denied E can_fail remaining reading (behind_head s p h) t x back
+              b p (front E can_fail remaining d s lent p begins kept h read b known) (ends b known h read) q item)
               taken none item;
           memory = next-memory back first r none item;
           taken = (all.0, all.1);
