@@ -1,13 +1,15 @@
 use Rattle.std.proofs.Common.{rules, ◌≡◌, ◌≤◌, ℕ, [], ◌∷◌, ap, ◌∙◌, Some, false, subst, arith, length, take}
-use Rattle.std.proofs.{Common.{length-append, chars, ◌+◌}, lemmas.Grind.common_steps}
+use Rattle.std.proofs.{lemmas.Grind.common_steps}
 use Rattle.ciborium_ll.specs.{Accesses.left_at_failure, declared.strings.StringType.StringType}
-use Rattle.ciborium_value.{proofs.Sources.Sequences.fault_outside, specs.Given.{given_character, lone_character}}
-use Rattle.ciborium_value.specs.{Given.settled, Sources.of_kind}
-use Rattle.ciborium.proofs.Containers.ByteItems.{bare-refused, behind-given, behind-refused, head-refused}
-use Rattle.ciborium.proofs.{Containers.ByteItems.{other-refuses, refuses-denied}, Exits.passed_on}
-use Rattle.ciborium.proofs.{Items.{SkippedTags.reads-bare, TakenOnly.same-end}, Payloads.LoneCharacters.character-given}
+use Rattle.ciborium_value.{specs.Given.{given_character}}
+use Rattle.ciborium_value.specs.{Sources.of_kind}
+use Rattle.ciborium.proofs.Containers.ByteItems.{bare-refused, behind-refused, head-refused, other-refuses}
+use Rattle.ciborium.proofs.{Containers.ByteItems.{refuses-denied, string-given, string-refuses}, Exits.passed_on}
+use Rattle.ciborium.proofs.Payloads.ShortNames.{just-denied}
+use Rattle.ciborium.specs.inner.StringContents.{DeniesJust}
+use Rattle.ciborium.proofs.{Items.{TakenOnly.same-end}, Payloads.LoneCharacters.character-given}
 use Rattle.ciborium.proofs.Payloads.LoneCharacters.{character-open, character-other, long-denied, payload-denied}
-use Rattle.ciborium.proofs.Payloads.{LoneCharacters.{payload-taken, text-denied}, StringPayloads.string-behind}
+use Rattle.ciborium.proofs.Payloads.{LoneCharacters.{payload-taken, text-denied}}
 use Rattle.ciborium.specs.inner.{ByteSources.{IsUnread, end_at, fault_at}, Skips.TakesBare}
 use Rattle.ciborium_ll.specs.declared.header.Header.TheVariants as header
 use Rattle.ciborium_ll.specs.declared.kind.Kind.TheVariants as kinds
@@ -34,42 +36,29 @@ returns-then-n-gt-GREATEST_CHARACTER_SIZE-clause-takes g c =
 
 pub returns-in_ok-character-in-Some-clause-takes : goal.returns-in_ok-character-in-Some-clause-takes
 returns-in_ok-character-in-Some-clause-takes g c =
-    let old = c.args.self.now in
-    let l = Some old.levels in
     let n = c.in-Some.n in
-    let mid = c.bare_head.new.self in
-    let new = c.fill.new.self in
     let payload = c.fill.new.buffer in
     let size : length payload ≡ n = c.fill.auto.buffer ∙ short n c.if-n-gt-GREATEST_CHARACTER_SIZE.false in
     let content = c.in_ok-fill-in-Some.ensures in
-    let found = c.in_ok-character-in-Some.character in
-    behind-given c.in_ok-header.ensures.reads (content.same_reader, content.only) content.levels content.pending
-    content.fewer (reads-bare (IsUnread g.A.Access.remaining) false (header.Text (Some n)) l given_character old mid new
-    found (subst (TakesBare (IsUnread g.A.Access.remaining) old mid false) (c.in-Text.is ∙ ap header.Text c.in-Some.is)
-    c.in_ok-header.ensures.head)
-    (string-behind (IsUnread g.A.Access.remaining) mid new StringType.Text (Some n) l given_character payload found
-    (payload-taken (IsUnread g.A.Access.remaining mid) (IsUnread g.A.Access.remaining new) n payload size
-    c.in_ok-character-in-Some.ensures.utf8 content.ok)
-    (character-given l payload found c.in_ok-character-in-Some.ensures.ok)))
+    string-given c.in_ok-header.ensures.reads c.in_ok-header.ensures.head StringType.Text (Some n)
+    (c.in-Text.is ∙ ap header.Text c.in-Some.is) (content.same_reader, content.only) content.levels content.pending
+    content.fewer payload (payload-taken (IsUnread g.A.Access.remaining c.bare_head.new.self)
+    (IsUnread g.A.Access.remaining c.fill.new.self) n payload size c.in_ok-character-in-Some.ensures.utf8 content.ok)
+    (character-given (Some c.args.self.now.levels) payload c.in_ok-character-in-Some.character
+    c.in_ok-character-in-Some.ensures.ok)
 
 pub returns-in_err-fill-in-Some-clause-takes : goal.returns-in_err-fill-in-Some-clause-takes
 returns-in_err-fill-in-Some-clause-takes g c =
-    let old = c.args.self.now in
-    let mid = c.bare_head.new.self in
     let n = c.in-Some.n in
+    let P = IsUnread g.A.Access.remaining c.bare_head.new.self in
+    let end = end_at g.A.Access.remaining c.bare_head.new.self in
     let fault = fault_at g.A.Access.can_fail g.A.Access.remaining c.fill.new.self c.in_err-fill-in-Some.field-0.0 in
-    let room = short n c.if-n-gt-GREATEST_CHARACTER_SIZE.false in
     let refusal = c.in_err-fill-in-Some.ensures in
     rw (passed_on c.from_residual-in_err-fill-in-Some.result _ c.from_residual-in_err-fill-in-Some.ensures.1)
     (behind-refused c.in_ok-header.ensures.reads refusal.only refusal.no_more
-    (refuses-denied g.A.Access.remaining old given_character fault
-    (text-denied (IsUnread g.A.Access.remaining) (end_at g.A.Access.remaining) (Some old.levels) old mid n
-    (subst (TakesBare (IsUnread g.A.Access.remaining) old mid false) (c.in-Text.is ∙ ap header.Text c.in-Some.is)
-    c.in_ok-header.ensures.head) fault (same-end g.A.Access.remaining old mid c.in_ok-header.ensures.reads.only)
-    (λ y z payload end un size utf8 e fits. let more : length y ≡ length payload + length z = ap length e ∙
-    length-append payload z in
-    fault_outside end fault (settled (lone_character (chars payload)))
-    (refusal.outside y (length z) end un (omega (arith, room, size, more)) fits)))))
+    (string-refuses given_character c.in_ok-header.ensures.reads c.in_ok-header.ensures.head fault StringType.Text
+    (Some n) (c.in-Text.is ∙ ap header.Text c.in-Some.is) (just-denied P end n fault StringType.Text
+    (subst (λ k. DeniesJust P end k fault) (short n c.if-n-gt-GREATEST_CHARACTER_SIZE.false) refusal.outside))))
 
 pub returns-in_err-character-in-Some-clause-takes : goal.returns-in_err-character-in-Some-clause-takes
 returns-in_err-character-in-Some-clause-takes g c =
