@@ -15,6 +15,8 @@ use Rattle.ciborium.proofs.Turns.{Fronts.{head-no-break, ahead-at, offset-at, Pu
 use Rattle.ciborium.specs.{ValueAnswers.IsRefusedBy, declared.de.error.Error.{Error, TheVariants.Semantic}}
 use Rattle.ciborium.specs.inner.{Parts.{IsHeadAccepted, IsHeadMeasured, RefusesPart}, Rules.{long_fault, counted_fault}}
 use Rattle.ciborium.specs.inner.{Rules.{deterministic_fault, head_fault}, ValuesInBytes.{IsAt, IsPulled, StandsAt}}
+use Rattle.std.proofs.Common.{Result}
+use Rattle.ciborium.specs.inner.Parts.{IsHeadRead}
 use Rattle.ciborium_ll.specs.declared.header.Header.TheVariants as header
 use Rattle.ciborium_ll.specs.declared.kind.Kind.TheVariants as kinds
 
@@ -174,6 +176,21 @@ module _ {S W : Type 0} (spelling : Spelling) (remaining : S → Option (List �
   faulty-head E h l offset kind wrong here pulled = bad-at Some (with_left e v) h xs p pulled spelling E l offset kind
       (Some v) wrong (sized spelling stands) (here ∙ pulled.5)
 
+-- what is answered by what pulling a head answered
+pub part-of-pull : {S W : Type 0} (spelling : Spelling) (remaining : S → Option (List ℕ)) (d e : Decoder S W)
+    (x : Result Header (Error (Unit {0}))) (P : List ℕ → List ℕ → ℕ → Type 0) →
+    TakesBeforeAny remaining d e (λ d e. PullsSo Some d e x) →
+    ((u z xs : List ℕ) (p : ℕ) → StandsAt spelling Some (with_left d u) xs p →
+    IsHeadRead Some (with_left e z) xs p x → P z xs p) →
+    Takes remaining d e (λ b. (z xs : List ℕ) (p : ℕ) → StandsAt spelling Some (with_left d (b ++ z)) xs p → P z xs p)
+part-of-pull spelling remaining d e x P t f = (
+  t.0,
+  t.1,
+  t.2,
+  λ z xs p s. f (t.0 ++ z) z xs p s (t.3 z xs p (ahead-of spelling Some (with_left d (t.0 ++ z)) xs p s)),
+  t.4,
+)
+
 -- a head was pulled, and the spelling accepts it
 pub record PullsAccepted {S W : Type 0} (spelling : Spelling) (remaining : S → Option (List ℕ)) (d e : Decoder S W)
     (h : Header) : Type 0 where
@@ -188,14 +205,8 @@ module _ {S W : Type 0} {spelling : Spelling} {remaining : S → Option (List �
   pub part-of-head : (P : List ℕ → List ℕ → ℕ → Type 0) →
       ((z xs : List ℕ) (p : ℕ) → IsHeadAccepted spelling Some (with_left e z) h xs p → P z xs p) →
       Takes remaining d e (λ b. (z xs : List ℕ) (p : ℕ) → StandsAt spelling Some (with_left d (b ++ z)) xs p → P z xs p)
-  part-of-head P f = let t = a.pull in (
-    t.0,
-    t.1,
-    t.2,
-    λ z xs p s. f z xs p (accepted-head spelling remaining d e (t.0 ++ z) z xs p s a.size h a.right
-        (t.3 z xs p (ahead-of spelling Some (with_left d (t.0 ++ z)) xs p s))),
-    t.4,
-  )
+  part-of-head P f = part-of-pull spelling remaining d e (Ok h) P a.pull
+      (λ u z xs p s pulled. f z xs p (accepted-head spelling remaining d e u z xs p s a.size h a.right pulled))
 
   -- by what was read behind it
   pub part-behind-head : (f : Decoder S W) (P : List ℕ → List ℕ → ℕ → Type 0)

@@ -57,7 +57,7 @@ broken spelling l xs p os m ys q zs a none is less =
     let refuses : Refuses spelling ys q (Some m) (semantic q Break) =
     subst (λ z. Refuses spelling z q (Some m) (semantic q Break)) (sym is)
     (Refuses.break {p = q} {b = zs} (opened-has 7 q zs refl less)) in
-    refused-turn spelling l xs p os m ys q (semantic q Break) a refuses (λ h. absurd (ends-not os none h))
+    refused-turn spelling l xs p os a refuses (λ h. absurd (ends-not os none h))
 
 -- ---- what `next` answers
 
@@ -110,7 +110,7 @@ module _ {S W : Type 0} {spelling : Spelling} {remaining : S → Option (List �
   pub turn-refused : {f : Error (Unit {0})} → IsTold spelling remaining e os l xs p (Err f) →
       IsRefusedBy (left_of remaining e) f (Refuses spelling xs p (Some l))
   turn-refused {f} s = refused-map (left_of remaining e) f (RefusesPart spelling s.ys s.q s.m)
-      (Refuses spelling xs p (Some l)) (λ r h. refused-turn spelling l xs p os s.m s.ys s.q r s.around h.0 (λ _. h.1))
+      (Refuses spelling xs p (Some l)) (λ r h. refused-turn spelling l xs p os s.around h.0 (λ _. h.1))
       s.part
 
   pub turn-whole : {v : Value} (after : List TreeFrame) (end : ℕ) (z : Result (Option Value) (Error (Unit {0}))) →

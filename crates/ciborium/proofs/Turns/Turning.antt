@@ -72,11 +72,11 @@ open-no-break m b r lt e (s, begins) = let first = same-first (open_byte m) brea
     same-first : (x y : ℕ) (r s : List ℕ) → x ∷ r ≡ y ∷ s → x ≡ y
     same-first x y r s e = cc e
 
-container-no-break : (b : List ℕ) (k : ℕ) (r : List ℕ) (w : Due) → BeginsContainer b k r w → ¬ IsAtFront break_byte b
-container-no-break b k r w (BeginsContainer.array n (h, is, len, e)) = not-break 4 n h b r (omega arith) is e
-container-no-break b k r w (BeginsContainer.open_array one e) = open-no-break 4 b r (omega arith) e
-container-no-break b k r w (BeginsContainer.map n (h, is, len, e)) = not-break 5 n h b r (omega arith) is e
-container-no-break b k r w (BeginsContainer.open_map one e) = open-no-break 5 b r (omega arith) e
+container-no-break : {b : List ℕ} {k : ℕ} {r : List ℕ} {w : Due} → BeginsContainer b k r w → ¬ IsAtFront break_byte b
+container-no-break {b} {r = r} (BeginsContainer.array n (h, is, len, e)) = not-break 4 n h b r (omega arith) is e
+container-no-break {b} {r = r} (BeginsContainer.open_array one e) = open-no-break 4 b r (omega arith) e
+container-no-break {b} {r = r} (BeginsContainer.map n (h, is, len, e)) = not-break 5 n h b r (omega arith) is e
+container-no-break {b} {r = r} (BeginsContainer.open_map one e) = open-no-break 5 b r (omega arith) e
 
 key-next : (behind : Option ℕ) → next_due (keys (option_map suc behind)) ≡ Some (values behind)
 key-next None = refl
@@ -120,8 +120,9 @@ module _ (spelling : Spelling) where
 
   -- an item of an array, or a value behind its key
   part-more : {b : List ℕ} {q m : ℕ} {vs ws : List Tree} {v : Tree} {ys zs : List ℕ} {u r : ℕ} {now next : Due} →
-      IsInside spelling b q (Some (suc m)) vs ys u now (Some m) → ReadsItem spelling (Some m) ys u v zs r → IsNoKey now →
-      next_due now ≡ Some next → vs ++ (v ∷ []) ≡ ws → IsInside spelling b q (Some (suc m)) ws zs r next (Some m)
+      IsInside spelling b q (Some (suc m)) vs ys u now (Some m) → ReadsItem spelling (Some m) ys u v zs r →
+      IsNoKey now → next_due now ≡ Some next → vs ++ (v ∷ []) ≡ ws →
+      IsInside spelling b q (Some (suc m)) ws zs r next (Some m)
   part-more {b} {q} {m} {vs} {ws} {v} {ys} {zs} {u} {r} {now} {next} a i other due same =
       subst (λ us. IsInside spelling b q (Some (suc m)) us zs r next (Some m)) same
       (inside-more spelling b q (Some (suc m)) (Some m) vs v ys zs u r now next a i due
@@ -219,23 +220,21 @@ module _ (spelling : Spelling) where
 
   -- ---- a refusal
 
-  pub refused-turn : (l : ℕ) (xs : List ℕ) (p : ℕ) (os : List TreeFrame) (m : ℕ) (ys : List ℕ) (q : ℕ) (e : Refusal) →
+  pub refused-turn : (l : ℕ) (xs : List ℕ) (p : ℕ) (os : List TreeFrame) {m : ℕ} {ys : List ℕ} {q : ℕ} {e : Refusal} →
       IsAround spelling l xs p os m ys q → Refuses spelling ys q (Some m) e → (EndsHere os → ¬ IsBreakAt ys q) →
       Refuses spelling xs p (Some l) e
-  refused-turn l xs p [] m ys q e a f h =
+  refused-turn l xs p [] {m} {ys} {q} {e} a f h =
       let x : Refuses spelling ys q (Some l) e = subst (λ n. Refuses spelling ys q (Some n) e) a.0 f in
       let y : Refuses spelling xs q (Some l) e = subst (λ b. Refuses spelling b q (Some l) e) a.1 x in
       subst (λ n. Refuses spelling xs n (Some l) e) a.2 y
-  refused-turn l xs p (array vs behind ∷ os) m ys q e (bs, b, around, c) f h =
-      refused-turn l xs p os (suc m) bs b e around
+  refused-turn l xs p (array vs behind ∷ os) {m} {ys} {q} (bs, b, around, c) f h = refused-turn l xs p os around
       (Refuses.part vs ys q (items (option_map suc behind)) (Some m) c (array-due behind vs os ys q h) f)
-      (λ ends break. container-no-break bs c.size (c.good ++ ys) c.start c.begins break.1)
-  refused-turn l xs p (map ps behind key ∷ os) m ys q e (bs, b, around, c) f h =
-      refused-turn l xs p os (suc m) bs b e around
+      (λ ends break. container-no-break c.begins break.1)
+  refused-turn l xs p (map ps behind key ∷ os) {m} {ys} {q} (bs, b, around, c) f h = refused-turn l xs p os around
       (Refuses.part (trees_in_turn ps key) ys q (map_due behind key) (Some m) c (part-due behind key ps os ys q h) f)
-      (λ ends break. container-no-break bs c.size (c.good ++ ys) c.start c.begins break.1)
-  refused-turn l xs p (tag t ∷ os) m ys q e (bs, b, around, (a, never)) f h =
-      refused-turn l xs p os (suc m) bs b e around (Refuses.tagged t ys q (Some m) a never refl f)
+      (λ ends break. container-no-break c.begins break.1)
+  refused-turn l xs p (tag t ∷ os) {m} {ys} {q} (bs, b, around, (a, never)) f h = refused-turn l xs p os around
+      (Refuses.tagged t ys q (Some m) a never refl f)
       (λ ends break. not-break 6 t a.tag.0 bs ys (omega arith) a.tag.1 a.tag.3 break.1)
 
 -- out of order, a key refuses
@@ -254,11 +253,11 @@ disordered (deterministic order) l xs p (map ps behind (Some k) ∷ os) zs r at 
     let len : length i.taken ≡ length (encoding k) = ap length i.read.5.0 in
     let size : encoded_size y ≡ min (length (encoding k)) (2 ^ 64 - 1) = ap encoded_size (last-key ps k x y is) in
     let place : at ≡ q = omega (arith, here, size, end, fits, len) in
-    refused-turn (deterministic order) l xs p os (suc m) bs b (semantic at kinds.KeyOrder) around
+    refused-turn (deterministic order) l xs p os around
     (subst (λ j. Refuses (deterministic order) bs b (Some (suc m)) (semantic j kinds.KeyOrder)) (sym place)
     (Refuses.key_order (trees_in_turn ps None) ys i.taken zs k q (keys (option_map suc behind)) (Some m) c
     (due behind c) i.read i.split wrong))
-    (λ ends break. container-no-break bs c.size (c.good ++ ys) c.start c.begins break.1)
+    (λ ends break. container-no-break c.begins break.1)
   where
     start-is : (n : Option ℕ) × (c.start ≡ keys n)
     start-is = start-keys bs c.size (c.good ++ ys) c.start (trees_in_turn ps None) (option_map suc behind) c.begins

@@ -1,10 +1,10 @@
-use Rattle.std.proofs.Common.{◌≡◌, ℕ, List, ◌++◌, ap, sym, ◌∙◌, Some, Ok, Err, subst, false, true, lt_of_le_of_lt, Bool}
+use Rattle.std.proofs.Common.{◌≡◌, ℕ, List, ap, sym, ◌∙◌, Some, Ok, Err, subst, false, true, lt_of_le_of_lt, Bool}
 use Rattle.std.proofs.{Common.{IfOk, None, Option, Result}, lemmas.Result.on_ok_weaker}
 use Rattle.ciborium_ll.specs.{Decoding.with_left, Refusal.semantic, declared.header.Header.Header}
 use Rattle.ciborium_ll.specs.declared.strings.StringType.{StringType}
 use Rattle.ciborium_value.{proofs.Trees.Views.tree_of-Integer}
 use Rattle.ciborium.proofs.{Exits.passed_on, Readers.WhateverFollows.StringSo, Turns.Contents.got-string}
-use Rattle.ciborium.proofs.Turns.{Contents.string-fault, Heads.{PullsAccepted, ahead-of, faulty-head, head-refused}}
+use Rattle.ciborium.proofs.Turns.{Contents.string-fault, Heads.{PullsAccepted, faulty-head, head-refused}}
 use Rattle.ciborium.proofs.Turns.{Heads.{part-behind-head, part-of-head}, Leaves.{container-part, float-refuses}}
 use Rattle.ciborium.proofs.Turns.Leaves.{got-end, got-negative, got-positive, got-simple, simple-refuses}
 use Rattle.ciborium.specs.ValueAnswers.{IsRefusedBy}
@@ -15,6 +15,7 @@ use Rattle.ciborium_ll.specs.declared.header.Header.TheVariants as header
 use Rattle.ciborium_ll.specs.declared.kind.Kind.TheVariants as kinds
 use Rattle.ciborium_value.specs.Tree as trees
 use Rattle.ciborium.proofs.de.parts.next.{Given.Over, Goals.In_default}
+use Rattle.ciborium.proofs.Turns.Heads.{part-of-pull}
 use Rattle.ciborium.proofs.de.parts.next.Goals as goal
 
 -- a container that begins has a level, and no head is pushed behind one that is whole
@@ -38,30 +39,19 @@ accepted g c = record {
 
 pub returns-in_err-header-clause-part : goal.returns-in_err-header-clause-part
 returns-in_err-header-clause-part g c =
-    let t = c.in_err-header.ensures.head in
-    rw (passed_on c.from_residual.result _ c.from_residual.ensures.1) (
-      t.0,
-      t.1,
-      t.2,
-      λ z xs p s. head-refused g.S.Rules.spelling (Some z) c.in_err-header.field-0.0 xs p c.args.levels
-          (t.3 z xs p (ahead-of g.S.Rules.spelling Some (with_left c.args.decoder.now (t.0 ++ z)) xs p s)),
-      t.4,
-    )
+    rw (passed_on c.from_residual.result _ c.from_residual.ensures.1) (part-of-pull g.S.Rules.spelling
+    g.A.Access.remaining c.args.decoder.now c.pull.new.decoder (Err c.in_err-header.field-0.0) _
+    c.in_err-header.ensures.head
+    (λ u z xs p s. head-refused g.S.Rules.spelling (Some z) c.in_err-header.field-0.0 xs p c.args.levels))
 
 pub returns-in-Some-clause-part : goal.returns-in-Some-clause-part
 returns-in-Some-clause-part g c =
-    let t = c.in_ok-header.ensures.head in (
-      t.0,
-      t.1,
-      t.2,
-      λ z xs p s. faulty-head g.S.Rules.spelling g.A.Access.remaining c.args.decoder.now c.pull.new.decoder (t.0 ++ z) z
-          xs p s c.in_ok-header.ensures.measured Unit c.in_ok-header.header c.args.levels c.last_offset.result
-          c.in-Some.kind
-          (sym (c.find_head_fault.ensures ∙ ap (head_fault g.S.Rules.spelling c.in_ok-header.header) c.head_len.ensures)
-          ∙ c.in-Some.is) c.last_offset.ensures (t.3 z xs p
-          (ahead-of g.S.Rules.spelling Some (with_left c.args.decoder.now (t.0 ++ z)) xs p s)),
-      t.4,
-    )
+    part-of-pull g.S.Rules.spelling g.A.Access.remaining c.args.decoder.now c.pull.new.decoder
+    (Ok c.in_ok-header.header) _ c.in_ok-header.ensures.head (λ u z xs p s. faulty-head g.S.Rules.spelling
+    g.A.Access.remaining c.args.decoder.now c.pull.new.decoder u z xs p s c.in_ok-header.ensures.measured Unit
+    c.in_ok-header.header c.args.levels c.last_offset.result c.in-Some.kind
+    (sym (c.find_head_fault.ensures ∙ ap (head_fault g.S.Rules.spelling c.in_ok-header.header) c.head_len.ensures)
+    ∙ c.in-Some.is) c.last_offset.ensures)
 
 pub returns-in-Positive-clause-part : goal.returns-in-Positive-clause-part
 returns-in-Positive-clause-part g c =
