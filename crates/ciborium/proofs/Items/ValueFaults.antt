@@ -161,14 +161,10 @@ IsAll (items n) is end = IsEnd n (items_count is) end
 IsAll (keys n) is end = (ps : Pairs) × (flat ps ≡ is) × IsEnd n (pairs_count ps) end
 IsAll (values n) is end = (v : Item) × (ps : Pairs) × (item v (flat ps) ≡ is) × IsEnd n (pairs_count ps) end
 
-record Holds (i : Item) (w : Due) (r z : List ℕ) : Type 0 where
-  is : Items
-  inside : List ℕ
-  end : List ℕ
-  spelled : SpellsItems inside is
-  split : r ≡ inside ++ (end ++ z)
-  all : IsAll w is end
-  holds : IsContainer i is
+-- the container holds these items, and they are what is due
+abbrev Holds : Item → Due → List ℕ → List ℕ → Type 0
+Holds i w r z = (is : Items) × (inside : List ℕ) × (end : List ℕ) × SpellsItems inside is ×
+    (r ≡ inside ++ (end ++ z)) × IsAll w is end × IsContainer i is
 
 -- what is due behind such a head
 abbrev IsOpening : Header → Due → Type 0
@@ -180,44 +176,20 @@ holds-of : (i : Item) (w : Due) (x r s z : List ℕ) → Spells s i → SpellsHe
     IsOpening (header_of i) w → Holds i w r z
 holds-of (array false js) w x r s z (c, k, (a, g, f)) hd e o =
     let h : Header = header.Array (Some (items_count js)) in
-    record {
-      is = js;
-      inside = c;
-      end = [];
-      spelled = k;
-      split = (behind-head s z x r a c h h g hd f e).1;
-      all = subst (λ d. IsAll d js []) (sym o) (refl, refl);
-      holds = refl;
-    }
-holds-of (array true js) w x r s z (c, k, f) hd e o = record {
-  is = js;
-  inside = c;
-  end = break_byte ∷ [];
-  spelled = k;
-  split = behind-open s z x r c 4 (header.Array None) refl hd f e;
-  all = subst (λ d. IsAll d js (break_byte ∷ [])) (sym o) refl;
-  holds = refl;
-}
+    let split = (behind-head s z x r a c h h g hd f e).1 in
+    (js, c, [], k, split, subst (λ d. IsAll d js []) (sym o) (refl, refl), refl)
+holds-of (array true js) w x r s z (c, k, f) hd e o =
+    let split = behind-open s z x r c 4 (header.Array None) refl hd f e in
+    (js, c, break_byte ∷ [], k, split, subst (λ d. IsAll d js (break_byte ∷ [])) (sym o) refl, refl)
 holds-of (maps.map false ps) w x r s z (c, k, (a, g, f)) hd e o =
     let h : Header = header.Map (Some (pairs_count ps)) in
-    record {
-      is = flat ps;
-      inside = c;
-      end = [];
-      spelled = flat-spells ps c k;
-      split = (behind-head s z x r a c h h g hd f e).1;
-      all = subst (λ d. IsAll d (flat ps) []) (sym o) (ps, refl, (refl, refl));
-      holds = refl;
-    }
-holds-of (maps.map true ps) w x r s z (c, k, f) hd e o = record {
-  is = flat ps;
-  inside = c;
-  end = break_byte ∷ [];
-  spelled = flat-spells ps c k;
-  split = behind-open s z x r c 5 (header.Map None) refl hd f e;
-  all = subst (λ d. IsAll d (flat ps) (break_byte ∷ [])) (sym o) (ps, refl, refl);
-  holds = refl;
-}
+    let split = (behind-head s z x r a c h h g hd f e).1 in
+    let all = subst (λ d. IsAll d (flat ps) []) (sym o) (ps, refl, (refl, refl)) in
+    (flat ps, c, [], flat-spells ps c k, split, all, refl)
+holds-of (maps.map true ps) w x r s z (c, k, f) hd e o =
+    let split = behind-open s z x r c 5 (header.Map None) refl hd f e in
+    let all = subst (λ d. IsAll d (flat ps) (break_byte ∷ [])) (sym o) (ps, refl, refl) in
+    (flat ps, c, break_byte ∷ [], flat-spells ps c k, split, all, refl)
 holds-of u w x r s z sp hd e o = absurd o
 
 holds-by : (h : Header) (i : Item) (w : Due) (x r s z : List ℕ) → Spells s i → SpellsHeader x h → s ++ z ≡ x ++ r →
@@ -312,8 +284,7 @@ none-due : (w : Due) (end r z : List ℕ) (p end-offset : ℕ) (f : Fault) → I
     IsOutsideFault end-offset f
 none-due (items (Some n)) end r z p o f (e, g) h due br = let never : ⊥ = omega (arith, e, due) in absurd never
 none-due (items None) end r z p o f g h due br = let e = ended r end z h g in br e (λ lt. due lt (z, e))
-none-due (keys (Some n)) end r z p o f (no_pairs, q, (e, g)) h due br =
-    let never : ⊥ = omega (arith, e, due) in absurd never
+none-due (keys (Some n)) end r z p o f (no_pairs, q, (e, g)) h due br = absurd (omega (arith, e, due))
 none-due (keys None) end r z p o f (no_pairs, q, g) h due br =
     let e = ended r end z h g in br e (λ lt. due lt (z, e))
 none-due u end r z p o f v h due br = cc
@@ -324,8 +295,7 @@ none-more : (w n : Due) (i : Item) (s t end z : List ℕ) → IsAll w no_items e
 none-more (items None) n i s t end z g next sp h = not-break s t z i sp (ended _ end z h g)
 none-more (items (Some (suc m))) n i s t end z (e, g) next sp h = let never : ⊥ = omega (arith, e) in never
 none-more (keys None) n i s t end z (no_pairs, e, g) next sp h = not-break s t z i sp (ended _ end z h g)
-none-more (keys (Some (suc m))) n i s t end z (no_pairs, q, (e, g)) next sp h =
-    let never : ⊥ = omega (arith, e) in never
+none-more (keys (Some (suc m))) n i s t end z (no_pairs, q, (e, g)) next sp h = omega (arith, e)
 none-more u n i s t end z v next sp h = cc
 
 -- the parts behind the first
@@ -466,9 +436,6 @@ large-refuses l y small large = ap (λ o. outcome l (given_tag 3 o (given_value 
 
 -- ---- every refusal
 
-rest-fits : (b r : List ℕ) (p k m : ℕ) → length b ≡ k + length r → p + length b ≤ m → p + k + length r ≤ m
-rest-fits b r p k m size fits = omega (arith, size, fits)
-
 -- what tag t of the bytes b encloses, which end at `end` as b does
 record Enclosed (t : ℕ) (i : Item) (r z : List ℕ) (q end : ℕ) : Type 0 where
   within : Item
@@ -511,23 +478,23 @@ value-faults {l = l} (Refuses.simple t n r u si none g) i s z end sp f fits = ap
     (simple-only i n (same-head s z t r i (header.Simple n) sp si (sym f ∙ g)).0) ∙ ap (of_meaning kinds.Simple) none
 value-faults (Refuses.break {b = b} u) i s z end sp f fits = absurd (not-break s z b i sp (sym f))
 value-faults (Refuses.no_level k r w u o) i s z end sp f fits =
-    let h = enters-at o i s z sp f in container-nests i h.is h.holds
+    let (is, c, e, sps, g, all, holds) = enters-at o i s z sp f in container-nests i is holds
 value-faults {b = b} {p = p} {l = l} {e = e} (Refuses.part vs r q w below a due sub) i s z end sp f fits =
-    let h = enters-at a.begins i s z sp f in
+    let (is, inside, ending, spelled, split, those, holds) = enters-at a.begins i s z sp f in
     let all = entering-size a.begins in
     let both = length-append a.good r in
     let at = a.at in
     let rest : q + length r ≤ end + length z = omega (arith, all, both, at, fits) in
-    container-faults end i h.is (fault_of e) l below h.holds a.level
-    (items-faults end vs h.is a.start w h.inside a.good r h.end z (p + a.size) below (fault_of e)
-    h.spelled a.parts h.split h.all a.due (subst (IsDue w r) at due)
+    container-faults end i is (fault_of e) l below holds a.level
+    (items-faults end vs is a.start w inside a.good r ending z (p + a.size) below (fault_of e)
+    spelled a.parts split those a.due (subst (IsDue w r) at due)
     (λ j t y sj g less. value-faults sub j t y end sj g (omega (arith, rest, less)))
     (λ g past. end-long r z break_byte q end below e sub g (λ lt. past (subst (λ n. n < greatest_offset) at lt)) rest))
 value-faults (Refuses.key_order vs r s t key q w below a due read g bad) i s' z end sp f fits = absurd (bad tt)
 value-faults {b = b} {p = p} {l = l} {e = e} (Refuses.tag_no_head t k r u (x, hd, len, g) h) i s z end sp f fits =
     let (j, c, is, sj, q) = tag-front s z x r i t sp hd (sym f ∙ g) in
-    head-faults r (p + k) end e j c z (outcome l (given_value i)) h sj q
-    (rest-fits b r p k (end + length z) (head-size b r 6 t k (x, hd, len, g)) fits)
+    let size = head-size b r 6 t k (x, hd, len, g) in
+    head-faults r (p + k) end e j c z (outcome l (given_value i)) h sj q (omega (arith, size, fits))
 value-faults {l = l} {e = e} (Refuses.folding t r q a fo sub) i s z end sp f fits =
     let w = enclosed a i s z end sp f fits in
     let (y, is, few) = folding-string t w.within w.spelling z r w.spelled w.split fo in
