@@ -16,6 +16,8 @@ use Rattle.ciborium.specs.Writes.{WritesNamed, IsNamedWritten, named_out, out_of
 use Rattle.ciborium.specs.declared.ser.byte_sink.ByteSink.{ByteSink}
 use Rattle.ciborium.proofs.Writing.WrittenPlaces.{written-added, written-container}
 use mir.Syntax.{w8}
+use Rattle.std.proofs.lemmas.List.{append_cancel_left}
+use Rattle.std.proofs.Math.Seq.{take-append_seam}
 use mir.Val.{Fits as IsValid}
 
 -- ---- what a slice of bytes holds
@@ -180,14 +182,6 @@ named_is name g None bs h = cc
 named_is name g (Some b) bs h = let e : ◌≡◌ {A = GName × List ℕ} (g, b) (name, bs) = cc in
     (ap (λ p. Some p.1) e, ap (λ p. p.0) e)
 
-cancel : (a b c : List ℕ) → a ++ b ≡ a ++ c → b ≡ c
-cancel [] b c h = h
-cancel (x ∷ a) b c h = let e : a ++ b ≡ a ++ c = cc in cancel a b c e
-
-take_front : (xs ys : List ℕ) → take (length xs) (xs ++ ys) ≡ xs
-take_front [] ys = refl
-take_front (x ∷ xs) ys = ap (λ l. x ∷ l) (take_front xs ys)
-
 module _ {W : Type 0} (contents : W → Option (List ℕ)) where
   -- what the writer holds that was lent, where it is the one that the sink holds
   all_back : (a : Option (List ℕ)) (g g' : GName) (now x : W) (bs : List ℕ) → (g ≡ g' → x ≡ now) →
@@ -213,10 +207,10 @@ module _ {W : Type 0} (contents : W → Option (List ℕ)) where
       let rest : List ℕ = h.3.0 ∷ h.3.1 in
       let whole : a ++ bs ≡ a ++ (part ++ rest) = ap (λ l. l ++ bs) (sym front) ∙
       (h.3.2 ∙ (ap (λ l. l ++ rest) out ∙ append_assoc a part rest)) in
-      let split : bs ≡ part ++ rest = cancel a bs (part ++ rest) whole in
+      let split : bs ≡ part ++ rest = append_cancel_left a bs (part ++ rest) whole in
       let len : length bs ≡ length part + length rest = ap length split ∙ length-append part rest in
       let same : contents x ≡ Some (a ++ take (length part) bs) = ap contents (back (sym k.1)) ∙ k.0 ∙ ap Some out ∙
-      ap (λ l. Some (a ++ l)) (sym (ap (take (length part)) split ∙ take_front part rest)) in
+      ap (λ l. Some (a ++ l)) (sym (ap (take (length part)) split ∙ take-append_seam part rest)) in
       (length part, omega (arith, len), subst (λ o. Appends (Some a) o (take (length part) bs)) (sym same) refl)
 
   module _ (s t : ByteSink W) (x : W) where
