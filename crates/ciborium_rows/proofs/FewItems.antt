@@ -1,7 +1,8 @@
 -- What is read of a sequence of few items, part by part, from any source.
 use Rattle.std.proofs.Common.{◌≡◌, ℕ, zero, suc, List, [], ◌∷◌, ◌++◌, refl, sym, ◌∙◌, ap, append_assoc, append-nil}
 use Rattle.ciborium_ll.specs.Item.{Item}
-use Rattle.ciborium_value.specs.{Ahead.{Ahead, Rest, inside, parts}, Nesting.Limit, Sources.{Fault, of_kind, TakesAhead, RefusesAhead}}
+use Rattle.ciborium_value.specs.{Ahead.{Ahead, Rest, inside, parts}, Nesting.Limit}
+use Rattle.ciborium_value.specs.Sources.{Fault, of_kind, TakesAhead, RefusesAhead}
 use Rattle.ciborium_value.specs.{Sources.{GoesOn, Leaves}, lemmas.GivenOutcomes.and_take, Given.{Outcome, Steps, Given}}
 use Rattle.ciborium_value.specs.Given.{gives, mapped, nests, outcome, outcome_map, refuses}
 use Rattle.ciborium_value.proofs.Sources.Sequences.{Follows, IsPast, IsInside, IsBlamed, one_more_listed, reads}
@@ -35,7 +36,8 @@ module _ {S Q A : Type 0} {StandsBefore : S → Limit → Ahead → Type 0} {Seq
 
 -- one that has no room is refused
 pub few_refuses : {S Q A : Type 0} {StandsBefore : S → Limit → Ahead → Type 0} {SeqStands : Q → Limit → Rest → Type 0}
-    {taken : Given A} {old : S} {q : Q} (vs : List A) (ahead : S) (q' : Q) → GoesOn StandsBefore SeqStands old ahead q q' →
+    {taken : Given A} {old : S} {q : Q} (vs : List A) (ahead : S) (q' : Q) →
+    GoesOn StandsBefore SeqStands old ahead q q' →
     Follows (IsInside StandsBefore SeqStands parts old q (few_from taken zero vs)) (IsBlamed (of_kind kinds.Length))
 few_refuses {taken = taken} vs ahead q' h = record {
   at = λ l f o w. record {

@@ -96,13 +96,8 @@ Commutes o k v l w ps = then_take (inserted o l w ps) (inserted o k v) ≡ then_
 
 module _ (o : KeyOrder) (k v l w p x : Tree) (ps : TreePairs) where
   less_less : key_order o k p ≡ Less → key_order o l p ≡ Less → Commutes o k v l w (tree_pair p x ps)
-  less_less e h =
-      let qs = tree_pair p x ps in
-      ap (λ z. then_take z (inserted o k v)) (inserted-Less o l w p x ps h) ∙
-      ap (placed_pair (key_order o k l) k v l w qs) (inserted-Less o k v p x ps e)
-      ∙ front_either (key_order o k l) (key_order o l k) k v l w qs ((key_order_total o).antisymm k l)
-      ∙ sym (ap (λ z. then_take z (inserted o l w)) (inserted-Less o k v p x ps e) ∙
-      ap (placed_pair (key_order o l k) l w k v qs) (inserted-Less o l w p x ps h))
+  less_less e h = rw (inserted-Less o l w p x ps h, inserted-Less o k v p x ps e, inserted-Less o l w p x ps h)
+      (front_either (key_order o k l) (key_order o l k) k v l w (tree_pair p x ps) ((key_order_total o).antisymm k l))
 
   less_equal : key_order o k p ≡ Less → key_order o l p ≡ Equal → Commutes o k v l w (tree_pair p x ps)
   less_equal e h =
@@ -123,13 +118,11 @@ module _ (o : KeyOrder) (k v l w p x : Tree) (ps : TreePairs) where
       inserted-Greater o l w k v qs behind ∙ ap (outcome_map (tree_pair k v)) (inserted-Greater o l w p x ps h))
 
   equal_equal : key_order o k p ≡ Equal → key_order o l p ≡ Equal → Commutes o k v l w (tree_pair p x ps)
-  equal_equal e h = ap (λ z. then_take z (inserted o k v)) (inserted-Equal o l w p x ps h) ∙
-      sym (ap (λ z. then_take z (inserted o l w)) (inserted-Equal o k v p x ps e))
+  equal_equal e h = rw (inserted-Equal o l w p x ps h, inserted-Equal o k v p x ps e)
 
   equal_greater : key_order o k p ≡ Equal → key_order o l p ≡ Greater → Commutes o k v l w (tree_pair p x ps)
-  equal_greater e h = ap (λ z. then_take z (inserted o k v)) (inserted-Greater o l w p x ps h) ∙
-      ties_first (inserted o k v) p x (λ rs. inserted-Equal o k v p x rs e) (inserted o l w ps)
-      (inserted-either o l w ps) ∙ sym (ap (λ z. then_take z (inserted o l w)) (inserted-Equal o k v p x ps e))
+  equal_greater e h = rw (inserted-Greater o l w p x ps h, inserted-Equal o k v p x ps e) (ties_first (inserted o k v) p
+      x (λ rs. inserted-Equal o k v p x rs e) (inserted o l w ps) (inserted-either o l w ps))
 
   greater_greater : key_order o k p ≡ Greater → key_order o l p ≡ Greater → Commutes o k v l w ps →
       Commutes o k v l w (tree_pair p x ps)

@@ -256,8 +256,7 @@ module _ (spelling : Spelling) where
         let a = anyway spelling item.taken q below v item.read in
         let some = spells-pos a.0 item.taken a.1 in
         let lr : length r ≡ length item.taken + length x = ap length split ∙ length-append item.taken x in
-        subst (λ o. Meets b p l (parts spelling d i.start o (vs ++ (v ∷ [])) x u below)) (sym next.1)
-        (subst (λ w. Meets b p l (parts spelling d w (Some next.0) (vs ++ (v ∷ [])) x u below)) more.1
+        rw next.1 (subst (λ w. Meets b p l (parts spelling d w (Some next.0) (vs ++ (v ∷ [])) x u below)) more.1
         (recs b p l (vs ++ (v ∷ [])) x u next.0 below more.0 (rest-bytes r item.taken x split bytes)
         (omega (arith, lr, some, fuel)))))
         (λ t. Refuses.key_order vs r item.taken x v q now below i due item.read item.split
@@ -426,8 +425,7 @@ module _ (spelling : Spelling) where
     item-meets (counted m n r) f =
         let lb = stands-length b m n f.1 r f.2 in
         let e : p + f.1 ≡ past p b r = omega (arith, lb.0) in
-        subst (λ q. Meets b p l (counted_item spelling (read spelling d) (λ w. parts spelling d w (Some w) []) m n r p q
-        l)) e (counted-meets m n f.1 r f.0 f.2 f.3 f.4)
+        rw e at (counted-meets m n f.1 r f.0 f.2 f.3 f.4)
     item-meets (opened m r) f = opened-meets m r f.0 f.1 f.2 f.3 f.4 f.5
     item-meets (plain n r) f = by (simple_meaning n) refl
       where

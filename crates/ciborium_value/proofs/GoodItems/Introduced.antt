@@ -482,9 +482,9 @@ reads-container spelling b p l below vs r s q u now i done = by i.start i.begins
         let none = complete-open_items vs now due in
         let c : IsComplete (items None) r q s u = subst (λ z. IsComplete z r q s u) none done in
         let w = items-read spelling vs g (p + i.size) below i.parts in
-        rw none (opened-read spelling 4 g b p l (item.array true w.0) (trees.array (trees_from vs)) r s q u (omega arith)
-        (omega arith) i.head.1 (g, w.1, refl) (ap (option_map trees.array) w.2) (raise l below _ i.level w.3) split c.0
-        c.1 (omega (arith, at, k)) c.2)
+        rw none (opened-read spelling 4 g b p l (item.array true w.0) (trees.array (trees_from vs)) r s q u
+        (omega arith) (omega arith) i.head.1 (g, w.1, refl) (ap (option_map trees.array) w.2)
+        (raise l below _ i.level w.3) split c.0 c.1 (omega (arith, at, k)) c.2)
     by start (BeginsContainer.open_map k split) due rises =
         let none = complete-open_keys vs now r s q u due done in
         let c : IsComplete (keys None) r q s u = subst (λ z. IsComplete z r q s u) none done in
