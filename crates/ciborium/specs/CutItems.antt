@@ -7,4 +7,8 @@ use Rattle.ciborium.specs.declared.de.error.Error.TheVariants.{RecursionLimitExc
 -- the error of a reader that has no more bytes, or of one that says so
 abbrev pub IsEndError : Error IoError → Type 0
 IsEndError (Io e) = error_kind e ≡ UnexpectedEof
-IsEndError _ = ⊥
+IsEndError (Syntax p) = ⊥
+IsEndError (Semantic p k) = ⊥
+IsEndError RecursionLimitExceeded = ⊥
+IsEndError Memory = ⊥
+IsEndError TooLong = ⊥

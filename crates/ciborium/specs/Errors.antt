@@ -17,7 +17,11 @@ from_ll ll.Memory = Memory
 -- before its end
 abbrev pub HasEndedBy : {E : Type 0} → Bool → Option (List ℕ) → Error E → Type 0
 HasEndedBy can_fail left (Io e) = IsUsedUp can_fail left
-HasEndedBy can_fail left _ = Unit {0}
+HasEndedBy can_fail left (Syntax p) = Unit {0}
+HasEndedBy can_fail left (Semantic p k) = Unit {0}
+HasEndedBy can_fail left RecursionLimitExceeded = Unit {0}
+HasEndedBy can_fail left Memory = Unit {0}
+HasEndedBy can_fail left TooLong = Unit {0}
 
 -- what is left of an error where the reader's error is put aside
 abbrev pub without_reader_error : {E : Type 0} → Error E → Error Unit

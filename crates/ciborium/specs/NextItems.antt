@@ -23,7 +23,11 @@ Otherwise (Err e) P = P (Err e)
 -- `Io` is the only error
 abbrev pub IsReadIo : {E : Type 0} → Error E → Type 0
 IsReadIo (Io e) = Unit {0}
-IsReadIo _ = ⊥
+IsReadIo (Syntax p) = ⊥
+IsReadIo (Semantic p k) = ⊥
+IsReadIo RecursionLimitExceeded = ⊥
+IsReadIo Memory = ⊥
+IsReadIo TooLong = ⊥
 
 -- the end is answered where nothing is taken and, if the bytes are known, none are left; where none
 -- are left no item is answered, and

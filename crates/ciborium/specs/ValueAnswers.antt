@@ -10,8 +10,8 @@ use Rattle.ciborium_ll.specs.Refusal as refusal
 
 -- ---- refusals
 
--- an error other than `Memory` is a refusal of which P holds; `Io` is one where nothing is left, if
--- this is what is left
+-- P holds of the refusal that an error is: of `Io` only where `left`, what follows, is no byte; of
+-- `Memory` nothing is said, and `Semantic` has its offset
 abbrev pub IsRefusedBy : {E : Type 0} → Option (List ℕ) → Error E → (Refusal → Type 0) → Type 0
 IsRefusedBy left (Io e) P = left ≡ Some [] → P refusal.io
 IsRefusedBy left (Syntax p) P = P (refusal.syntax p)
@@ -27,21 +27,21 @@ IsRefusedBy left TooLong P = P refusal.too_long
 -- that is known, `after` what it is left with, which then is known too, and the answer stands by
 -- its tree.
 
--- what the bytes s are that were taken from offset p on, where the answer is so: they are read as
--- it; or refused so, whatever follows them
+-- the bytes s, taken from offset p on, fit the answer: at Ok they are read as it; at an error s ++ c
+-- is refused so, whatever c, which follows them
 abbrev pub IsTakenFrom : {E : Type 0} → Spelling → ℕ → List ℕ → ℕ → Result Tree (Error E) → Type 0
 IsTakenFrom spelling p s l (Ok v) = IsReadAs spelling s p (Some l) v
 IsTakenFrom spelling p s l (Err e) = (c : List ℕ) → IsRefusedBy (Some c) e (Refuses spelling (s ++ c) p (Some l))
 
--- from offset p on, 0 for a call, some bytes were taken, a beginning of those that are known, and to
--- the greatest offset at most; and so they are
+-- some bytes s were taken from offset p on (0 for a call), a beginning of what the reader held, if
+-- known, within the greatest offset; they fit the answer, and each is a byte
 abbrev pub TakesBytes : {E : Type 0} → Spelling → ℕ → Option (List ℕ) → ℕ → Option (List ℕ) →
     Result Tree (Error E) → Type 0
 TakesBytes spelling p before l after r = (s : List ℕ) ×
     Consumes before after s × (p + length s ≤ greatest_offset) × IsTakenFrom spelling p s l r × AreBytes s
 
--- the reader failed before its end, where what it held was known, or memory was refused: at its
--- end `Io` is a refusal of the definitions
+-- memory was refused, or the reader failed and it is not known that nothing was left: where nothing
+-- was left `Io` is a refusal
 abbrev pub IsFailed : {E : Type 0} → Option (List ℕ) → Error E → Type 0
 IsFailed left (Io e) = ¬ (left ≡ Some [])
 IsFailed left Memory = Unit {0}

@@ -17,7 +17,9 @@ IsUsedUp can_fail left = can_fail ≡ false → left ≡ Some []
 -- where a call could not be given more, the reader is at its end, unless it can fail before
 abbrev pub HasEnded : {E : Type 0} → Bool → Option (List ℕ) → Error E → Type 0
 HasEnded can_fail left (Io e) = IsUsedUp can_fail left
-HasEnded can_fail left _ = Unit {0}
+HasEnded can_fail left (Syntax p) = Unit {0}
+HasEnded can_fail left TooLong = Unit {0}
+HasEnded can_fail left Memory = Unit {0}
 
 -- the same of a read into a buffer of this length
 abbrev pub HasReadToEnd : {E : Type 0} → Bool → Option (List ℕ) → ℕ → Result ℕ E → Type 0
@@ -53,4 +55,6 @@ abbrev pub VisitsHeld : {V E : Type 0} → Option (List ℕ) → Option (List �
 VisitsHeld old new can_fail n Makes None = Keeps old new
 VisitsHeld old new can_fail n Makes (Some (Ok v)) = TakesSome old new n (λ b. Makes b v)
 VisitsHeld old new can_fail n Makes (Some (Err (Io e))) = Keeps old new × (0 < n) × IsUsedUp can_fail new
-VisitsHeld old new can_fail n _ _ = ⊥
+VisitsHeld old new can_fail n Makes (Some (Err (Syntax p))) = ⊥
+VisitsHeld old new can_fail n Makes (Some (Err TooLong)) = ⊥
+VisitsHeld old new can_fail n Makes (Some (Err Memory)) = ⊥

@@ -43,7 +43,9 @@ abbrev pub IsVisited : {V E : Type 0} → ℕ → (List ℕ → V → Type 0) �
 IsVisited n Makes b p None = b ≡ []
 IsVisited n Makes b p (Some (Ok v)) = (length b ≡ n) × (p + n ≤ greatest_offset) × Makes b v
 IsVisited n Makes b p (Some (Err (Io e))) = (b ≡ []) × (0 < n) × (p + n ≤ greatest_offset)
-IsVisited n _ b p _ = ⊥
+IsVisited n Makes b p (Some (Err (Syntax at))) = ⊥
+IsVisited n Makes b p (Some (Err TooLong)) = ⊥
+IsVisited n Makes b p (Some (Err Memory)) = ⊥
 
 -- the next n bytes were visited, or none
 pub record HasVisited {S W V E : Type 0} (can_fail : Bool) (remaining : S → Option (List ℕ))

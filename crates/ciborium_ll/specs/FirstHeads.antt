@@ -7,7 +7,9 @@ use Rattle.ciborium_ll.specs.declared.header.{Error.{Error, TheVariants.{Io, Syn
 -- `Io` is the only error
 abbrev pub IsHeadIo : {E : Type 0} → Error E → Type 0
 IsHeadIo (Io e) = Unit {0}
-IsHeadIo _ = ⊥
+IsHeadIo (Syntax p) = ⊥
+IsHeadIo TooLong = ⊥
+IsHeadIo Memory = ⊥
 
 -- b are the bytes taken at offset p, where reading the first head answers so: none at the end, and
 -- otherwise just those that

@@ -72,15 +72,19 @@ behind_text levels = behind_item levels
 
 -- the levels behind a break, or None where none may stand
 abbrev pub behind_break : List Level → Option (List Level)
+behind_break [] = None
+behind_break (Items n ∷ levels) = None
 behind_break (OpenItems ∷ levels) = Some levels
 behind_break (OpenKeys ∷ levels) = Some levels
+behind_break (OpenValues ∷ levels) = None
 behind_break (ByteChunks ∷ levels) = Some levels
 behind_break (TextChunks ∷ levels) = Some levels
-behind_break _ = None
 
 -- the levels behind a head, and the payload of a definite string, or None where the head may not
 -- stand in the innermost
 abbrev pub behind_head : Header → List Level → Option (List Level)
+behind_head (header.Positive n) levels = behind_item levels
+behind_head (header.Negative n) levels = behind_item levels
 behind_head (header.Bytes (Some n)) levels = behind_bytes levels
 behind_head (header.Bytes None) levels = entered ByteChunks levels
 behind_head (header.Text (Some n)) levels = behind_text levels
@@ -90,8 +94,9 @@ behind_head (header.Array None) levels = entered OpenItems levels
 behind_head (header.Map (Some n)) levels = entered (Items (n + n)) levels
 behind_head (header.Map None) levels = entered OpenKeys levels
 behind_head (header.Tag n) levels = entered (Items 1) levels
+behind_head (header.Simple n) levels = behind_item levels
+behind_head (header.Float size) levels = behind_item levels
 behind_head header.Break levels = behind_break levels
-behind_head _ levels = behind_item levels
 
 -- the levels behind a step, of which these are unfinished around the innermost before it
 abbrev pub levels_by : Step → List Level → Option (List Level)

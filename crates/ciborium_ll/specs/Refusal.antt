@@ -15,7 +15,7 @@ pub data Refusal : Type 0 where
   too_long : Refusal
   -- the item that begins here, or a break, has no meaning, or not in this spelling, for this reason
   semantic : ℕ → Kind → Refusal
-  -- a container or tag stands where no level is left
+  -- an array, a map or a tag that does not fold stands where no level is left
   recursion_limit_exceeded : Refusal
 
 -- how many bytes follow an initial byte with this additional information, as its argument or as a
@@ -59,7 +59,7 @@ initial_refusal major info b p = if is_reserved major info then Some (syntax p)
     Some too_long else None
 
 -- why no usable head stands at the front of the bytes, whose first is at offset p, or None where
--- one does
+-- one does; f8 is judged by its second byte only where that may be read
 abbrev pub head_refusal : List ℕ → ℕ → Option Refusal
 head_refusal [] p = if nat_lt p greatest_offset then Some io else Some too_long
 head_refusal (x ∷ b) p =

@@ -19,10 +19,14 @@ keys_of (tree_pair k v ps) = k ∷ keys_of ps
 abbrev mutual
   -- in every map of a tree the keys strictly rise
   pub HasRisingKeys : KeyOrder → Tree → Type 0
+  HasRisingKeys o (integer z) = Unit {0}
+  HasRisingKeys o (bytes b) = Unit {0}
+  HasRisingKeys o (text b) = Unit {0}
+  HasRisingKeys o (boolean b) = Unit {0}
+  HasRisingKeys o null = Unit {0}
   HasRisingKeys o (tag t v) = HasRisingKeys o v
   HasRisingKeys o (array vs) = HaveRisingKeys o vs
   HasRisingKeys o (map ps) = AreRising o (keys_of ps) × PairsHaveRisingKeys o ps
-  HasRisingKeys o _ = Unit {0}
 
   -- of each tree
   pub HaveRisingKeys : KeyOrder → Trees → Type 0

@@ -6,12 +6,12 @@ use Rattle.ciborium_value.specs.Tree.{Tree, integer, bytes, text, boolean, null,
 use Rattle.ciborium_value.specs.Tree.{TreePairs, no_tree_pairs, tree_pair}
 use Rattle.ciborium_ll.specs.Item as item
 
--- the number of bytes read behind the number n, the most significant first
+-- the number that bytes are behind the digits of n, in base 256, the most significant first
 unfoldable pub big_endian_behind : ℕ → List ℕ → ℕ
 big_endian_behind n [] = n
 big_endian_behind n (b ∷ bs) = big_endian_behind (256 * n + b) bs
 
--- the number of a bignum's bytes (section 3.4.3)
+-- the number that a bignum's bytes are (section 3.4.3)
 abbrev pub big_endian : List ℕ → ℕ
 big_endian bs = big_endian_behind 0 bs
 
@@ -40,15 +40,22 @@ is_bignum_tag t = (t == 2) || (t == 3)
 
 -- the definite byte string of at most 16 bytes that an item is
 abbrev pub short_string : Item → Option (List ℕ)
+short_string (item.unsigned n) = None
+short_string (item.negative n) = None
 short_string (item.bytes false b) = if nat_le (length b) 16 then Some b else None
-short_string _ = None
+short_string (item.bytes true b) = None
+short_string (item.text open_ b) = None
+short_string (item.array open_ is) = None
+short_string (item.map open_ ps) = None
+short_string (item.tag n i) = None
+short_string (item.simple n) = None
+short_string (item.float raw) = None
 
 -- the bytes over which a tag folds: tag 2 or 3 over a definite byte string of at most 16 bytes
 abbrev pub folding_bytes : ℕ → Item → Option (List ℕ)
 folding_bytes t i = if is_bignum_tag t then short_string i else None
 
--- what a tag means: a number over the bytes on which it folds, else the tag over what its item
--- means
+-- what a tag means: what its bytes mean where it folds, else the tag over what its item means
 abbrev pub tag_meaning : ℕ → Option (List ℕ) → Option Tree → Option Tree
 tag_meaning t (Some b) content = bignum_meaning t b
 tag_meaning t None content = option_map (tag t) content

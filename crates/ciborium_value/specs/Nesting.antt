@@ -30,10 +30,15 @@ abbrev mutual
   -- the levels that an item takes: one for an array, a map or a tag that does not fold, above the
   -- greatest of its parts
   pub nesting : Item → ℕ
+  nesting (unsigned n) = 0
+  nesting (negative n) = 0
+  nesting (bytes open_ b) = 0
+  nesting (text open_ b) = 0
   nesting (array open_ is) = suc (items_nesting is)
   nesting (map open_ ps) = suc (pairs_nesting ps)
   nesting (tag t i) = tag_nesting (folding_bytes t i) (nesting i)
-  nesting _ = 0
+  nesting (simple n) = 0
+  nesting (float raw) = 0
 
   -- the greatest of the items, or 0
   pub items_nesting : Items → ℕ

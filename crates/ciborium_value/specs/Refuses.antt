@@ -42,7 +42,7 @@ due_after w [] = Some w
 due_after w (v ∷ vs) = option_and_then (λ next. due_after next vs) (next_due w)
 
 -- a part is due at offset p before the bytes r: the container is not complete, and no break that
--- may be read ends it
+-- may be read ends it (at the greatest offset none may: what is due there is `too_long`)
 abbrev pub IsDue : Due → List ℕ → ℕ → Type 0
 IsDue (items None) r p = p < greatest_offset → ¬ IsAtFront break_byte r
 IsDue (items (Some n)) r p = 0 < n
@@ -81,7 +81,8 @@ keys_among (keys n) vs = keys_in vs
 keys_among (values n) vs = keys_behind vs
 
 -- inside an array or map that begins at b, offset p, good parts with these values stand behind its
--- head; r follows them at offset q, where this is due and this limit is left
+-- head; r follows them at offset q, where this is due and this limit is left. The head has `size`
+-- bytes, the parts are `good`, and `start` was due first
 pub record IsInside (spelling : Spelling) (b : List ℕ) (p : ℕ) (l : Limit) (vs : List Tree)
     (r : List ℕ) (q : ℕ) (now : Due) (below : Limit) : Type 0 where
   pub size : ℕ
@@ -149,12 +150,12 @@ pub data Refuses (spelling : Spelling) : List ℕ → ℕ → Limit → Refusal 
   -- (ciborium's rule), or is not accepted
   folding : {b : List ℕ} {p : ℕ} {l : Limit} {e : Refusal} (t : ℕ) (r : List ℕ) (q : ℕ) →
       IsTagAt spelling b p t r q → IsFoldingAt t r → Refuses spelling r q l e → Refuses spelling b p l e
-  too_large : {b : List ℕ} {p : ℕ} {l : Limit} (r s t payload : List ℕ) (q : ℕ) →
+  too_large : {b : List ℕ} {p : ℕ} {l : Limit} (r s rest payload : List ℕ) (q : ℕ) →
       IsTagAt spelling b p 3 r q → IsFoldingAt 3 r → IsReadAs spelling s q l (bytes payload) →
-      r ≡ s ++ t → 2 ^ 127 ≤ big_endian payload → Refuses spelling b p l (semantic p TooLarge)
-  not_folded : {b : List ℕ} {p : ℕ} {l : Limit} (n : ℕ) (r s t payload : List ℕ) (q : ℕ) →
-      IsTagAt spelling b p n r q → IsFoldingAt n r → IsReadAs spelling s q l (bytes payload) →
-      r ≡ s ++ t → IsUnwanted spelling payload → Refuses spelling b p l (semantic p NotFolded)
+      r ≡ s ++ rest → 2 ^ 127 ≤ big_endian payload → Refuses spelling b p l (semantic p TooLarge)
+  not_folded : {b : List ℕ} {p : ℕ} {l : Limit} (t : ℕ) (r s rest payload : List ℕ) (q : ℕ) →
+      IsTagAt spelling b p t r q → IsFoldingAt t r → IsReadAs spelling s q l (bytes payload) →
+      r ≡ s ++ rest → IsUnwanted spelling payload → Refuses spelling b p l (semantic p NotFolded)
   -- a tag that does not fold: no level is left, or with a level its item refuses
   no_tag_level : {b : List ℕ} {p : ℕ} (t : ℕ) (r : List ℕ) (q : ℕ) →
       IsTagAt spelling b p t r q → ¬ IsFoldingAt t r → Refuses spelling b p (Some 0) recursion_limit_exceeded

@@ -43,7 +43,7 @@ spelling_fault any b = None
 spelling_fault (deterministic order) [] = None
 spelling_fault (deterministic order) (x ∷ b) = deterministic_fault (x / 32) (x % 32) b
 
--- a bignum of these bytes could be written shorter: as an integer of 64 bits, or with a zero less
+-- a folding tag's bytes could be written shorter: as an integer of 64 bits, or with a zero less
 -- (section 3.4.3)
 abbrev pub IsFoldable : List ℕ → Type 0
 IsFoldable payload = (length payload ≤ 8) ⊎ ((s : List ℕ) × (payload ≡ 0 ∷ s))

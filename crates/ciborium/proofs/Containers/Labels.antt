@@ -39,8 +39,8 @@ denies-mapped IsUnread End old l taken f fault denied b s z i end u sp e fits =
 
 -- none was
 pub no-key : {S W P : Type 0} (can_fail : Bool) (remaining : S → Option (List ℕ)) {old new : ByteSource S W}
-    {content : P → P} (place : Label → P) (e : Error (Unit {0})) → TakesOnly (HasTaken remaining) old.decoder new.decoder →
-    weight_left new ≤ weight_left old →
+    {content : P → P} (place : Label → P) (e : Error (Unit {0})) →
+    TakesOnly (HasTaken remaining) old.decoder new.decoder → weight_left new ≤ weight_left old →
     DeniesHead (IsUnread remaining) (end_at remaining) old (fault_at can_fail remaining new e) →
     TakesOne can_fail remaining old new (label_place place) content (Err e)
 no-key can_fail remaining {old} {new} place e only no_more denied =

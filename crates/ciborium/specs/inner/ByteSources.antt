@@ -128,9 +128,11 @@ HoldsPairs left.Open span ps = HoldsParts None span ps
 HoldsPairs (left.Bytes v) span ps = ⊥
 
 abbrev pub HoldsRest : Left → Rest → Type 0
+HoldsRest q (bottom name b) = ⊥
 HoldsRest q (parts span is f) = HoldsItems q span is
 HoldsRest q (pairs span ps f) = HoldsPairs q span ps
-HoldsRest q _ = ⊥
+HoldsRest q (entry v span ps f) = ⊥
+HoldsRest q (level_due f) = ⊥
 
 abbrev pub SeqStands : ByteSeq → Limit → Rest → Type 0
 SeqStands q l f = (l ≡ Some q.levels) × HoldsRest q.left f

@@ -9,10 +9,14 @@ use Rattle.ciborium_value.specs.{Tree.tree_pair, declared.key_order.KeyOrder.Key
 abbrev mutual
   -- a tag that folds is over the bytes that it folds to
   pub IsFormed : KeyOrder → Tree → Type 0
+  IsFormed o (integer z) = Unit {0}
+  IsFormed o (bytes b) = Unit {0}
+  IsFormed o (text b) = Unit {0}
+  IsFormed o (boolean b) = Unit {0}
+  IsFormed o null = Unit {0}
   IsFormed o (tag t v) = MatchOption (tree_folding_bytes t v) (IsFormed o v) (λ b. bignum_meaning t b ≡ Some (tag t v))
   IsFormed o (array vs) = AreFormed o vs
   IsFormed o (map ps) = AreRising o (keys_of ps) × PairsAreFormed o ps
-  IsFormed o _ = Unit {0}
 
   -- each tree
   pub AreFormed : KeyOrder → Trees → Type 0

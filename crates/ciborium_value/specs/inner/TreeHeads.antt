@@ -32,12 +32,14 @@ argument_of null = 22
 
 -- the bytes behind the head: a payload, or the encodings of the parts
 abbrev pub content_bytes : Tree → List ℕ
+content_bytes (integer z) = []
 content_bytes (bytes b) = b
 content_bytes (text b) = b
 content_bytes (array vs) = items_bytes (items_of vs)
 content_bytes (map ps) = pairs_bytes (pairs_of ps)
 content_bytes (tag t v) = encoding v
-content_bytes _ = []
+content_bytes (boolean b) = []
+content_bytes null = []
 
 -- the order of two heads, which is that of their bytes
 abbrev pub head_order : Tree → Tree → Ordering

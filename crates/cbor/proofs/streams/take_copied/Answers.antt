@@ -7,8 +7,9 @@ returns-in-Ok g c b e =
     let (copied, taken, is, item) = c.in-Ok.ensures in
     let (left, behind, whole) = what-is-left _ _ b copied e taken in
     let held = c.deref.ensures.value ∙ is ∙ ap (λ x. x ++ copied) c.new-item.ensures.items in
-    rw (c.len.ensures ∙ sym c.deref.ensures.len) (copied-taken (λ s. IsJudged c.args.spelling s c.args.limit c.judge_item-judged.result) b copied
-    left c.deref.result.now _ whole behind held (item b e) c.judge_item-judged.ensures)
+    rw (c.len.ensures ∙ sym c.deref.ensures.len)
+    (copied-taken (λ s. IsJudged c.args.spelling s c.args.limit c.judge_item-judged.result) b copied left
+    c.deref.result.now _ whole behind held (item b e) c.judge_item-judged.ensures)
 
 pub returns-in-Err-NoItem : goal.returns-in-Err-NoItem
 returns-in-Err-NoItem g c b e =

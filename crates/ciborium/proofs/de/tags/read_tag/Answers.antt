@@ -50,7 +50,8 @@ returns-in_err-value-clause-part g c =
       λ z xs p a here. let m = t.3 z in
           bignum-refused c.args.levels c.requires a Unit (with_left c.pull.new.decoder m.0) m.1 c.in-Some.ensures
           c.in_ok-next.ensures.measured
-          (folding g (goal.at.returns-in_err-value-clause-part g c).In_default-find_head_fault) (with_left c.read_bignum.new.decoder z) c.in_err-value.field-0.0 here m.2,
+          (folding g (goal.at.returns-in_err-value-clause-part g c).In_default-find_head_fault)
+          (with_left c.read_bignum.new.decoder z) c.in_err-value.field-0.0 here m.2,
       t.4,
     )
 

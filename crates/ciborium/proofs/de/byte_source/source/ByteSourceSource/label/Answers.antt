@@ -23,7 +23,8 @@ pub returns-in_err-header : goal.returns-in_err-header
 returns-in_err-header g c =
     let head = c.in_err-header.ensures in
     rw (passed_on c.from_residual.result _ c.from_residual.ensures.1) (record {
-      takes = no-key _ g.A.Access.remaining (g.N.Labels.place_of c.args.labels.now) _ head.only head.no_more head.denied;
+      takes = no-key _ g.A.Access.remaining (g.N.Labels.place_of c.args.labels.now) _ head.only head.no_more
+          head.denied;
     })
 
 pub returns-in_err-place-in-Text : goal.returns-in_err-place-in-Text
