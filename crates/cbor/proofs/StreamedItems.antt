@@ -108,17 +108,23 @@ memory-behind : (p : ℕ) (e : LineRefusal) → wants_memory (refusal_behind p e
 memory-behind p Memory h = h
 memory-behind p other h = refl
 
-pub refused-shown : {E : Type 0} (place w : List ℕ) (n offset : ℕ) (e f : LineRefusal) (text : List ℕ)
-    (after : Option (List ℕ)) (r : Result Unit E) →
-    f ≡ refusal_behind offset e → (wants_memory f ≡ false) × (text ≡ refused_item_text n (refused_text f)) →
-    OnOk r (after ≡ Some ((w ++ place) ++ text_line text)) → OnOk r ((wants_memory e ≡ false) ×
-    (after ≡ Some (w ++ refused_line place n (refused_text (refusal_behind offset e)))))
-refused-shown place w n offset e f text after (Ok u) is (m, same) h = (
+pub refused-written : (n offset : ℕ) (e f : LineRefusal) (text : List ℕ) → f ≡ refusal_behind offset e →
+    (wants_memory f ≡ false) × (text ≡ refused_item_text n (refused_text f)) →
+    (wants_memory e ≡ false) × (text ≡ refused_item_text n (refused_text (refusal_behind offset e)))
+refused-written n offset e f text is (m, same) = (
   memory-behind offset e (rw is at m),
-  h ∙ ap Some (append_assoc w place (text_line text) ∙ ap (λ (t : List ℕ). w ++ (place ++ text_line t))
-      (same ∙ ap (λ (x : LineRefusal). refused_item_text n (refused_text x)) is)),
+  same ∙ ap (λ (x : LineRefusal). refused_item_text n (refused_text x)) is,
 )
-refused-shown place w n offset e f text after (Err x) is same h = tt
+
+pub refused-shown : {E : Type 0} (place w : List ℕ) (n : ℕ) (e : LineRefusal) (reason text : List ℕ)
+    (after : Option (List ℕ)) (r : Result Unit E) → (wants_memory e ≡ false) × (text ≡ refused_item_text n reason) →
+    OnOk r (after ≡ Some ((w ++ place) ++ text_line text)) →
+    OnOk r ((wants_memory e ≡ false) × (after ≡ Some (w ++ refused_line place n reason)))
+refused-shown place w n e reason text after (Ok u) (m, same) h = (
+  m,
+  h ∙ ap Some (append_assoc w place (text_line text) ∙ ap (λ (t : List ℕ). w ++ (place ++ text_line t)) same),
+)
+refused-shown place w n e reason text after (Err x) h k = tt
 
 -- ---- all items
 

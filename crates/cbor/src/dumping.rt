@@ -2,6 +2,7 @@
 
 ghost use Rattle.std.specs.Prelude.{◌≡◌, ◌++◌, [], IfNone, IfOk, IfSome, OnOk, Some, codes};
 ghost use Rattle.std.specs.Prelude.{decimal};
+ghost use Rattle.std.specs.Fmt.{WritesOnOk};
 ghost use Rattle.std.specs.List.{repeat};
 ghost use Rattle.ciborium_value.specs.Notation.{quoted};
 ghost use Rattle.cbor.specs.Dumped.{AreLinesOf, IsDumpOf, entry_of};
@@ -122,16 +123,16 @@ impl fmt::Display for Words {
 
     fn fmt<W: fmt::Write>(&self, f: &mut fmt::Formatter<W>) -> fmt::Result {
         match self.header {
-            Header::Positive(n) => write!(f, "unsigned {n}"),
+            Header::Positive(n) => write_number("unsigned ", n, f),
             Header::Negative(n) => write!(f, "negative -{}", u128::from(n) + 1),
-            Header::Bytes(len) => write!(f, "bytes{}", Length { len }),
-            Header::Text(len) => write!(f, "text{}", Length { len }),
-            Header::Array(len) => write!(f, "array{}", Length { len }),
-            Header::Map(len) => write!(f, "map{}", Length { len }),
-            Header::Tag(n) => write!(f, "tag {n}"),
+            Header::Bytes(len) => write_length("bytes", len, f),
+            Header::Text(len) => write_length("text", len, f),
+            Header::Array(len) => write_length("array", len, f),
+            Header::Map(len) => write_length("map", len, f),
+            Header::Tag(n) => write_number("tag ", n, f),
             Header::Simple(n) => match simple_word(n) {
                 Some(word) => f.write_str(word),
-                None => write!(f, "simple {n}"),
+                None => write_number("simple ", u64::from(n), f),
             },
             Header::Float(n) => write!(f, "float of {n} bytes"),
             Header::Break => f.write_str("break"),
@@ -139,20 +140,26 @@ impl fmt::Display for Words {
     }
 }
 
-// How long a string, an array or a map is said to be.
-#[derive(Clone, Copy)]
-struct Length {
-    len: Option<usize>,
+// A word, and a number behind it.
+fn write_number<W: fmt::Write>(word: &str, n: u64, f: &mut fmt::Formatter<W>) -> fmt::Result
+    ensures { WritesOnOk W.write_str_gives f.old result (word.now ++ decimal n) f.new }
+{
+    f.write_str(word)?;
+    write!(f, "{n}")
 }
 
-impl fmt::Display for Length {
-    ghost output = { λ length. Some (length_words length.len) };
-
-    fn fmt<W: fmt::Write>(&self, f: &mut fmt::Formatter<W>) -> fmt::Result {
-        match self.len {
-            Some(n) => write!(f, " of {n}"),
-            None => f.write_str(" of indefinite length"),
-        }
+// What a string, an array or a map is, and how long it is said to be.
+fn write_length<W: fmt::Write>(
+    word: &str,
+    len: Option<usize>,
+    f: &mut fmt::Formatter<W>,
+) -> fmt::Result
+    ensures { WritesOnOk W.write_str_gives f.old result (word.now ++ length_words len) f.new }
+{
+    f.write_str(word)?;
+    match len {
+        Some(n) => write!(f, " of {n}"),
+        None => f.write_str(" of indefinite length"),
     }
 }
 

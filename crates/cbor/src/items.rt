@@ -10,7 +10,7 @@ ghost use Rattle.ciborium.specs.declared.de.error.Error.TheVariants.{Semantic};
 ghost use Rattle.ciborium.specs.ValueAnswers.{IsRefusedBy};
 ghost use Rattle.ciborium.specs.NextItems.{IsReadIo};
 ghost use Rattle.ciborium.specs.ValueClauses.{ReadsWhole};
-ghost use Rattle.ciborium.specs.View.{read_as};
+ghost use Rattle.ciborium.specs.View.{result_map};
 ghost use Rattle.cbor.specs.Answer.{AreRefused, IsFrontRefused, IsMeant, IsRefused, StandsFor};
 ghost use Rattle.cbor.specs.Spellings.{HasItemBefore, IsItem, spelling_of};
 ghost use Rattle.cbor.specs.declared.reading.Spelling.TheVariants.{Any};
@@ -152,7 +152,7 @@ fn read_spelled<R: BufRead>(
     limit: usize,
 ) -> Result<Value, Error<io::Error>>
     ensures { ReadsWhole (spelling_of spelling) (R.remaining reader.old) limit
-        (R.remaining reader.new) (read_as tree_of result) }
+        (R.remaining reader.new) (result_map tree_of result) }
 {
     match spelling {
         Spelling::Any => from_buf_reader_with_recursion_limit(alloc, reader, limit),

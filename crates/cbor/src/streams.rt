@@ -1,7 +1,8 @@
 //! Streams of items: sequences as bytes, not in hex (RFC 8742).
 
 ghost use Rattle.std.specs.Prelude.{◌≡◌, ◌<◌, ◌⊎◌, ◌++◌, ℕ, IfOk, IfSome, IsTrue, List};
-ghost use Rattle.std.specs.Prelude.{MatchOption, None, OnOk, Some, [], drop, false, length};
+ghost use Rattle.std.specs.Prelude.{MatchOption, None, OnOk, Some, [], drop, false};
+ghost use Rattle.std.specs.Prelude.{if◌then◌else◌, length};
 ghost use Rattle.std.specs.Bool.{MatchBool};
 ghost use Rattle.std.specs.Io.Buffered.{reader_buffer, reader_remaining};
 ghost use Rattle.std.specs.Io.KnownBytes.{Keeps, append_known, prepend_known};
@@ -9,15 +10,14 @@ ghost use Rattle.ciborium_ll.specs.ItemLengths.{IsNoItem};
 ghost use Rattle.ciborium_ll.specs.Levels.{AreItem};
 ghost use Rattle.ciborium_ll.specs.declared.item_heads.NoItem.{NoItem};
 ghost use Rattle.ciborium_value.specs.View.{tree_of};
-ghost use Rattle.ciborium_ll.specs.declared.kind.Kind.TheVariants.{DuplicateKey, TooLarge};
 ghost use Rattle.ciborium.specs.ValueAnswers.{IsRefusedBy};
 ghost use Rattle.cbor.specs.Answer.{IsFrontRefused, refusal_behind, refused_text, wants_memory};
-ghost use Rattle.cbor.specs.Forms.{formless_text};
 ghost use Rattle.cbor.specs.Lines.{text_line};
+ghost use Rattle.cbor.specs.Sequence.{refused_item_text};
 ghost use Rattle.cbor.specs.Shown.{shown_spelling};
 ghost use Rattle.cbor.specs.Spellings.{RefusesItem};
 ghost use Rattle.cbor.specs.Streams.{HoldsItem, IsFront, IsItemLine, IsJudged, IsReadNext};
-ghost use Rattle.cbor.specs.Streams.{IsStreamShown, IsTaken, refused_line, shown_line};
+ghost use Rattle.cbor.specs.Streams.{IsStreamShown, IsTaken, refused_line};
 ghost use Rattle.cbor.specs.declared.reading.Spelling.{Spelling};
 ghost use Rattle.cbor.specs.declared.reading.Spelling.TheVariants.{Any, Deterministic};
 
@@ -32,7 +32,7 @@ use crate::showing::{make_shown, push_shown, shown_spelling};
 use ciborium::de::{Error, from_reader_deterministic_with_order, from_reader_next_at};
 use ciborium_ll::{NotCopied, copy_item, item_len};
 use ciborium_value::canonical::encoded_size;
-use ciborium_value::{KeyOrder, Kind, Value};
+use ciborium_value::{KeyOrder, Value};
 use std::alloc::Global;
 use std::io::{self, BufRead, BufReader, Read, Write};
 
@@ -391,39 +391,59 @@ fn show_judged<W: Write>(
         × IsItemLine place.now showing limit number offset s shown line
         × (append_known (W.contents output.new) waiting.new.items ≡ Some (w ++ line))) }
 {
+    if write_judged(item, showing, number, offset, buffer, line)? {
+        put_line(line, waiting, output)?;
+        return Ok(true);
+    }
+    put_text(place, waiting, output)?;
+    put_line(line, waiting, output)?;
+    Ok(false)
+}
+
+// Makes `line` show an item that was judged, or say why it is not shown, and says whether it is.
+// `buffer` is for its encoding, to be used again.
+fn write_judged(
+    item: Result<Value, LineRefusal>,
+    showing: Showing,
+    number: u64,
+    offset: usize,
+    buffer: &mut Vec<u8>,
+    line: &mut Vec<u8>,
+) -> Result<bool, Fault>
+    ensures { (place s : List ℕ) (limit : ℕ) → IsJudged (shown_spelling showing) s limit item →
+        IfOk result (λ shown. IsItemLine place showing limit number offset s shown
+        ((if shown then [] else place) ++ text_line line.new.items)) }
+{
     match item {
         Ok(mut value) => {
             if let Err(kind) = make_shown(&mut value, showing) {
-                show_formless(place, number, kind, line, waiting, output)?;
+                write_formless_item(number, kind, line)?;
                 return Ok(false);
             }
-            show_item(&value, showing, buffer, line, waiting, output)?;
+            line.clear();
+            push_shown(&value, showing, buffer, line)?;
             Ok(true)
         }
         Err(refusal) => {
-            show_refused(place, number, offset, refusal, line, waiting, output)?;
+            write_refused(number, offset, refusal, line)?;
             Ok(false)
         }
     }
 }
 
-// Puts the line of an item behind the texts that wait. `buffer` and `line` are buffers for its
-// encoding and for the line, to be used again.
-fn show_item<W: Write>(
-    value: &Value,
-    showing: Showing,
-    buffer: &mut Vec<u8>,
+// Makes `line` say why an item is refused; its offset is counted from so many bytes before it.
+fn write_refused(
+    number: u64,
+    offset: usize,
+    refusal: LineRefusal,
     line: &mut Vec<u8>,
-    waiting: &mut Vec<u8>,
-    output: &mut W,
 ) -> Result<(), Fault>
-    ensures { (w : List ℕ) → append_known (W.contents output.old) waiting.old.items ≡ Some w →
-        OnOk result (append_known (W.contents output.new) waiting.new.items
-        ≡ Some (w ++ shown_line showing (tree_of value.now))) }
+    ensures { OnOk result ((wants_memory refusal ≡ false) × (line.new.items
+        ≡ refused_item_text number (refused_text (refusal_behind offset refusal)))) }
 {
-    line.clear();
-    push_shown(value, showing, buffer, line)?;
-    put_line(line, waiting, output)
+    let refusal = refusal.behind(offset).ok_or(Fault::Input)?;
+    write_refused_item(number, refusal, line)?;
+    Ok(())
 }
 
 // Puts the line of an item that is refused, in this place, behind the texts that wait; its offset
@@ -443,28 +463,7 @@ fn show_refused<W: Write>(
         ≡ Some (w ++ refused_line place.now number
         (refused_text (refusal_behind offset refusal))))) }
 {
-    let refusal = refusal.behind(offset).ok_or(Fault::Input)?;
-    write_refused_item(number, refusal, line)?;
-    put_text(place, waiting, output)?;
-    put_line(line, waiting, output)
-}
-
-// Puts the line of an item that has no deterministic form, in this place, behind the texts that
-// wait. `line` is a buffer for it, to be used again.
-fn show_formless<W: Write>(
-    place: &[u8],
-    number: u64,
-    kind: Kind,
-    line: &mut Vec<u8>,
-    waiting: &mut Vec<u8>,
-    output: &mut W,
-) -> Result<(), Fault>
-    requires { (kind ≡ DuplicateKey) ⊎ (kind ≡ TooLarge) }
-    ensures { (w : List ℕ) → append_known (W.contents output.old) waiting.old.items ≡ Some w →
-        OnOk result (append_known (W.contents output.new) waiting.new.items
-        ≡ Some (w ++ refused_line place.now number (formless_text kind))) }
-{
-    write_formless_item(number, kind, line)?;
+    write_refused(number, offset, refusal, line)?;
     put_text(place, waiting, output)?;
     put_line(line, waiting, output)
 }

@@ -53,6 +53,7 @@ pub use Rattle.ciborium_value.specs.Counts
 pub use Rattle.ciborium_value.specs.Order
 pub use Rattle.ciborium_value.specs.Derived
 pub use Rattle.ciborium_value.specs.View
+pub use Rattle.ciborium_value.specs.ValueLists
 pub use Rattle.ciborium_value.specs.Variants
 pub use Rattle.ciborium_value.specs.TreeVariants
 pub use Rattle.ciborium_value.specs.Rows

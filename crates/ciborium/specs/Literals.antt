@@ -1,9 +1,9 @@
 -- What a literal puts together, unless an allocation failed.
 use Rattle.std.specs.Prelude.{Bool, true, false, List, [], ◌∷◌, ◌++◌, map, Result, Ok, Err, Vec}
 use Rattle.std.specs.declared.alloc.Global.{Global}
-use Rattle.ciborium_value.specs.{Sinks.Named, Tree.Tree, View.{tree_of, trees_from, tree_pairs_from, pair_trees}}
-use Rattle.ciborium_value.specs.{View.read_as, WrittenTrees.written_tree, declared.error.Error.Error}
-use Rattle.ciborium_value.specs.{declared.error.Error.TheVariants.{Custom, Memory}, declared.tree.Value.Value}
+use Rattle.ciborium_value.specs.{Sinks.Named, Tree.Tree, ValueLists.pair_trees, View.{tree_of, trees_from}}
+use Rattle.ciborium_value.specs.{View.{tree_pairs_from, result_map}, WrittenTrees.written_tree}
+use Rattle.ciborium_value.specs.declared.{error.Error.{Error, TheVariants.{Custom, Memory}}, tree.Value.Value}
 use Rattle.ciborium_value.specs.Tree as trees
 
 -- no allocation failed
@@ -14,15 +14,15 @@ had_memory (Err Memory) = false
 
 -- the tree of a part
 abbrev pub part_tree : Result Value Error → Result Tree Error
-part_tree = read_as tree_of
+part_tree = result_map tree_of
 
 -- the trees of items
 abbrev pub item_trees : Result (Vec Value Global) Error → Result (List Tree) Error
-item_trees = read_as (λ vs. map tree_of vs.items)
+item_trees = result_map (λ vs. map tree_of vs.items)
 
 -- the trees of pairs
 abbrev pub trees_in_pairs : Result (Vec (Value × Value) Global) Error → Result (List (Tree × Tree)) Error
-trees_in_pairs = read_as (λ ps. map pair_trees ps.items)
+trees_in_pairs = result_map (λ ps. map pair_trees ps.items)
 
 -- the tree of the item that is named
 abbrev pub named_tree : Named → Result Tree Error
@@ -49,8 +49,8 @@ and_pair (Ok ps) (Ok p) = Ok (ps ++ p ∷ [])
 
 -- the array of the items
 abbrev pub array_tree : Result (List Tree) Error → Result Tree Error
-array_tree = read_as (λ ts. trees.array (trees_from ts))
+array_tree = result_map (λ ts. trees.array (trees_from ts))
 
 -- the map of the pairs
 abbrev pub map_tree : Result (List (Tree × Tree)) Error → Result Tree Error
-map_tree = read_as (λ ps. trees.map (tree_pairs_from ps))
+map_tree = result_map (λ ps. trees.map (tree_pairs_from ps))

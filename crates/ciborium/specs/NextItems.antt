@@ -4,7 +4,7 @@ use Rattle.std.specs.{Io.KnownBytes.{Consumes, IsAtEnd}, Prelude.{◌≡◌, ◌
 use Rattle.std.specs.Prelude.{Option, Some, None, Result, Ok, Err, IfErr, IfOk, IfSome, OnOk}
 use Rattle.ciborium_ll.specs.{Accesses.left_at_failure, Bytes.greatest_offset, declared.header.Header.Header}
 use Rattle.ciborium_value.specs.{Readings.Reading, Sources.{IsGrantedFault, RefusesAhead, TakesAhead, TakesItem}}
-use Rattle.ciborium_value.specs.{Sources.TakesOnly, Spelling.any, Tree.Tree, View.read_as}
+use Rattle.ciborium_value.specs.{Sources.TakesOnly, Spelling.any, Tree.Tree, View.result_map}
 use Rattle.ciborium.specs.{Errors.fault_of, TypedAnswers.{RefusesGiven, TakesBeginning, TakesGiven}}
 use Rattle.ciborium.specs.{ValueAnswers.TakesBytes, ValueClauses.ReadsWhole}
 use Rattle.ciborium.specs.declared.de.{byte_source.ByteSource.ByteSource, error.Error.{Error, TheVariants.{Io, Syntax}}}
@@ -54,12 +54,12 @@ pub record ReadsNextFrom {T A E : Type 0} (can_fail : Bool) (p l : ℕ) (reading
     (before after : Option (List ℕ)) (End : Type 0) (P : Result Tree (Error E) → Type 0)
     (r : Result (Option T) (Error E)) : Type 0 where
   pub end : End
-  pub ok : Otherwise r (λ q. TakesGiven (Some l) reading.taken before after (read_as reading.content q))
+  pub ok : Otherwise r (λ q. TakesGiven (Some l) reading.taken before after (result_map reading.content q))
   pub refused : Otherwise r (λ q. RefusesGiven p (Some l) reading.taken before
-      (left_at_failure can_fail after) (read_as reading.content q))
+      (left_at_failure can_fail after) (result_map reading.content q))
   pub memory : IfErr r (λ e. IsGrantedFault (fault_of (left_at_failure can_fail after) e) reading.needs_memory)
   pub taken : TakesBeginning before after
-  pub value : Otherwise r (λ q. IfSome reading.whole (λ tree. P (read_as (λ v. tree (reading.content v)) q)))
+  pub value : Otherwise r (λ q. IfSome reading.whole (λ tree. P (result_map (λ v. tree (reading.content v)) q)))
 
 -- the bytes begin at offset 0
 abbrev pub ReadsNextAsTypeFrom : {T A E : Type 0} → Bool → ℕ → Reading T A → Option (List ℕ) →
@@ -129,5 +129,5 @@ IsReadFrom can_fail remaining reading old new r = record {
       (fault_at can_fail remaining new e));
   memory : IfErr r (λ e. IsGrantedFault (fault_at can_fail remaining new e) reading.needs_memory);
   whole : IfSome reading.whole (λ tree. ReadsValue can_fail remaining old new
-      (read_as (λ v. tree (reading.content v)) r));
+      (result_map (λ v. tree (reading.content v)) r));
 }

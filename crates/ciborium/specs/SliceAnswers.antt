@@ -2,7 +2,7 @@
 use Rattle.std.specs.Prelude.{◌≡◌, ◌≢◌, ℕ, ◌⊎◌, List, [], ◌++◌, length, Some, Result, Ok, Err, IfErr, IfOk, IfSome}
 use Rattle.ciborium_ll.specs.{Item.Item, Spells.Spells, declared.kind.Kind.TheVariants.TrailingData}
 use Rattle.ciborium_value.specs.{Given.{Given, gives, outcome}, Readings.Reading, Refuses.Refuses, Sources.IsFaultOf}
-use Rattle.ciborium_value.specs.{Sources.IsGrantedFault, Spelling.{any, IsReadAs}, Tree.Tree, View.read_as}
+use Rattle.ciborium_value.specs.{Sources.IsGrantedFault, Spelling.{any, IsReadAs}, Tree.Tree, View.result_map}
 use Rattle.ciborium.specs.{Errors.fault_of, ValueAnswers.IsRefusedBy, declared.de.error.Error.Error}
 use Rattle.ciborium.specs.declared.de.error.Error.TheVariants.{Memory, Semantic}
 
@@ -47,10 +47,10 @@ AnswersAll l b r = (v : Tree) → IsReadAs any b 0 (Some l) v → (r ≡ Ok v) �
 -- could fail, so `Io` is the end of the bytes
 pub record ReadsAll {T A E : Type 0} (l : ℕ) (reading : Reading T A) (b : List ℕ)
     (r : Result T (Error E)) : Type 0 where
-  pub ok : IsAllTaken l reading.taken b (read_as reading.content r)
-  pub exact : GivesAll l reading.taken b (read_as reading.content r)
-  pub refused : RefusesAll l reading.taken b (read_as reading.content r)
+  pub ok : IsAllTaken l reading.taken b (result_map reading.content r)
+  pub exact : GivesAll l reading.taken b (result_map reading.content r)
+  pub refused : RefusesAll l reading.taken b (result_map reading.content r)
   pub memory : IfErr r (λ e. IsGrantedFault (fault_of (Some []) e) reading.needs_memory)
   -- where reading is one call of `value`
-  pub value : IfSome reading.whole (λ tree. AreAllRead l b (read_as (λ v. tree (reading.content v)) r))
-  pub whole : IfSome reading.whole (λ tree. AnswersAll l b (read_as (λ v. tree (reading.content v)) r))
+  pub value : IfSome reading.whole (λ tree. AreAllRead l b (result_map (λ v. tree (reading.content v)) r))
+  pub whole : IfSome reading.whole (λ tree. AnswersAll l b (result_map (λ v. tree (reading.content v)) r))

@@ -2,10 +2,10 @@
 use Rattle.std.specs.Prelude.{◌≡◌, ℕ, ◌+◌, Bool, true, List, ◌++◌, length, Option, Some, None, Result, Ok, Err, IfOk}
 use Rattle.std.specs.{Prelude.{IfErr, IfSome}, Io.KnownBytes.Consumes, declared.io.Error.Error as IoError}
 use Rattle.ciborium_ll.specs.{Accesses.left_at_failure, Item.Item, Spells.Spells, declared.kind.Kind.Kind}
-use Rattle.ciborium_value.specs.{Encoding.{encoding, item_of}, Nesting.Limit, ProperTrees.IsProperTree}
-use Rattle.ciborium_value.specs.{Readings.Reading, Sources.{Fault, of_kind, of_nesting, of_syntax, of_memory}}
-use Rattle.ciborium_value.specs.{Sources.{of_device, of_end, of_length, IsFaultOf, IsGrantedFault}, View.read_as}
-use Rattle.ciborium_value.specs.{Given.{Given, gives, outcome}, Tree.Tree, TreeAnswers.IsErrorOf}
+use Rattle.ciborium_value.specs.{Encoding.{encoding, item_of}, Given.{Given, gives, outcome}, Nesting.Limit}
+use Rattle.ciborium_value.specs.{ProperTrees.IsProperTree, Readings.Reading, Sources.{Fault, of_kind, of_nesting}}
+use Rattle.ciborium_value.specs.Sources.{of_syntax, of_memory, of_device, of_end, of_length, IsFaultOf, IsGrantedFault}
+use Rattle.ciborium_value.specs.{Tree.Tree, TreeAnswers.IsErrorOf, View.result_map}
 use Rattle.ciborium_value.specs.declared.error.Error.{Error as TreeError}
 use Rattle.ciborium.specs.{Errors.fault_of, declared.de.error.Error.Error}
 use Rattle.ciborium_value.specs.declared.error.Error.TheVariants as of_tree
@@ -47,12 +47,12 @@ pub record ReadsAsTypeFrom {T A E : Type 0} (can_fail : Bool) (p : ℕ) (l : Lim
     (r : Result T (Error E)) : Type 0 where
   -- where an item stands at the front: just it was taken, and the answer is what it gives; or it is
   -- refused as the item is
-  pub ok : TakesGiven l reading.taken before after (read_as reading.content r)
-  pub refused : RefusesGiven p l reading.taken before (left_at_failure can_fail after) (read_as reading.content r)
+  pub ok : TakesGiven l reading.taken before after (result_map reading.content r)
+  pub refused : RefusesGiven p l reading.taken before (left_at_failure can_fail after) (result_map reading.content r)
   pub memory : IfErr r (λ e. IsGrantedFault (fault_of (left_at_failure can_fail after) e) reading.needs_memory)
   -- refused or not
   pub taken : TakesBeginning before after
-  pub value : IfSome reading.whole (λ tree. P (read_as (λ v. tree (reading.content v)) r))
+  pub value : IfSome reading.whole (λ tree. P (result_map (λ v. tree (reading.content v)) r))
 
 -- the same of any reader
 abbrev pub ReadsAsType : {T A E : Type 0} → ℕ → Limit → Reading T A → Option (List ℕ) →

@@ -1,5 +1,6 @@
--- What reading a value promises: what was taken is one item that means the answer, or is refused
--- so, whatever follows it; and an item at the front is read.
+-- What reading a value promises: what was taken is one good item that means the answer, or is
+-- refused with the error, whatever follows it (`Io`: nothing; `Memory` is none); and a good item
+-- at the front is read.
 use Rattle.std.specs.Prelude.{◌≡◌, ℕ, ◌+◌, ◌≤◌, List, [], ◌++◌, length, Option, Some, None, Result, Ok, Err}
 use Rattle.std.specs.Io.KnownBytes.{Consumes}
 use Rattle.ciborium_ll.specs.{Bytes.{AreBytes, greatest_offset}, Refusal.Refusal}
@@ -10,16 +11,16 @@ use Rattle.ciborium_ll.specs.Refusal as refusal
 
 -- ---- refusals
 
--- P holds of the refusal that an error is: of `Io` only where `left`, what follows, is no byte; of
+-- P holds of the refusal that an error is: of `Io` only where `rest`, what follows, is no byte; of
 -- `Memory` nothing is said, and `Semantic` has its offset
 abbrev pub IsRefusedBy : {E : Type 0} → Option (List ℕ) → Error E → (Refusal → Type 0) → Type 0
-IsRefusedBy left (Io e) P = left ≡ Some [] → P refusal.io
-IsRefusedBy left (Syntax p) P = P (refusal.syntax p)
-IsRefusedBy left (Semantic (Some p) k) P = P (refusal.semantic p k)
-IsRefusedBy left (Semantic None k) P = ⊥
-IsRefusedBy left RecursionLimitExceeded P = P refusal.recursion_limit_exceeded
-IsRefusedBy left Memory P = Unit {0}
-IsRefusedBy left TooLong P = P refusal.too_long
+IsRefusedBy rest (Io e) P = rest ≡ Some [] → P refusal.io
+IsRefusedBy rest (Syntax p) P = P (refusal.syntax p)
+IsRefusedBy rest (Semantic (Some p) k) P = P (refusal.semantic p k)
+IsRefusedBy rest (Semantic None k) P = ⊥
+IsRefusedBy rest RecursionLimitExceeded P = P refusal.recursion_limit_exceeded
+IsRefusedBy rest Memory P = Unit {0}
+IsRefusedBy rest TooLong P = P refusal.too_long
 
 -- ---- what a call promises
 
@@ -28,7 +29,7 @@ IsRefusedBy left TooLong P = P refusal.too_long
 -- its tree.
 
 -- the bytes s, taken from offset p on, fit the answer: at Ok they are read as it; at an error s ++ c
--- is refused so, whatever c, which follows them
+-- is refused with it, whatever c, which follows them; at `Io` only where c is empty
 abbrev pub IsTakenFrom : {E : Type 0} → Spelling → ℕ → List ℕ → ℕ → Result Tree (Error E) → Type 0
 IsTakenFrom spelling p s l (Ok v) = IsReadAs spelling s p (Some l) v
 IsTakenFrom spelling p s l (Err e) = (c : List ℕ) → IsRefusedBy (Some c) e (Refuses spelling (s ++ c) p (Some l))
@@ -43,18 +44,18 @@ TakesBytes spelling p before l after r = (s : List ℕ) ×
 -- memory was refused, or the reader failed and it is not known that nothing was left: where nothing
 -- was left `Io` is a refusal
 abbrev pub IsFailed : {E : Type 0} → Option (List ℕ) → Error E → Type 0
-IsFailed left (Io e) = ¬ (left ≡ Some [])
-IsFailed left Memory = Unit {0}
-IsFailed left _ = ⊥
+IsFailed after (Io e) = ¬ (after ≡ Some [])
+IsFailed after Memory = Unit {0}
+IsFailed after _ = ⊥
 
--- bytes that are read as v stood at the front, and left followed: they were taken, and v is the
+-- bytes that are read as v stood at the front, and rest followed: they were taken, and v is the
 -- answer, or the call failed
 abbrev pub GivesTree : {E : Type 0} → Tree → List ℕ → Option (List ℕ) → Result Tree (Error E) → Type 0
-GivesTree v left after (Ok w) = (v ≡ w) × (after ≡ Some left)
-GivesTree v left after (Err e) = IsFailed after e
+GivesTree v rest after (Ok w) = (v ≡ w) × (after ≡ Some rest)
+GivesTree v rest after (Err e) = IsFailed after e
 
 -- an item at the front that is accepted is taken and its tree answered, unless the call failed
 abbrev pub AnswersGoodItem : {E : Type 0} → Spelling → Option (List ℕ) → ℕ → Option (List ℕ) →
     Result Tree (Error E) → Type 0
-AnswersGoodItem spelling before l after r = (b s left : List ℕ) (v : Tree) →
-    before ≡ Some b → IsReadAs spelling s 0 (Some l) v → b ≡ s ++ left → GivesTree v left after r
+AnswersGoodItem spelling before l after r = (b s rest : List ℕ) (v : Tree) →
+    before ≡ Some b → IsReadAs spelling s 0 (Some l) v → b ≡ s ++ rest → GivesTree v rest after r

@@ -2,7 +2,7 @@
 
 ghost use Rattle.std.specs.Prelude.{◌≡◌, length};
 ghost use Rattle.ciborium_value.specs.Places.{dictionary};
-ghost use Rattle.ciborium_value.specs.View.{read_as, tree_of};
+ghost use Rattle.ciborium_value.specs.View.{result_map, tree_of};
 ghost use Rattle.ciborium_value.specs.Spelling.{any, deterministic};
 ghost use Rattle.ciborium_value.specs.Sinks.{container_of, in_turn, named_value};
 ghost use Rattle.ciborium_value.specs.declared.key_order.KeyOrder.{KeyOrder};
@@ -51,17 +51,18 @@ use std::io::{self, Read};
 
 /// What reading a `Value` promises, whatever the bytes and the limit. Some bytes are taken: at `Ok`
 /// they are just one item, which means the answer, nests within the limit and ends within the
-/// greatest offset; else they are refused so, whatever follows them. And where such an item stands
-/// at the front, it is taken and answered, unless the reader failed or memory was refused.
+/// greatest offset; at an error they are refused with it, whatever follows them, but that `Io` is a
+/// refusal only where nothing does, and that `Memory` is none. And where such an item stands at the
+/// front, it is taken and answered, unless the answer is `Memory`, or `Io` with bytes left.
 pub fn value_is_read<R: Read>(
     alloc: Global,
     reader: &mut R,
     limit: usize,
 ) -> Result<Value, de::Error<io::Error>>
     ensures taken { TakesBytes any 0 (R.remaining reader.old) limit (R.remaining reader.new)
-        (read_as tree_of result) }
+        (result_map tree_of result) }
     ensures exact { AnswersGoodItem any (R.remaining reader.old) limit (R.remaining reader.new)
-        (read_as tree_of result) }
+        (result_map tree_of result) }
 {
     de::from_reader_with_recursion_limit(alloc, reader, limit)
 }
@@ -75,9 +76,9 @@ pub fn value_is_read_deterministically<R: Read>(
     order: KeyOrder,
 ) -> Result<Value, de::Error<io::Error>>
     ensures taken { TakesBytes (deterministic order) 0 (R.remaining reader.old) limit
-        (R.remaining reader.new) (read_as tree_of result) }
+        (R.remaining reader.new) (result_map tree_of result) }
     ensures exact { AnswersGoodItem (deterministic order) (R.remaining reader.old) limit
-        (R.remaining reader.new) (read_as tree_of result) }
+        (R.remaining reader.new) (result_map tree_of result) }
 {
     de::from_reader_deterministic_with_order(alloc, reader, limit, order)
 }

@@ -1,6 +1,6 @@
 //! What `cbor!` calls: arrays and maps that are put together part by part.
 
-ghost use Rattle.std.specs.Prelude.{◌≡◌, ◌∷◌, [], IfErr, IfOk, Ok, true};
+ghost use Rattle.std.specs.Prelude.{◌≡◌, ◌∷◌, ◌⊎◌, [], Err, IfErr, IfOk, IsOk, Ok, true};
 ghost use Rattle.ciborium.specs.Literals.{and_item, and_pair, array_tree, both_trees, had_memory};
 ghost use Rattle.ciborium.specs.Literals.{item_trees, map_tree, named_tree, part_tree};
 ghost use Rattle.ciborium.specs.Literals.{trees_in_pairs};
@@ -8,7 +8,6 @@ ghost use Rattle.ciborium_value.specs.Places.{dictionary};
 ghost use Rattle.ciborium_value.specs.Sinks.{IsOwed, container_of};
 ghost use Rattle.ciborium_value.specs.Tree.{null};
 ghost use Rattle.ciborium_value.specs.TreeAnswers.{IsTreeOf, tree_cause};
-ghost use Rattle.ciborium_value.specs.View.{pair_trees, read_as};
 
 use crate::cbor;
 use crate::ser::Serialize;
@@ -47,6 +46,25 @@ pub fn items(alloc: Global) -> Result<Vec<Value>, Error>
     Ok(Vec::new(alloc))
 }
 
+// Both, or the first refusal. Want of memory comes before a refusal.
+#[inline(always)]
+fn both<A: Drop, B: Drop>(
+    first: Result<A, Error>,
+    second: Result<B, Error>,
+) -> Result<(A, B), Error>
+    ensures first { (had_memory result ≡ true) → had_memory first ≡ true }
+    ensures second { (had_memory result ≡ true) → had_memory second ≡ true }
+    ensures ok { IfOk result (λ pair. (first ≡ Ok pair.0) × (second ≡ Ok pair.1)) }
+    ensures refused { IfErr result (λ e. (had_memory result ≡ true) →
+        (first ≡ Err e) ⊎ (IsOk first × (second ≡ Err e))) }
+{
+    match (first, second) {
+        (Ok(first), Ok(second)) => Ok((first, second)),
+        (Err(Error::Memory), _) | (_, Err(Error::Memory)) => Err(Error::Memory),
+        (Err(error), _) | (Ok(_), Err(error)) => Err(error),
+    }
+}
+
 /// The items with one more behind them, or the first refusal. Want of memory comes before a
 /// refusal.
 #[inline(always)]
@@ -59,14 +77,9 @@ pub fn item(
     ensures added { (had_memory result ≡ true) →
         item_trees result ≡ and_item (item_trees items) (part_tree item) }
 {
-    match (items, item) {
-        (Ok(mut items), Ok(item)) => {
-            items.push(item)?;
-            Ok(items)
-        }
-        (Err(Error::Memory), _) | (_, Err(Error::Memory)) => Err(Error::Memory),
-        (Err(error), _) | (Ok(_), Err(error)) => Err(error),
-    }
+    let (mut items, item) = both(items, item)?;
+    items.push(item)?;
+    Ok(items)
 }
 
 /// The array of the items.
@@ -89,21 +102,6 @@ pub fn pairs(alloc: Global) -> Result<Vec<(Value, Value)>, Error>
     Ok(Vec::new(alloc))
 }
 
-// A key with its value, or the first refusal. Want of memory comes before a refusal.
-#[inline(always)]
-fn both(key: Result<Value, Error>, value: Result<Value, Error>) -> Result<(Value, Value), Error>
-    ensures key { (had_memory result ≡ true) → had_memory key ≡ true }
-    ensures value { (had_memory result ≡ true) → had_memory value ≡ true }
-    ensures pair { (had_memory result ≡ true) →
-        read_as pair_trees result ≡ both_trees (part_tree key) (part_tree value) }
-{
-    match (key, value) {
-        (Ok(key), Ok(value)) => Ok((key, value)),
-        (Err(Error::Memory), _) | (_, Err(Error::Memory)) => Err(Error::Memory),
-        (Err(error), _) | (Ok(_), Err(error)) => Err(error),
-    }
-}
-
 /// The pairs with one more behind them, or the first refusal. Want of memory comes before a
 /// refusal.
 #[inline(always)]
@@ -118,14 +116,9 @@ pub fn pair(
     ensures added { (had_memory result ≡ true) → trees_in_pairs result ≡
         and_pair (trees_in_pairs pairs) (both_trees (part_tree key) (part_tree value)) }
 {
-    match (pairs, both(key, value)) {
-        (Ok(mut pairs), Ok(pair)) => {
-            pairs.push(pair)?;
-            Ok(pairs)
-        }
-        (Err(Error::Memory), _) | (_, Err(Error::Memory)) => Err(Error::Memory),
-        (Err(error), _) | (Ok(_), Err(error)) => Err(error),
-    }
+    let (mut pairs, pair) = both(pairs, both(key, value))?;
+    pairs.push(pair)?;
+    Ok(pairs)
 }
 
 /// The map of the pairs.

@@ -1,8 +1,8 @@
 -- A call that answers what stands there, or refuses for want of memory, refuses for nothing else.
 use Rattle.std.proofs.Common.{◌≡◌, ◌⊎◌, inl, inr, refl, sym, subst, ℕ, ◌≤◌, List, Some, Result, Ok, Err, IfErr, IfOk}
-use Rattle.ciborium.specs.{ReadsBack.{IsNameRead, by_bytes}, Sinks.Named, SliceAnswers.GivesAll, View.read_as}
-use Rattle.ciborium.specs.{Spells.Spells, Given.Given, Writes.IsWrittenAs, WrittenItems.WrittenSpells}
-use Rattle.ciborium.specs.{declared.de.error.Error.Error, declared.de.error.Error.TheVariants.Memory}
+use Rattle.ciborium.specs.{Given.Given, ReadsBack.{IsNameRead, by_bytes}, Sinks.Named, SliceAnswers.GivesAll}
+use Rattle.ciborium.specs.{Spells.Spells, View.result_map, Writes.IsWrittenAs, WrittenItems.WrittenSpells}
+use Rattle.ciborium.specs.declared.de.error.Error.{Error, TheVariants.Memory}
 
 -- the call answers v, or refuses for want of memory
 abbrev pub Answers : {E A : Type 0} → A → Result A (Error E) → Type 0
@@ -12,13 +12,13 @@ refused : {E B : Type 0} (e : Error E) (v : B) (r : Result B (Error E)) → r �
 refused e v r is (inl same) = cc
 refused e v r is (inr same) = cc
 
-pub for_memory : {E A B : Type 0} (f : A → B) (v : B) (r : Result A (Error E)) → Answers v (read_as f r) →
+pub for_memory : {E A B : Type 0} (f : A → B) (v : B) (r : Result A (Error E)) → Answers v (result_map f r) →
     IfErr r (λ e. e ≡ Memory)
 for_memory f v (Ok a) h = tt
-for_memory f v (Err e) h = refused e v (read_as f (Err e)) refl h
+for_memory f v (Err e) h = refused e v (result_map f (Err e)) refl h
 
 pub whatever_stands : {E A B : Type 0} {P : B → Type 0} (f : A → B) (r : Result A (Error E)) →
-    ((v : B) → P v → Answers v (read_as f r)) → IfErr r (λ e. (v : B) → P v → e ≡ Memory)
+    ((v : B) → P v → Answers v (result_map f r)) → IfErr r (λ e. (v : B) → P v → e ≡ Memory)
 whatever_stands f (Ok a) h = tt
 whatever_stands f (Err e) h = λ v p. for_memory f v (Err e) (h v p)
 
@@ -26,9 +26,9 @@ same : {E B : Type 0} (w v : B) (r : Result B (Error E)) → r ≡ Ok w → Answ
 same w v r is (inl e) = cc
 same w v r is (inr e) = cc
 
-pub content : {E A B : Type 0} (f : A → B) (v : B) (r : Result A (Error E)) → Answers v (read_as f r) →
+pub content : {E A B : Type 0} (f : A → B) (v : B) (r : Result A (Error E)) → Answers v (result_map f r) →
     IfOk r (λ a. f a ≡ v)
-content f v (Ok a) h = same (f a) v (read_as f (Ok a)) refl h
+content f v (Ok a) h = same (f a) v (result_map f (Ok a)) refl h
 content f v (Err e) h = tt
 
 -- the bytes that a value is written as give its content

@@ -7,7 +7,7 @@ ghost use Rattle.ciborium.specs.Encoding.{encoding, written_bytes};
 ghost use Rattle.ciborium.specs.Writing.{Writes};
 ghost use Rattle.ciborium.specs.ProperTrees.{IsProperTree};
 ghost use Rattle.ciborium.specs.Sinks.{number_item};
-ghost use Rattle.ciborium.specs.View.{read_as, tree_of};
+ghost use Rattle.ciborium.specs.View.{result_map, tree_of};
 ghost use Rattle.ciborium.specs.Spells.{Spells};
 ghost use Rattle.ciborium.specs.Tree.{integer, text};
 ghost use Rattle.ciborium_value.specs.declared.key_order.KeyOrder.TheVariants.{LengthFirst};
@@ -38,16 +38,16 @@ pub fn read_value<R: Read>(
     limit: usize,
 ) -> Result<Value, de::Error<io::Error>>
     ensures taken { TakesBytes any 0 (R.remaining reader.old) limit (R.remaining reader.new)
-        (read_as tree_of result) }
+        (result_map tree_of result) }
     ensures ok { TakesJustItem any (R.remaining reader.old) limit (R.remaining reader.new)
-        (read_as tree_of result) }
+        (result_map tree_of result) }
     ensures exact { AnswersGoodItem any (R.remaining reader.old) limit (R.remaining reader.new)
-        (read_as tree_of result) }
+        (result_map tree_of result) }
     ensures refused { RefusesBytes any (R.remaining reader.old) limit (R.remaining reader.new)
-        (read_as tree_of result) }
+        (result_map tree_of result) }
     ensures bounded { HoldsNoMore (R.remaining reader.old) (R.remaining reader.new)
-        (read_as tree_of result) }
-    ensures proper { AnswersProper (read_as tree_of result) }
+        (result_map tree_of result) }
+    ensures proper { AnswersProper (result_map tree_of result) }
     ensures within { TakesWithin (R.remaining reader.old) (R.remaining reader.new) }
 {
     from_reader_with_recursion_limit(alloc, reader, limit)

@@ -4,7 +4,7 @@ ghost use Rattle.std.specs.Prelude.{◌≡◌, IfSome, Some, codes, false, pos, 
 ghost use Rattle.ciborium.specs.Item as item;
 ghost use Rattle.ciborium.specs.Encoding.{written_bytes};
 ghost use Rattle.ciborium.specs.Sinks.{number_item};
-ghost use Rattle.ciborium.specs.View.{read_as};
+ghost use Rattle.ciborium.specs.View.{result_map};
 ghost use Rattle.ciborium.specs.TypedAnswers.{TakesGiven};
 
 use crate::own_types::{Figure, Message, Moment};
@@ -17,7 +17,7 @@ use std::io::{self, Read};
 pub fn read_message<R: Read>(alloc: Global, reader: &mut R) -> Result<Message, de::Error<io::Error>>
     ensures { TakesGiven (Some 256) ⟦<Message as Deserialize>⟧.reading.taken
         (R.remaining reader.old) (R.remaining reader.new)
-        (read_as (λ m. (m.version, (string_bytes m.body, tt))) result) }
+        (result_map (λ m. (m.version, (string_bytes m.body, tt))) result) }
 {
     from_reader(alloc, reader)
 }
@@ -35,7 +35,7 @@ pub fn bytes_of_circle(alloc: Global, radius: u8) -> Option<Vec<u8>>
 pub fn read_figure<R: Read>(alloc: Global, reader: &mut R) -> Result<Figure, de::Error<io::Error>>
     ensures { TakesGiven (Some 256) ⟦<Figure as Deserialize>⟧.reading.taken
         (R.remaining reader.old) (R.remaining reader.new)
-        (read_as ⟦<Figure as Deserialize>⟧.reading.content result) }
+        (result_map ⟦<Figure as Deserialize>⟧.reading.content result) }
 {
     from_reader(alloc, reader)
 }
@@ -51,7 +51,7 @@ pub fn bytes_of_moment(alloc: Global, moment: &Moment) -> Option<Vec<u8>>
 /// The moment that a reader begins with; it stands under its tag.
 pub fn read_moment<R: Read>(alloc: Global, reader: &mut R) -> Result<Moment, de::Error<io::Error>>
     ensures { TakesGiven (Some 256) ⟦<Moment as Deserialize>⟧.reading.taken
-        (R.remaining reader.old) (R.remaining reader.new) (read_as (λ m. m.seconds) result) }
+        (R.remaining reader.old) (R.remaining reader.new) (result_map (λ m. m.seconds) result) }
 {
     from_reader(alloc, reader)
 }

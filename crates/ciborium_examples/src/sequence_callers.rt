@@ -8,7 +8,7 @@ ghost use Rattle.ciborium.specs.Encoding.{items_bytes};
 ghost use Rattle.ciborium.specs.Meaning.{meaning};
 ghost use Rattle.ciborium.specs.Places.{items_from};
 ghost use Rattle.ciborium.specs.Sinks.{all_named};
-ghost use Rattle.ciborium.specs.View.{read_as, tree_of};
+ghost use Rattle.ciborium.specs.View.{result_map, tree_of};
 ghost use Rattle.ciborium.specs.ItemSequences.{IsSequence};
 ghost use Rattle.ciborium.specs.SequenceReads.{TakesSequence};
 ghost use Rattle.ciborium.specs.SequenceWrites.{AreNamedWritten};
@@ -97,7 +97,7 @@ pub fn read_all_messages<T: Deserialize, R: Read>(
     reader: &mut R,
 ) -> Result<Vec<T>, de::Error<io::Error>>
     ensures { TakesSequence (Some 256) T.reading.taken (R.remaining reader.old)
-        (R.remaining reader.new) (read_as (λ vs. map T.reading.content vs.items) result) }
+        (R.remaining reader.new) (result_map (λ vs. map T.reading.content vs.items) result) }
 {
     read_sequence(alloc, reader)
 }

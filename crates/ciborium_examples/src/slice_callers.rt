@@ -6,7 +6,7 @@ ghost use Rattle.ciborium.specs.Item.{Item};
 ghost use Rattle.ciborium.specs.ItemSequences.{IsSequence};
 ghost use Rattle.ciborium.specs.Meaning.{meaning};
 ghost use Rattle.ciborium.specs.SliceAnswers.{GivesAll, IsAllTaken};
-ghost use Rattle.ciborium.specs.View.{read_as, tree_of};
+ghost use Rattle.ciborium.specs.View.{result_map, tree_of};
 ghost use Rattle.ciborium.specs.Spelling.{IsReadAs, any};
 ghost use Rattle.ciborium.specs.Spells.{Spells};
 ghost use Rattle.ciborium.specs.Given.{gives, outcome};
@@ -59,9 +59,9 @@ pub fn load_pair(alloc: Global, bytes: &[u8]) -> Result<(u8, String), de::Error<
 /// are never refused but for want of memory.
 pub fn load_message(alloc: Global, bytes: &[u8]) -> Result<Message, de::Error<io::Error>>
     ensures ok { IsAllTaken 256 ⟦<Message as Deserialize>⟧.reading.taken bytes.now
-        (read_as (λ m. (m.version, (string_bytes m.body, tt))) result) }
+        (result_map (λ m. (m.version, (string_bytes m.body, tt))) result) }
     ensures exact { GivesAll 256 ⟦<Message as Deserialize>⟧.reading.taken bytes.now
-        (read_as (λ m. (m.version, (string_bytes m.body, tt))) result) }
+        (result_map (λ m. (m.version, (string_bytes m.body, tt))) result) }
 {
     from_slice(alloc, bytes)
 }

@@ -7,12 +7,13 @@ use Rattle.ciborium_ll.proofs.{ReadHeads.payload_length-is, UsableHeads.{pass, l
 use Rattle.ciborium_ll.proofs.UsableHeads.{information-below, argument-information, argument_length-information}
 use Rattle.ciborium_ll.{proofs.UsableHeads.{HeadFits, usable-fits}, specs.{Bytes.greatest_offset, Head.Width}}
 use Rattle.ciborium_ll.specs.{Head.{capacity, information, argument_bytes, initial_byte, IsHead}, Header.SpellsHeader}
-use Rattle.ciborium_ll.specs.{Header.announced_length, ReaderSteps.{IsFillTaken, IsHeadTaken, NoneIsSpare}}
-use Rattle.ciborium_ll.specs.Refusal.{Refusal, io, syntax, too_long, argument_length, is_reserved, is_low_simple}
-use Rattle.ciborium_ll.specs.Refusal.{is_ill_formed, payload_length, initial_refusal, head_refusal, HeadRefuses}
-use Rattle.ciborium_ll.specs.{Refusal.IsUsable, declared.header.Error.{Error, TheVariants.{Io, Syntax, TooLong}}}
-use Rattle.ciborium_ll.specs.declared.header.Header.{Header, TheVariants.{Positive, Negative, Bytes, Text, Array, Map}}
-use Rattle.ciborium_ll.specs.declared.header.Header.TheVariants.{Tag, Simple, Float, Break}
+use Rattle.ciborium_ll.specs.{Header.{announced_length, is_ill_formed}, ReaderSteps.{IsFillTaken, IsHeadTaken}}
+use Rattle.ciborium_ll.specs.{ReaderSteps.NoneIsSpare, Refusal.{Refusal, io, syntax, too_long, argument_length}}
+use Rattle.ciborium_ll.specs.Refusal.{is_reserved, is_low_simple, payload_length, initial_refusal, head_refusal}
+use Rattle.ciborium_ll.specs.{Refusal.{HeadRefuses, IsUsable}, declared.header.Error.{Error, TheVariants.{Io, Syntax}}}
+use Rattle.ciborium_ll.specs.declared.header.{Error.TheVariants.TooLong, Header.{Header, TheVariants.Positive}}
+use Rattle.ciborium_ll.specs.declared.header.Header.TheVariants.{Negative, Bytes, Text, Array, Map, Tag, Simple, Float}
+use Rattle.ciborium_ll.specs.declared.header.Header.TheVariants.{Break}
 
 hold : {A : Type 0} (t : Bool) (x y : A) → t ≡ true → cond t x y ≡ x
 hold t x y e = ap (λ u. cond u x y) e

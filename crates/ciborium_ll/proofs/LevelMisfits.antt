@@ -5,12 +5,11 @@ use Rattle.std.{proofs.{Math.Seq.take-append_seam, lemmas.Nat.{div-mul-add, mod-
 use Rattle.ciborium_ll.proofs.{HeadAnswers.{Facts, header-begins}, LevelEnds.{anywhere, can-end}}
 use Rattle.ciborium_ll.proofs.{LevelFronts.{are-unfinished, HeadTo, front-of-end}, OneHeader.one_header_at_front}
 use Rattle.ciborium_ll.{proofs.{UniqueSpelling.none_begins_another, UsableHeads.information-below}, specs.Head.IsHead}
-use Rattle.ciborium_ll.specs.{Head.{information, argument_bytes, initial_byte}, Header.SpellsHeader}
+use Rattle.ciborium_ll.specs.{Head.{information, argument_bytes, initial_byte}, Header.{SpellsHeader, is_ill_formed}}
 use Rattle.ciborium_ll.specs.ItemLengths.{Misfits, ill_formed, misplaced, no_chunk, no_text, BeginNoItem, BeginText}
 use Rattle.ciborium_ll.specs.{ItemLengths.chunk_major, Levels.{EndAll, AreItem, AreLeftBehind, IsPayloadOf}}
 use Rattle.ciborium_ll.specs.{Levels.{behind_head, incomplete}, Refusal.{argument_length, is_reserved, is_low_simple}}
-use Rattle.ciborium_ll.specs.{Refusal.is_ill_formed, declared.{header.Header.Header, levels.Level.Level}}
-use Rattle.ciborium_ll.specs.declared.levels.Level.TheVariants.{ByteChunks, TextChunks}
+use Rattle.ciborium_ll.specs.declared.{header.Header.Header, levels.Level.{Level, TheVariants.{ByteChunks, TextChunks}}}
 use Rattle.ciborium_ll.specs.declared.header.Header.TheVariants as heads
 
 -- ---- a spelled head is well-formed, whatever follows

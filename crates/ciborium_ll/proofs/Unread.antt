@@ -5,11 +5,11 @@ use Rattle.std.{proofs.lemmas.Str.IsUtf8-nil, specs.{Io.KnownBytes.Consumes, Pre
 use Rattle.ciborium_ll.{proofs.{MoreBytes.refusal-more, OneHeader.one_header_at_front}, specs.Decoding.PullsTo}
 use Rattle.ciborium_ll.specs.{Head.break_byte, Header.SpellsHeader, ReaderSteps.{Advances, IsRefusalOf, IsHeadTaken}}
 use Rattle.ciborium_ll.specs.Refusal.{Refusal, io, syntax, too_long, HeadRefuses, IsUsable, HasHead, IsAtFront}
-use Rattle.ciborium_ll.specs.{Spells.{AreChunks, joined}, StringRefusal.{string_major, IsAllowed}}
-use Rattle.ciborium_ll.specs.declared.strings.StringType.{StringType}
-use Rattle.ciborium_ll.specs.StringRefusal.{PayloadRefuses, HasStringHead, ChunkRefuses, ChunksRefuse, ContentRefuses}
+use Rattle.ciborium_ll.specs.{Spells.{AreChunks, joined}, StringRefusal.{string_major, IsAllowed, PayloadRefuses}}
+use Rattle.ciborium_ll.specs.{StringRefusal.{HasStringHead, ChunkRefuses, ChunksRefuse}, Strings.ContentRefuses}
 use Rattle.ciborium_ll.specs.Strings.{string_header, IsPayloadTaken, IsChunkTaken, AreChunksTaken, IsStringTaken}
 use Rattle.ciborium_ll.specs.declared.header.{Error.{Error, TheVariants.{Io, Syntax, TooLong, Memory}}, Header.Header}
+use Rattle.ciborium_ll.specs.declared.strings.StringType.{StringType}
 use Rattle.ciborium_ll.specs.declared.header.Header.TheVariants as header
 
 -- what known bytes have left behind those that were taken

@@ -4,8 +4,8 @@ use Rattle.std.specs.Prelude.{◌≡◌, ℕ, ◌+◌, ◌<◌, ◌≤◌, Bool,
 use Rattle.std.specs.Prelude.{Result, Ok, Err}
 use Rattle.ciborium_ll.specs.{Bytes.greatest_offset, Decoding.{HasEndedFor, HasSameReader, IsAhead, ReadsNothing}}
 use Rattle.ciborium_ll.specs.Decoding.{MeasuresHead, Pulls, Takes, count_of, head_len_of, last_of, left_of, pushed_of}
-use Rattle.ciborium_ll.specs.{ReaderSteps.{IsFillTaken, IsHeadTaken, IsRefusalOf}, StringRefusal.ContentRefuses}
-use Rattle.ciborium_ll.specs.{Strings.{Grows, IsStringTaken}, declared.{decoder.Decoder.Decoder, header.Error.Error}}
+use Rattle.ciborium_ll.specs.{ReaderSteps.{IsFillTaken, IsHeadTaken, IsRefusalOf}, Strings.{ContentRefuses, Grows}}
+use Rattle.ciborium_ll.specs.{Strings.IsStringTaken, declared.{decoder.Decoder.Decoder, header.Error.Error}}
 use Rattle.ciborium_ll.specs.declared.header.{Error.TheVariants.{Io, Syntax, TooLong, Memory}, Header.Header}
 use Rattle.ciborium_ll.specs.declared.strings.StringType.{StringType}
 

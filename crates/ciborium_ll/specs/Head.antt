@@ -1,4 +1,4 @@
--- The heads of data items: an initial byte, and the bytes of an argument that does not fit into it
+-- The heads of data items: an initial byte, and the bytes of an argument that does not stand in it
 -- (RFC 8949, section 3).
 use Rattle.std.specs.Prelude.{◌≡◌, ℕ, ◌+◌, ◌*◌, ◌^◌, ◌<◌, ◌≤◌, ◌⊎◌, List, [], ◌∷◌, length, if◌then◌else◌, nat_lt}
 use Rattle.std.specs.Int.{to_be_bytes, w16, w32, w64}
@@ -27,7 +27,7 @@ information two_bytes n = 25
 information four_bytes n = 26
 information eight_bytes n = 27
 
--- the bytes after the initial byte, the most significant first
+-- the bytes after the initial byte, the most significant first; std's `w16` stands for 2 bytes
 abbrev pub argument_bytes : Width → ℕ → List ℕ
 argument_bytes within n = []
 argument_bytes one_byte n = n ∷ []

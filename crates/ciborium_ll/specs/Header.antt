@@ -1,6 +1,8 @@
 -- The heads that a `Header` stands for (RFC 8949, section 3).
-use Rattle.std.specs.Prelude.{◌≡◌, ℕ, ◌<◌, ◌≤◌, ◌⊎◌, List, [], ◌∷◌, length, Option, Some, None}
+use Rattle.std.specs.Prelude.{◌≡◌, ℕ, ◌<◌, ◌≤◌, ◌/◌, ◌%◌, ◌⊎◌, List, [], ◌∷◌, length, Option, Some, None, Bool}
+use Rattle.std.specs.Prelude.{false, ◌||◌}
 use Rattle.ciborium_ll.specs.Head.{IsHead, shortest_head, open_byte, break_byte, IsSimple, simple_bytes, IsFloat}
+use Rattle.ciborium_ll.specs.Refusal.{is_reserved, is_low_simple}
 use Rattle.ciborium_ll.specs.{ProperItems.IsArgument, declared.header.Header.{Header, TheVariants.{Positive, Negative}}}
 use Rattle.ciborium_ll.specs.declared.header.Header.TheVariants.{Bytes, Text, Array, Map, Tag, Simple, Float, Break}
 
@@ -74,3 +76,8 @@ IsProperHeader (Tag n) = IsArgument n
 IsProperHeader (Simple n) = n < 256
 IsProperHeader (Float size) = size < 256
 IsProperHeader Break = Unit {0}
+
+-- whether these bytes begin with no well-formed head, whatever follows
+abbrev pub is_ill_formed : List ℕ → Bool
+is_ill_formed [] = false
+is_ill_formed (first ∷ b) = is_reserved (first / 32) (first % 32) || is_low_simple first b

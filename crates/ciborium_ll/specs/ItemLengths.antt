@@ -2,8 +2,8 @@
 -- section 5.3.1, and appendix C).
 use Rattle.std.specs.Prelude.{◌≡◌, ℕ, ◌/◌, ◌%◌, ◌<◌, ◌≤◌, true, false, List, [], ◌∷◌, ◌++◌, length, IsUtf8, Option}
 use Rattle.std.specs.Prelude.{Some, None, take, Result, Ok, Err}
-use Rattle.ciborium_ll.specs.{Head.break_byte, Header.{SpellsHeader, announced_length}, Levels.{AreItem, AreLeftBehind}}
-use Rattle.ciborium_ll.specs.{Levels.behind_head, Refusal.{argument_length, is_ill_formed}}
+use Rattle.ciborium_ll.specs.{Head.break_byte, Header.{SpellsHeader, announced_length, is_ill_formed}, Levels.AreItem}
+use Rattle.ciborium_ll.specs.{Levels.{AreLeftBehind, behind_head}, Refusal.argument_length}
 use Rattle.ciborium_ll.specs.declared.{header.Header.{Header, TheVariants.Text}, item_heads.NoItem.NoItem}
 use Rattle.ciborium_ll.specs.declared.item_heads.NoItem.TheVariants.{Incomplete, Malformed, TooDeep}
 use Rattle.ciborium_ll.specs.declared.levels.Level.{Level, TheVariants.{ByteChunks, TextChunks}}

@@ -1,7 +1,7 @@
 -- What a call takes from a reader, where the reader's bytes are known, and how offsets count it.
 use Rattle.std.specs.{Io.KnownBytes.Consumes, Prelude.{◌≡◌, ℕ, ◌+◌, ◌<◌, ◌≤◌, List, [], length, take, Option, Some}}
 use Rattle.std.specs.Prelude.{MatchOption, IsTrue, Result, Ok, Err}
-use Rattle.ciborium_ll.specs.{Bytes.{AreBytes, greatest_offset}, Header.SpellsHeader, Refusal.{Refusal, is_ill_formed}}
+use Rattle.ciborium_ll.specs.{Bytes.{AreBytes, greatest_offset}, Header.{SpellsHeader, is_ill_formed}, Refusal.Refusal}
 use Rattle.ciborium_ll.specs.{Refusal.{io, syntax, too_long, HeadRefuses, IsUsable}, declared.header.Error.Error}
 use Rattle.ciborium_ll.specs.declared.header.{Error.TheVariants.{Io, Syntax, TooLong, Memory}, Header.Header}
 

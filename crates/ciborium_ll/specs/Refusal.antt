@@ -5,7 +5,7 @@ use Rattle.std.specs.{Prelude.{◌&&◌, ◌||◌, nat_lt, nat_le, slice_index, 
 use Rattle.std.specs.Int.{w16, w32, w64}
 use Rattle.ciborium_ll.specs.{Bytes.greatest_offset, Head.IsHead, declared.kind.Kind.Kind}
 
--- what reading answers in place of a value; numbers are offsets
+-- why bytes are refused; numbers are offsets
 pub data Refusal : Type 0 where
   -- the bytes end where a head, or more of one or of a payload, is due
   io : Refusal
@@ -33,11 +33,6 @@ is_reserved major info = (nat_le 28 info && nat_le info 30) ||
 abbrev pub is_low_simple : ℕ → List ℕ → Bool
 is_low_simple first [] = false
 is_low_simple first (second ∷ b) = (first == 0xf8) && nat_lt second 32
-
--- whether these bytes begin with no well-formed head, whatever follows
-abbrev pub is_ill_formed : List ℕ → Bool
-is_ill_formed [] = false
-is_ill_formed (first ∷ b) = is_reserved (first / 32) (first % 32) || is_low_simple first b
 
 -- the argument that additional information and the bytes behind the initial byte give
 abbrev pub argument : ℕ → List ℕ → ℕ

@@ -35,8 +35,7 @@ IsString false major IsAllowed b payload = IsDefiniteString major IsAllowed b pa
 IsString true major IsAllowed b payload = IsOpenString major IsAllowed b payload
 
 -- b is an array or map with the parts r: behind a head with their count (section 3.1), or between
--- an open initial byte and the
--- break (section 3.2.2)
+-- an open initial byte and the break (section 3.2.2)
 abbrev pub IsContainer : Bool → ℕ → ℕ → List ℕ → List ℕ → Type 0
 IsContainer false major count b r = (h : List ℕ) × IsHead h major count × (b ≡ h ++ r)
 IsContainer true major count b r = b ≡ open_byte major ∷ (r ++ (break_byte ∷ []))

@@ -1,8 +1,8 @@
 -- When a string is refused whose head is usable (RFC 8949, sections 3.1 and 3.2.3).
-use Rattle.std.specs.Prelude.{◌≡◌, ℕ, ◌+◌, ◌<◌, ◌≤◌, ◌⊎◌, List, ◌∷◌, ◌++◌, length, Option, Some, None, IsUtf8}
+use Rattle.std.specs.Prelude.{◌≡◌, ℕ, ◌+◌, ◌<◌, ◌≤◌, ◌⊎◌, List, ◌∷◌, ◌++◌, length, IsUtf8}
 use Rattle.ciborium_ll.specs.{Bytes.{AreBytes, greatest_offset}, Head.{open_byte, break_byte}, Spells.AreChunks}
 use Rattle.ciborium_ll.specs.declared.strings.StringType.{StringType}
-use Rattle.ciborium_ll.specs.Refusal.{Refusal, io, syntax, too_long, HeadRefuses, IsUsable, HasHead, IsAtFront}
+use Rattle.ciborium_ll.specs.Refusal.{Refusal, io, syntax, HeadRefuses, IsUsable, HasHead, IsAtFront}
 
 -- the major type of a string
 abbrev pub string_major : StringType → ℕ
@@ -15,46 +15,36 @@ IsAllowed StringType.Bytes payload = AreBytes payload
 IsAllowed StringType.Text payload = IsUtf8 payload
 
 -- what is left refuses as the payload, of n bytes, of a definite string whose head is at offset p:
--- it ends early, or the payload
--- was read whole and is not UTF-8
-pub data PayloadRefuses (kind : StringType) (n p : ℕ) : List ℕ → Refusal → Type 0 where
-  ends_early : {r : List ℕ} → length r < n → PayloadRefuses kind n p r io
-  not_allowed : (payload r : List ℕ) → length payload ≡ n → ¬ IsAllowed kind payload →
-      PayloadRefuses kind n p (payload ++ r) (syntax p)
+-- it ends early, or it was read whole and the type does not allow it (a text that is not UTF-8)
+pub data PayloadRefuses (type : StringType) (n p : ℕ) : List ℕ → Refusal → Type 0 where
+  ends_early : {r : List ℕ} → length r < n → PayloadRefuses type n p r io
+  not_allowed : (payload r : List ℕ) → length payload ≡ n → ¬ IsAllowed type payload →
+      PayloadRefuses type n p (payload ++ r) (syntax p)
 
 -- a definite string at offset p: its payload refuses
 abbrev pub StringRefuses : StringType → List ℕ → ℕ → Refusal → Type 0
-StringRefuses kind b p e = (n : ℕ) × (k : ℕ) × (r : List ℕ) × HasHead b (string_major kind) n k r ×
-    PayloadRefuses kind n p r e
+StringRefuses type b p e = (n : ℕ) × (k : ℕ) × (r : List ℕ) × HasHead b (string_major type) n k r ×
+    PayloadRefuses type n p r e
 
 -- a definite string of a type begins here
 abbrev pub HasStringHead : StringType → List ℕ → Type 0
-HasStringHead kind b = (n : ℕ) × (k : ℕ) × (r : List ℕ) × HasHead b (string_major kind) n k r
+HasStringHead type b = (n : ℕ) × (k : ℕ) × (r : List ℕ) × HasHead b (string_major type) n k r
 
 -- a chunk of an open string at offset p: its head refuses, it refuses as a string of the type, or
--- it is neither such a string
--- nor the break
-pub data ChunkRefuses (kind : StringType) : List ℕ → ℕ → Refusal → Type 0 where
-  no_head : {b : List ℕ} {p : ℕ} {e : Refusal} → HeadRefuses b p e → ChunkRefuses kind b p e
-  chunk : {b : List ℕ} {p : ℕ} {e : Refusal} → IsUsable b p → StringRefuses kind b p e → ChunkRefuses kind b p e
+-- it is neither such a string nor the break
+pub data ChunkRefuses (type : StringType) : List ℕ → ℕ → Refusal → Type 0 where
+  no_head : {b : List ℕ} {p : ℕ} {e : Refusal} → HeadRefuses b p e → ChunkRefuses type b p e
+  chunk : {b : List ℕ} {p : ℕ} {e : Refusal} → IsUsable b p → StringRefuses type b p e → ChunkRefuses type b p e
   other : {b : List ℕ} {p : ℕ} →
-      IsUsable b p → ¬ HasStringHead kind b → ¬ IsAtFront break_byte b → ChunkRefuses kind b p (syntax p)
+      IsUsable b p → ¬ HasStringHead type b → ¬ IsAtFront break_byte b → ChunkRefuses type b p (syntax p)
 
 -- what is left, from offset p on, refuses as the chunks of an open string: behind good chunks,
--- which end within the greatest offset,
--- a chunk refuses
+-- which end within the greatest offset, a chunk refuses
 abbrev pub ChunksRefuse : StringType → List ℕ → ℕ → Refusal → Type 0
-ChunksRefuse kind b p e = (good : List ℕ) ×
-    (payloads : List (List ℕ)) × (r : List ℕ) × AreChunks (string_major kind) (IsAllowed kind) good payloads ×
-    (p + length good ≤ greatest_offset) × (b ≡ good ++ r) × ChunkRefuses kind r (p + length good) e
+ChunksRefuse type b p e = (good : List ℕ) ×
+    (payloads : List (List ℕ)) × (r : List ℕ) × AreChunks (string_major type) (IsAllowed type) good payloads ×
+    (p + length good ≤ greatest_offset) × (b ≡ good ++ r) × ChunkRefuses type r (p + length good) e
 
 -- an open string at offset p: its chunks refuse
 abbrev pub OpenStringRefuses : StringType → List ℕ → ℕ → Refusal → Type 0
-OpenStringRefuses kind b p e = (r : List ℕ) × (b ≡ open_byte (string_major kind) ∷ r) × ChunksRefuse kind r (p + 1) e
-
--- what follows the head at offset p of a string of this length (None: open) refuses, its first byte
--- at offset q
-abbrev pub ContentRefuses : StringType → Option ℕ → ℕ → List ℕ → ℕ → Refusal → Type 0
-ContentRefuses kind (Some n) p b q e = ((greatest_offset < q + n) × (e ≡ too_long)) ⊎
-    ((q + n ≤ greatest_offset) × PayloadRefuses kind n p b e)
-ContentRefuses kind None p b q e = ChunksRefuse kind b q e
+OpenStringRefuses type b p e = (r : List ℕ) × (b ≡ open_byte (string_major type) ∷ r) × ChunksRefuse type r (p + 1) e

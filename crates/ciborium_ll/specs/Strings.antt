@@ -3,7 +3,8 @@
 use Rattle.std.specs.Prelude.{◌≡◌, ◌≢◌, ℕ, ◌+◌, ◌<◌, ◌≤◌, ◌⊎◌, List, [], ◌∷◌, ◌++◌, length, Option, Some, None, Result}
 use Rattle.std.specs.Prelude.{Ok, Err}
 use Rattle.ciborium_ll.specs.{Bytes.greatest_offset, Head.break_byte, ReaderSteps.IsHeadTaken, Spells.AreChunks}
-use Rattle.ciborium_ll.specs.{Spells.joined, StringRefusal.{string_major, IsAllowed}, declared.header.Error.Error}
+use Rattle.ciborium_ll.specs.{Refusal.{Refusal, too_long}, Spells.joined, declared.header.Error.Error}
+use Rattle.ciborium_ll.specs.StringRefusal.{string_major, IsAllowed, PayloadRefuses, ChunksRefuse}
 use Rattle.ciborium_ll.specs.declared.header.{Error.TheVariants.{Io, Syntax, TooLong, Memory}, Header.Header}
 use Rattle.ciborium_ll.specs.declared.strings.{Chunk.{Chunk, TheVariants.{End, Definite, Other}}, StringType.StringType}
 use Rattle.ciborium_ll.specs.declared.header.Header.TheVariants as header
@@ -80,3 +81,10 @@ abbrev pub IsStringTaken : {E : Type 0} → StringType → Option ℕ → ℕ �
 IsStringTaken kind (Some n) p b q r added = ((greatest_offset < q + n) × (r ≡ Err TooLong) × (added ≡ []) × (b ≡ [])) ⊎
     ((q + n ≤ greatest_offset) × IsPayloadTaken kind n p b r added)
 IsStringTaken kind None p b q r added = AreChunksTaken kind b q r added
+
+-- what follows the head at offset p of a string of this length (None: open) refuses, its first byte
+-- at offset q
+abbrev pub ContentRefuses : StringType → Option ℕ → ℕ → List ℕ → ℕ → Refusal → Type 0
+ContentRefuses kind (Some n) p b q e = ((greatest_offset < q + n) × (e ≡ too_long)) ⊎
+    ((q + n ≤ greatest_offset) × PayloadRefuses kind n p b e)
+ContentRefuses kind None p b q e = ChunksRefuse kind b q e

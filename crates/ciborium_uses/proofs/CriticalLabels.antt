@@ -1,6 +1,6 @@
 -- Critical labels, by the list of values that names them.
 use Rattle.std.proofs.Common.{◌≡◌, refl, List, [], ◌∷◌, Some}
-use Rattle.ciborium.specs.{Tree.Tree, View.trees_of}
+use Rattle.ciborium.specs.{Tree.Tree, ValueLists.trees_of}
 use Rattle.ciborium_value.specs.declared.tree.Value.{Value}
 use Rattle.ciborium_uses.specs.Envelopes.{are_critical, is_crit}
 use Rattle.ciborium.specs.Tree as trees

@@ -6,7 +6,7 @@ use Rattle.ciborium_ll.proofs.UniqueSpelling.{none_begins_another, one_item}
 use Rattle.ciborium.{proofs.ReadBack.RoundTrips.one-content, specs.{Encoding.item_of, Folded.folded}}
 use Rattle.ciborium.specs.{Folded.tree_pairs_folded, Given.{Outcome, given_value, gives, of_meaning, outcome}}
 use Rattle.ciborium.specs.{Item.Item, Meaning.tree_pairs_more, Nesting.nesting, Spells.Spells, Tree.{Tree, TreePairs}}
-use Rattle.ciborium.specs.{TreeAnswers.IsErrorOf, View.tree_pairs_of, Writes.IsWrittenAs}
+use Rattle.ciborium.specs.{TreeAnswers.IsErrorOf, ValueLists.tree_pairs_of, Writes.IsWrittenAs}
 use Rattle.ciborium_value.proofs.FoldedTrees.{FoldedCopies.given-folded, Folding.folds_once}
 use Rattle.ciborium_value.{proofs.Writing.ReadBack.written_spells_item, specs.ReadsBack.by_bytes}
 use Rattle.ciborium_value.specs.{declared.{error.Error.Error, tree.Value.Value}, lemmas.GivenOutcomes.meaning_given}

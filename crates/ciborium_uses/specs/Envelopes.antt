@@ -7,7 +7,7 @@ use Rattle.std.specs.{Prelude.{option_map, String, string_bytes}, declared.alloc
 use Rattle.ciborium.specs.{Encoding.{encoding, item_of}, Folded.folded, Given.{Outcome, gives, outcome, given_value}}
 use Rattle.ciborium.specs.{GivenParts.{has_key, given_map}, Item.Item, Labels.numbered, Lookups.tree_under}
 use Rattle.ciborium.specs.{Nesting.nesting, Order.tree_cmp, Spells.Spells, Tree.{Tree, TreePairs, Trees}}
-use Rattle.ciborium.specs.View.{pair_trees, tree_of}
+use Rattle.ciborium.specs.{ValueLists.pair_trees, View.tree_of}
 use Rattle.ciborium_value.specs.declared.{byte_buf.ByteBuf.ByteBuf, tree.Value.Value}
 use Rattle.ciborium_uses.specs.declared.envelopes.{Envelope.Envelope, claims.Claims.Claims}
 use Rattle.ciborium_uses.specs.declared.envelopes.error.{EnvelopeError.EnvelopeError, Part.Part}

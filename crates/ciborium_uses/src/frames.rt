@@ -8,7 +8,7 @@ ghost use Rattle.ciborium.specs.Places.{items_from};
 ghost use Rattle.ciborium.specs.SequenceReads.{TakesSequence};
 ghost use Rattle.ciborium.specs.SequenceWrites.{AreNamedWritten, WritesInTurn};
 ghost use Rattle.ciborium.specs.Sinks.{all_named};
-ghost use Rattle.ciborium.specs.View.{read_as};
+ghost use Rattle.ciborium.specs.View.{result_map};
 ghost use Rattle.ciborium.specs.TypedAnswers.{TakesGiven};
 ghost use Rattle.ciborium.specs.Writes.{WritesNamed};
 ghost use Rattle.ciborium_uses.specs.Logs.{IsEndOfLog};
@@ -50,7 +50,7 @@ pub fn read_reading<R: BufRead>(
     ensures ok { Otherwise result (λ r. TakesGiven (Some 256)
         ⟦<Reading as Deserialize>⟧.reading.taken (R.remaining reader.old)
         (R.remaining reader.new)
-        (read_as ⟦<Reading as Deserialize>⟧.reading.content r)) }
+        (result_map ⟦<Reading as Deserialize>⟧.reading.content r)) }
 {
     from_buf_reader_next(alloc, reader)
 }
@@ -90,7 +90,7 @@ pub fn read_log<R: BufRead>(
 ) -> Result<Vec<Reading>, de::Error<io::Error>>
     ensures { TakesSequence (Some 256) ⟦<Reading as Deserialize>⟧.reading.taken
         (R.remaining reader.old) (R.remaining reader.new)
-        (read_as (λ readings. map ⟦<Reading as Deserialize>⟧.reading.content readings.items)
+        (result_map (λ readings. map ⟦<Reading as Deserialize>⟧.reading.content readings.items)
         result) }
 {
     read_buf_sequence(alloc, reader)

@@ -1,4 +1,5 @@
--- How many values a tree holds, and how many bytes of strings: what reading it may take of memory.
+-- How many values a tree holds, and how many bytes of strings: what reading it may take of memory;
+-- how many trees a list has.
 use Rattle.std.specs.Prelude.{ℕ, suc, ◌+◌, length}
 use Rattle.ciborium_value.specs.Tree.{Tree, integer, bytes, text, boolean, null, tag, array, map}
 use Rattle.ciborium_value.specs.Tree.{Trees, no_trees, tree, TreePairs, no_tree_pairs, tree_pair}
@@ -46,3 +47,13 @@ abbrev mutual
   pub tree_pairs_payload_size : TreePairs → ℕ
   tree_pairs_payload_size no_tree_pairs = 0
   tree_pairs_payload_size (tree_pair k v ps) = payload_size k + payload_size v + tree_pairs_payload_size ps
+
+-- how many trees
+abbrev pub trees_count : Trees → ℕ
+trees_count no_trees = 0
+trees_count (tree v vs) = suc (trees_count vs)
+
+-- how many pairs
+abbrev pub tree_pairs_count : TreePairs → ℕ
+tree_pairs_count no_tree_pairs = 0
+tree_pairs_count (tree_pair k v ps) = suc (tree_pairs_count ps)

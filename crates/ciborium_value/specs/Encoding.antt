@@ -50,9 +50,9 @@ enclosed false major count r = shortest_head major count ++ r
 enclosed true major count r = open_byte major ∷ (r ++ (break_byte ∷ []))
 
 -- a string; an open one as a single part
-abbrev pub string_bytes : Bool → ℕ → List ℕ → List ℕ
-string_bytes false major b = shortest_head major (length b) ++ b
-string_bytes true major b = open_byte major ∷ ((shortest_head major (length b) ++ b) ++ (break_byte ∷ []))
+abbrev pub written_string : Bool → ℕ → List ℕ → List ℕ
+written_string false major b = shortest_head major (length b) ++ b
+written_string true major b = open_byte major ∷ ((shortest_head major (length b) ++ b) ++ (break_byte ∷ []))
 
 -- a float by its raw bytes
 abbrev pub float_bytes : List ℕ → List ℕ
@@ -63,8 +63,8 @@ abbrev mutual
   pub written_bytes : Item → List ℕ
   written_bytes (unsigned n) = shortest_head 0 n
   written_bytes (negative n) = shortest_head 1 n
-  written_bytes (bytes open_ b) = string_bytes open_ 2 b
-  written_bytes (text open_ b) = string_bytes open_ 3 b
+  written_bytes (bytes open_ b) = written_string open_ 2 b
+  written_bytes (text open_ b) = written_string open_ 3 b
   written_bytes (array open_ is) = enclosed open_ 4 (items_count is) (items_bytes is)
   written_bytes (map open_ ps) = enclosed open_ 5 (pairs_count ps) (pairs_bytes ps)
   written_bytes (tag t i) = shortest_head 6 t ++ written_bytes i

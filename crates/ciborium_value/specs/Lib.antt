@@ -12,6 +12,7 @@ pub mod Counts
 pub mod Order
 pub mod Derived
 pub mod View
+pub mod ValueLists
 pub mod Variants
 pub mod TreeVariants
 pub mod Rows

@@ -2,9 +2,9 @@
 -- and the tree with another value where one is found.
 use Rattle.std.specs.{Option.option_or, Prelude.{ℕ, zero, suc, ◌^◌, ℤ, pos, negsuc, Option, Some, None, ◌&&◌}}
 use Rattle.std.specs.Prelude.{if◌then◌else◌, is_none, nat_lt}
-use Rattle.ciborium_value.specs.{Labels.{Label, named, numbered, other, is_label}, Tree.{Tree, Trees, TreePairs}}
-use Rattle.ciborium_value.specs.Tree.{trees_count, tree_pairs_count, integer, text, array, map, no_trees, tree}
-use Rattle.ciborium_value.specs.Tree.{no_tree_pairs, tree_pair}
+use Rattle.ciborium_value.specs.{Counts.{trees_count, tree_pairs_count}, Labels.{Label, named, numbered, other}}
+use Rattle.ciborium_value.specs.{Labels.is_label, Tree.{Tree, Trees, TreePairs, integer, text, array, map, no_trees}}
+use Rattle.ciborium_value.specs.Tree.{tree, no_tree_pairs, tree_pair}
 
 -- the label that a key is
 abbrev pub tree_label : Tree → Label

@@ -1,5 +1,5 @@
--- How deep an item nests, and the levels that a reader allows. RFC 8949, section 10, asks for such
--- a limit; how levels count is ciborium's rule.
+-- How deep an item nests, and the levels that a reader allows. RFC 8949, section 10, asks to guard
+-- against deep nesting; the limit, and how levels count, are ciborium's rule.
 use Rattle.std.specs.Prelude.{◌≡◌, ℕ, suc, ◌≤◌, max, List, Option, Some, None}
 use Rattle.ciborium_ll.specs.Item.{Item, unsigned, negative, bytes, text, array, map, tag, simple}
 use Rattle.ciborium_ll.specs.Item.{float, Items, no_items, item, Pairs, no_pairs, pair}
@@ -14,7 +14,7 @@ abbrev pub IsWithin : Limit → ℕ → Type 0
 IsWithin None n = Unit {0}
 IsWithin (Some l) n = n ≤ l
 
--- inside a container or tag one level less is left
+-- inside a container, or a tag that does not fold, one level less is left
 abbrev pub IsOneLess : Limit → Limit → Type 0
 IsOneLess None None = Unit {0}
 IsOneLess None (Some m) = ⊥

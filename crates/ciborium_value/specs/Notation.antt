@@ -3,8 +3,8 @@
 use Rattle.std.specs.Prelude.{◌≡◌, All, ℕ, suc, ◌==◌, ◌||◌, Bool, true, false, List, [], ◌∷◌, ◌++◌, Option, Some, None}
 use Rattle.std.specs.{Prelude.{if◌then◌else◌, nat_lt, codes, decimal}, Fmt.signed_decimal, List.{flat_map, repeat}}
 use Rattle.hex.specs.Hex.{encode_lower}
-use Rattle.ciborium_value.specs.Tree.{Tree, integer, bytes, text, boolean, null, tag, array, map, Trees, no_trees, tree}
-use Rattle.ciborium_value.specs.Tree.{TreePairs, no_tree_pairs, tree_pair, trees_count, tree_pairs_count}
+use Rattle.ciborium_value.specs.{Counts.{trees_count, tree_pairs_count}, Tree.{Tree, integer, bytes, text, boolean}}
+use Rattle.ciborium_value.specs.Tree.{null, tag, array, map, Trees, no_trees, tree, TreePairs, no_tree_pairs, tree_pair}
 
 -- ---- texts, as JSON writes them (RFC 8949, section 8; RFC 8259, section 7)
 

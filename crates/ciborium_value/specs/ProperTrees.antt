@@ -3,8 +3,8 @@
 use Rattle.std.specs.Prelude.{◌≤◌}
 use Rattle.ciborium_ll.specs.{Bytes.greatest_offset, Integer.IsInRange, ProperItems.{IsArgument, IsProperBytes}}
 use Rattle.ciborium_ll.specs.ProperItems.{IsProperText}
-use Rattle.ciborium_value.specs.Tree.{Tree, integer, bytes, text, boolean, null, tag, array, map, Trees, no_trees, tree}
-use Rattle.ciborium_value.specs.Tree.{trees_count, TreePairs, no_tree_pairs, tree_pair, tree_pairs_count}
+use Rattle.ciborium_value.specs.{Counts.{trees_count, tree_pairs_count}, Tree.{Tree, integer, bytes, text, boolean}}
+use Rattle.ciborium_value.specs.Tree.{null, tag, array, map, Trees, no_trees, tree, TreePairs, no_tree_pairs, tree_pair}
 
 abbrev mutual
   -- a tree that a program can hold

@@ -82,7 +82,8 @@ keys_among (values n) vs = keys_behind vs
 
 -- inside an array or map that begins at b, offset p, good parts with these values stand behind its
 -- head; r follows them at offset q, where this is due and this limit is left. The head has `size`
--- bytes, the parts are `good`, and `start` was due first
+-- bytes, the parts are `good`, and `start` was due first: of `82 01 f9` at offset 0 size is 1, good
+-- `01`, start `items 2`; vs is one tree, r is `f9`, q is 2, and `items 1` is due now
 pub record IsInside (spelling : Spelling) (b : List ℕ) (p : ℕ) (l : Limit) (vs : List Tree)
     (r : List ℕ) (q : ℕ) (now : Due) (below : Limit) : Type 0 where
   pub size : ℕ
@@ -121,10 +122,10 @@ pub data Refuses (spelling : Spelling) : List ℕ → ℕ → Limit → Refusal 
   bad_head : {b : List ℕ} {p : ℕ} {l : Limit} (kind : Kind) → IsUsable b p →
       spelling_fault spelling b ≡ Some kind → Refuses spelling b p l (semantic p kind)
   -- a string, definite or open (sections 3.1 and 3.2.3)
-  string : {b : List ℕ} {p : ℕ} {l : Limit} {e : Refusal} (kind : StringType) →
-      HasGoodHead spelling b p → StringRefuses kind b p e → Refuses spelling b p l e
-  open_string : {b : List ℕ} {p : ℕ} {l : Limit} {e : Refusal} (kind : StringType) →
-      HasGoodHead spelling b p → OpenStringRefuses kind b p e → Refuses spelling b p l e
+  string : {b : List ℕ} {p : ℕ} {l : Limit} {e : Refusal} (type : StringType) →
+      HasGoodHead spelling b p → StringRefuses type b p e → Refuses spelling b p l e
+  open_string : {b : List ℕ} {p : ℕ} {l : Limit} {e : Refusal} (type : StringType) →
+      HasGoodHead spelling b p → OpenStringRefuses type b p e → Refuses spelling b p l e
   -- what has no meaning by itself: a float, an unassigned simple value (section 3.3), a break
   float : {x p : ℕ} {b : List ℕ} {l : Limit} → IsUsable (x ∷ b) p → 0xf9 ≤ x → x ≤ 0xfb →
       Refuses spelling (x ∷ b) p l (semantic p Float)
@@ -146,8 +147,8 @@ pub data Refuses (spelling : Spelling) : List ℕ → ℕ → Limit → Refusal 
   -- a tag: the next head refuses, before anything else is judged
   tag_no_head : {b : List ℕ} {p : ℕ} {l : Limit} {e : Refusal} (t k : ℕ) (r : List ℕ) →
       HasGoodHead spelling b p → HasHead b 6 t k r → HeadRefuses r (p + k) e → Refuses spelling b p l e
-  -- a tag that folds (section 3.4.3): its string refuses, its number is too large for an `i128`
-  -- (ciborium's rule), or is not accepted
+  -- a tag that folds (section 3.4.3): its string refuses, tag 3's number is below the least `i128`
+  -- (ciborium's rule), or the bytes are not accepted
   folding : {b : List ℕ} {p : ℕ} {l : Limit} {e : Refusal} (t : ℕ) (r : List ℕ) (q : ℕ) →
       IsTagAt spelling b p t r q → IsFoldingAt t r → Refuses spelling r q l e → Refuses spelling b p l e
   too_large : {b : List ℕ} {p : ℕ} {l : Limit} (r s rest payload : List ℕ) (q : ℕ) →

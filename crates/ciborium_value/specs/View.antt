@@ -1,5 +1,5 @@
 -- The tree of a `Value`: its content, without the capacities of lists and texts.
-use Rattle.std.specs.Prelude.{List, [], ◌∷◌, map, string_bytes, box_value, Result, Ok, Err}
+use Rattle.std.specs.Prelude.{List, [], ◌∷◌, string_bytes, box_value, Result, Ok, Err}
 use Rattle.ciborium_value.specs.{Tree.{Tree, Trees, TreePairs}, declared.tree.Value.{Value, fold-Value}}
 use Rattle.ciborium_value.specs.declared.tree.Value.TheOpen.{Value-F}
 use Rattle.ciborium_value.specs.Tree as trees
@@ -30,19 +30,7 @@ level_tree (Value-F.Map ps) = trees.map (tree_pairs_from ps.items)
 abbrev pub tree_of : Value → Tree
 tree_of = fold-Value Tree level_tree
 
--- the trees of a list of values
-abbrev pub trees_of : List Value → Trees
-trees_of vs = trees_from (map tree_of vs)
-
--- the trees of a key and its value
-abbrev pub pair_trees : Value × Value → Tree × Tree
-pair_trees p = (tree_of p.0, tree_of p.1)
-
--- the trees of a list of pairs
-abbrev pub tree_pairs_of : List (Value × Value) → TreePairs
-tree_pairs_of ps = tree_pairs_from (map pair_trees ps)
-
--- an answer by what counts of it
-abbrev pub read_as : {A B E : Type 0} → (A → B) → Result A E → Result B E
-read_as f (Ok v) = Ok (f v)
-read_as f (Err e) = Err e
+-- f of an answer, and of no error
+abbrev pub result_map : {A B E : Type 0} → (A → B) → Result A E → Result B E
+result_map f (Ok v) = Ok (f v)
+result_map f (Err e) = Err e

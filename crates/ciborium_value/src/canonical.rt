@@ -22,7 +22,8 @@ ghost use Rattle.ciborium_value.specs.ProperTrees.{AreProperTreePairs, AreProper
 ghost use Rattle.ciborium_value.specs.ProperTrees.{IsProperTree};
 ghost use Rattle.ciborium_value.specs.inner.SideBySide.{Decides, payload_order};
 ghost use Rattle.ciborium_value.specs.Tree.{integer};
-ghost use Rattle.ciborium_value.specs.View.{tree_of, tree_pairs_of, trees_of};
+ghost use Rattle.ciborium_value.specs.ValueLists.{tree_pairs_of, trees_of};
+ghost use Rattle.ciborium_value.specs.View.{tree_of};
 ghost use Rattle.ciborium_value.specs.Visits.{AddsAtMost, AddsVisits, both_node_count, saturated};
 
 use crate::key_order::KeyOrder;

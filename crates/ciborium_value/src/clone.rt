@@ -1,7 +1,8 @@
 //! Copies of values.
 
 ghost use Rattle.std.specs.Prelude.{◌≡◌, IfOk};
-ghost use Rattle.ciborium_value.specs.View.{tree_of, tree_pairs_of, trees_of};
+ghost use Rattle.ciborium_value.specs.ValueLists.{tree_pairs_of, trees_of};
+ghost use Rattle.ciborium_value.specs.View.{tree_of};
 
 use crate::tree::Value;
 use std::alloc::{AllocError, Global};

@@ -3,7 +3,7 @@
 ghost use Rattle.std.specs.Prelude.{◌≡◌, IfErr, IfSome};
 ghost use Rattle.ciborium_value.specs.Readings.{Reading};
 ghost use Rattle.ciborium_value.specs.Sources.{IsGrantedFault, TakesOneItem};
-ghost use Rattle.ciborium_value.specs.View.{read_as};
+ghost use Rattle.ciborium_value.specs.View.{result_map};
 
 use crate::source::Source;
 use std::alloc::Global;
@@ -33,7 +33,7 @@ pub trait Deserialize: Sized + Drop {
         ensures memory { IfErr result
             (λ e. IsGrantedFault (S.cause source.new e) reading.needs_memory) }
         ensures whole { IfSome reading.whole (λ tree. S.reads source.old source.new
-            (read_as (λ v. tree (reading.content v)) result)) };
+            (result_map (λ v. tree (reading.content v)) result)) };
 }
 
 /// A type whose values can be the keys of a map that is read: they compare as their contents do.

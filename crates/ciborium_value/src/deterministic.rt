@@ -11,7 +11,8 @@ ghost use Rattle.ciborium_value.specs.Meaning.{bignum_meaning, is_bignum_tag, wi
 ghost use Rattle.ciborium_value.specs.SameContents.{AreAlike, IsAlike, PairsAreAlike};
 ghost use Rattle.ciborium_value.specs.Given.{gives, refuses};
 ghost use Rattle.ciborium_value.specs.Tree as trees;
-ghost use Rattle.ciborium_value.specs.View.{tree_of, tree_pairs_of, trees_of};
+ghost use Rattle.ciborium_value.specs.ValueLists.{tree_pairs_of, trees_of};
+ghost use Rattle.ciborium_value.specs.View.{tree_of};
 ghost use Rattle.ciborium_ll.specs.declared.kind.Kind.TheVariants.{DuplicateKey, TooLarge};
 
 use crate::bignum::{find_folding, fold_number, without_leading_zeros};

@@ -8,7 +8,9 @@ ghost use Rattle.ciborium_value.specs.Notation.{IsPlain, comma, escape, line_bre
 ghost use Rattle.ciborium_value.specs.Notation.{one_level_more};
 ghost use Rattle.ciborium_value.specs.Notation.{last_break, notation, notation_on, notations_on};
 ghost use Rattle.ciborium_value.specs.Notation.{pair_notations_on, quoted, styled_notation};
-ghost use Rattle.ciborium_value.specs.View.{tree_of, tree_pairs_of, trees_of};
+ghost use Rattle.ciborium_value.specs.Tree as trees;
+ghost use Rattle.ciborium_value.specs.ValueLists.{tree_pairs_of, trees_of};
+ghost use Rattle.ciborium_value.specs.View.{tree_of};
 
 use crate::tree::Value;
 use std::fmt::{InlineText, Write};
@@ -55,24 +57,56 @@ fn write_value<W: fmt::Write>(
         Value::Bool(true) => f.write_str("true"),
         Value::Bool(false) => f.write_str("false"),
         Value::Null => f.write_str("null"),
-        Value::Tag(tag, content) => {
-            write_tag(*tag, f)?;
-            write_value(content, lines, f)?;
-            f.write_str(")")
-        }
-        Value::Array(items) => {
-            f.write_str("[")?;
-            write_items(items, one_level_more(lines)?, f)?;
-            write_last_break(items.len(), lines, f)?;
-            f.write_str("]")
-        }
-        Value::Map(pairs) => {
-            f.write_str("{")?;
-            write_pairs(pairs, one_level_more(lines)?, f)?;
-            write_last_break(pairs.len(), lines, f)?;
-            f.write_str("}")
-        }
+        Value::Tag(tag, content) => write_tagged(*tag, content, lines, f),
+        Value::Array(items) => write_array(items, lines, f),
+        Value::Map(pairs) => write_map(pairs, lines, f),
     }
+}
+
+// A tag's number before its content.
+#[cycle(write_value)]
+fn write_tagged<W: fmt::Write>(
+    tag: u64,
+    content: &Value,
+    lines: Option<usize>,
+    f: &mut fmt::Formatter<W>,
+) -> fmt::Result
+    ensures { WritesStyledOnOk W.write_str_gives f.old result
+        (notation_on lines (trees.tag tag (tree_of content.now))) f.new }
+{
+    write_tag(tag, f)?;
+    write_value(content, lines, f)?;
+    f.write_str(")")
+}
+
+// An array.
+#[cycle(write_value)]
+fn write_array<W: fmt::Write>(
+    items: &Vec<Value>,
+    lines: Option<usize>,
+    f: &mut fmt::Formatter<W>,
+) -> fmt::Result
+    ensures { WritesStyledOnOk W.write_str_gives f.old result
+        (notation_on lines (trees.array (trees_of items.now.items))) f.new }
+{
+    f.write_str("[")?;
+    write_items(items, one_level_more(lines)?, f)?;
+    write_end(items.len(), lines, "]", f)
+}
+
+// A map.
+#[cycle(write_value)]
+fn write_map<W: fmt::Write>(
+    pairs: &Vec<(Value, Value)>,
+    lines: Option<usize>,
+    f: &mut fmt::Formatter<W>,
+) -> fmt::Result
+    ensures { WritesStyledOnOk W.write_str_gives f.old result
+        (notation_on lines (trees.map (tree_pairs_of pairs.now.items))) f.new }
+{
+    f.write_str("{")?;
+    write_pairs(pairs, one_level_more(lines)?, f)?;
+    write_end(pairs.len(), lines, "}", f)
 }
 
 // Each of the items, with commas between them.
@@ -155,19 +189,21 @@ fn write_line_break<W: fmt::Write>(lines: Option<usize>, f: &mut fmt::Formatter<
     }
 }
 
-// The line break before a closing bracket, where there are parts.
-fn write_last_break<W: fmt::Write>(
+// A closing bracket, behind a line break where there are parts.
+fn write_end<W: fmt::Write>(
     count: usize,
     lines: Option<usize>,
+    bracket: &str,
     f: &mut fmt::Formatter<W>,
 ) -> fmt::Result
-    ensures { WritesStyledOnOk W.write_str_gives f.old result (last_break lines count) f.new }
+    ensures { WritesStyledOnOk W.write_str_gives f.old result
+        (last_break lines count ++ bracket.now) f.new }
 {
     if count == 0 {
-        Ok(())
-    } else {
-        write_line_break(lines, f)
+        return f.write_str(bracket);
     }
+    write_line_break(lines, f)?;
+    f.write_str(bracket)
 }
 
 // ---- numbers

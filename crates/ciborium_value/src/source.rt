@@ -10,7 +10,7 @@ ghost use Rattle.ciborium_value.specs.Sources.{GoesOn, Holds, IsGrantedFault, Le
 ghost use Rattle.ciborium_value.specs.Sources.{OwesNothing, RefusesAhead, RefusesNext};
 ghost use Rattle.ciborium_value.specs.Sources.{RefusesToTell, TakesNothing, TakesOneItem};
 ghost use Rattle.ciborium_value.specs.Sources.{TakesOnly, TakesTo, Tells, of_kind, of_memory};
-ghost use Rattle.ciborium_value.specs.View.{read_as, tree_of};
+ghost use Rattle.ciborium_value.specs.View.{result_map, tree_of};
 ghost use Rattle.ciborium_value.specs.Given.{given_boolean, given_bytes, given_character};
 ghost use Rattle.ciborium_value.specs.Given.{given_integer, given_name, given_outer_tag};
 ghost use Rattle.ciborium_value.specs.Labels.{label_place};
@@ -225,7 +225,7 @@ pub trait Source {
     fn value(&mut self, alloc: Global) -> Result<Value, Self::Error>
         ensures takes { TakesOneItem stands_before is_unread has_taken left cause self.old self.new
             given_value tree_of result }
-        ensures reads { reads self.old self.new (read_as tree_of result) };
+        ensures reads { reads self.old self.new (result_map tree_of result) };
 
     /// Passes over the item ahead, of any kind, also one that no `Value` holds, as a float. Nothing
     /// is made of it: memory is taken only for the levels around a place in it. It takes the levels

@@ -7,7 +7,8 @@ ghost use Rattle.ciborium_value.specs.inner.Frames.{tree_ended, waiting_keys};
 ghost use Rattle.ciborium_value.specs.inner.Stack.{begun_frame, filled_of, frame_of, frames_of};
 ghost use Rattle.ciborium_value.specs.inner.Stack.{map_frame};
 ghost use Rattle.ciborium_value.specs.inner.Stack.{placed_of};
-ghost use Rattle.ciborium_value.specs.View.{pair_trees, tree_of};
+ghost use Rattle.ciborium_value.specs.ValueLists.{pair_trees};
+ghost use Rattle.ciborium_value.specs.View.{tree_of};
 
 use crate::tree::Value;
 use std::alloc::{AllocError, Global};

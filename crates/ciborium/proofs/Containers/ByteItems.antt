@@ -1,18 +1,22 @@
 -- Bytes that are read as the numbers of a sequence.
-use Rattle.std.proofs.Common.{◌≡◌, ◌≢◌, ℕ, ◌<◌, ◌≤◌, Bool, false, List, [], ◌∷◌, ◌++◌, Option, Some, None, Result}
-use Rattle.std.proofs.Common.{arith, Ok, Err, refl, sym, ap, ◌∙◌, subst, append_assoc, append-nil}
+use Rattle.std.proofs.Common.{◌≡◌, ◌≢◌, ℕ, ◌+◌, ◌<◌, ◌≤◌, Bool, false, List, []}
+use Rattle.std.proofs.Common.{◌∷◌, ◌++◌, IfErr, IfOk, Option, Some, None, Result}
+use Rattle.std.proofs.Common.{OnErr, OnOk, le_of_lt, lt_of_le_of_lt, arith, le_trans, Ok, Err}
+use Rattle.std.proofs.Common.{refl, sym, ap, ◌∙◌, subst, append_assoc, append-nil}
 use Rattle.ciborium_ll.{proofs.UniqueSpelling.one_at_front, specs.{Header.SpellsHeader, Item.Item, Spells.Spells}}
 use Rattle.ciborium_ll.specs.declared.{header.Header.Header, kind.Kind.Kind, strings.StringType.StringType}
 use Rattle.ciborium.proofs.Containers.{EnteredContainers.within-is, NextParts.{fits-past, none-past}}
 use Rattle.ciborium.proofs.Items.BareHeads.{head-denied, nested-denied, other-denied, string-denied, string-read}
 use Rattle.ciborium.proofs.Items.{ItemHeads.{HasItems, by-shape, header_of, no-bare-tag}, SkippedTags.reads-whole}
 use Rattle.ciborium.proofs.Items.{SkippedTags.untagged-under, TakenOnly.{IsKept, kept-reader, rest-end}}
-use Rattle.ciborium.{proofs.Items.Weights.{entered-fewer, taken-fewer}, specs.declared.de.byte_source.ByteSeq.ByteSeq}
+use Rattle.ciborium.proofs.Items.TakenOnly.{is-kept, keeps-none, keeps-then}
+use Rattle.ciborium.{proofs.Items.Weights.kept-fewer, specs.declared.de.byte_source.ByteSeq.ByteSeq}
 use Rattle.ciborium.specs.declared.de.{byte_source.ByteSource.ByteSource, error.Error.Error}
 use Rattle.ciborium.specs.{declared.de.error.Error.TheVariants.RecursionLimitExceeded, inner.ByteSources.fault_at}
-use Rattle.ciborium.specs.inner.ByteSources.{AnswersItem, PassesItem, IsUnread, StandsBefore, SeqStands, SeqOwes}
+use Rattle.ciborium.specs.inner.ByteSources.{AnswersItem, KeepsSource, PassesItem, IsUnread}
+use Rattle.ciborium.specs.inner.ByteSources.{StandsBefore, SeqStands, SeqOwes, seq_left}
 use Rattle.ciborium.specs.inner.ByteSources.{ReadsRest, RefusesRest, HasTaken, HasTakenSince}
-use Rattle.ciborium.specs.inner.ByteSources.{ReadsBareHead, bytes_weight, end_at, reader_of, weight_left}
+use Rattle.ciborium.specs.inner.ByteSources.{ReadsBareHead, end_at, reader_of, weight_left}
 use Rattle.ciborium.specs.inner.{FrontItems.{Reads, Denies, DeniesItem}, Skips.{under, AreSkipped, IsBare, TakesBare}}
 use Rattle.ciborium.specs.inner.{StringContents.{DeniesContent, TakesContent, head_of, string_item}, Unread.IsRest}
 use Rattle.ciborium.specs.inner.Unread.{FitsAhead}
@@ -281,7 +285,7 @@ module _ {S W A : Type 0} {can_fail : Bool} {remaining : S → Option (List ℕ)
         RefusesAhead (StandsBefore remaining) old taken (fault_at can_fail remaining new e)
     nested-refuses new {e} k is none err nested = refuses-denied remaining old taken (fault_at can_fail remaining new e)
         (nested-denied remaining old taken mid h head can_fail new k is e err
-        (λ ts i all same. ap (λ n. outcome (Some n) (taken (under ts i))) (sym reads.levels ∙ none) ∙
+        (λ ts i all same. ap (λ n. outcome (Some n) (taken (under ts i))) (sym reads.kept.levels ∙ none) ∙
         nested ts i all same))
 
     -- the payload of the string that it begins was refused
@@ -289,7 +293,7 @@ module _ {S W A : Type 0} {can_fail : Bool} {remaining : S → Option (List ℕ)
         DeniesContent (IsUnread remaining mid) (end_at remaining mid) kind len fault →
         RefusesAhead (StandsBefore remaining) old taken fault
     string-refuses fault kind len is denied = refuses-denied remaining old taken fault
-        (string-denied remaining old taken mid h head kind len is reads.only fault denied)
+        (string-denied remaining old taken mid h head kind len is reads.kept.only fault denied)
 
 -- ---- what is answered to a call for one item
 
@@ -335,8 +339,34 @@ module _ {S W T A : Type 0} (can_fail : Bool) (remaining : S → Option (List �
   pub takes-one : (r : Result T (Error (Unit {0}))) → PassesItem remaining old new r →
       AnswersItem can_fail remaining old new (Some old.levels) taken content r →
       TakesOne can_fail remaining old new taken content r
-  takes-one (Ok v) keeps h = takes-given (keeps.same_reader, keeps.only) keeps.levels keeps.pending keeps.fewer h
-  takes-one (Err e) keeps h = takes-denied keeps.only keeps.no_more h
+  takes-one (Ok v) keeps h = takes-given (is-kept keeps.kept) keeps.kept.levels keeps.kept.pending keeps.fewer h
+  takes-one (Err e) keeps h = takes-denied keeps.kept.only keeps.kept.no_more h
+
+-- the numbers of an array that was entered were read, or refused
+pub array-one : {S W V : Type 0} (can_fail : Bool) (remaining : S → Option (List ℕ)) {old mid : ByteSource S W}
+    {q : ByteSeq} → HasEnteredItems remaining old mid given_bytes (λ span is. take_each given_byte is) q →
+    (new : ByteSource S W) (content : V → List ℕ) (r : Result V (Error (Unit {0}))) →
+    TakesOnly (HasTakenSince remaining) mid new → OnErr r (weight_left new ≤ weight_left mid + seq_left q) →
+    IfOk r (λ v. ReadsRest remaining mid new q (take_each given_byte) (content v)) →
+    IfErr r (λ e. RefusesRest remaining mid q (take_each given_byte) (fault_at can_fail remaining new e)) →
+    OnOk r (TakesTo (IsUnread remaining) mid new (λ c z. (b : List ℕ) → SeqOwes q sequence b c → HasItem b z)) →
+    OnOk r (weight_left new ≤ weight_left mid + seq_left q) → TakesOne can_fail remaining old new given_bytes content r
+array-one can_fail remaining begun new content (Ok v) only no_more ok refused took fewer = record {
+  ok = array-takes begun new ok;
+  refused = tt;
+  took = array-took begun new took;
+  only = λ first t. only first (begun.kept.1 first.decoder t);
+  less = lt_of_le_of_lt fewer begun.fewer;
+  no_more = tt;
+}
+array-one can_fail remaining begun new content (Err e) only no_more ok refused took fewer = record {
+  ok = tt;
+  refused = array-refuses begun new (fault_at can_fail remaining new e) refused;
+  took = tt;
+  only = λ first t. only first (begun.kept.1 first.decoder t);
+  less = tt;
+  no_more = le_trans no_more (le_of_lt begun.fewer);
+}
 
 module _ {S W T A : Type 0} {can_fail : Bool} {remaining : S → Option (List ℕ)} {old new : ByteSource S W}
     {taken : Given A} {content : T → A} where
@@ -344,7 +374,7 @@ module _ {S W T A : Type 0} {can_fail : Bool} {remaining : S → Option (List �
   pub head-refused : {e : Error (Unit {0})} → ReadsBareHead can_fail remaining old new false (Err e) →
       DeniesItem (IsUnread remaining) (end_at remaining) old (fault_at can_fail remaining new e) → TakesOne can_fail
       remaining old new taken content (Err e)
-  head-refused reads denied = takes-refused can_fail remaining reads.only reads.no_more
+  head-refused reads denied = takes-refused can_fail remaining reads.kept.only reads.kept.no_more
       (head-refuses taken reads denied)
 
   -- a head was taken, and what stands behind it was refused or read
@@ -354,25 +384,39 @@ module _ {S W T A : Type 0} {can_fail : Bool} {remaining : S → Option (List �
         weight_left new ≤ weight_left mid →
         RefusesAhead (StandsBefore remaining) old taken (fault_at can_fail remaining new e) → TakesOne can_fail
         remaining old new taken content (Err e)
-    behind-refused only no_more = takes-refused can_fail remaining (λ first t. only first (reads.only first t))
-        (let fewer = entered-fewer old mid mid h refl reads.pending reads.fewer in omega (arith, no_more, fewer))
+    behind-refused only no_more = takes-refused can_fail remaining (λ first t. only first (reads.kept.only first t))
+        (le_trans no_more reads.kept.no_more)
 
-    pub behind-given : {v : T} → IsKept remaining mid new → new.levels ≡ mid.levels → new.pending ≡ None →
-        bytes_weight new ≤ bytes_weight mid → Reads (IsUnread remaining) old new (Some old.levels) taken (content v) →
+    pub behind-given : {v : T} → KeepsSource remaining mid new →
+        Reads (IsUnread remaining) old new (Some old.levels) taken (content v) →
         TakesOne can_fail remaining old new taken content (Ok v)
-    behind-given kept levels none fewer =
-        takes-given can_fail remaining (kept.0 ∙ reads.same_reader, λ first t. kept.1 first (reads.only first t))
-        (levels ∙ reads.levels) none (taken-fewer old mid new h fewer none reads.fewer)
+    behind-given kept = takes-given can_fail remaining (is-kept (keeps-then reads.kept kept))
+        (kept.levels ∙ reads.kept.levels) kept.pending (kept-fewer old mid new h reads.fewer reads.kept.pending kept)
 
     -- the payload of the string that it begins was read
     pub string-given : {v : T} → TakesBare (IsUnread remaining) old mid false h → (kind : StringType) (len : Option ℕ) →
-        h ≡ head_of kind len → IsKept remaining mid new → new.levels ≡ mid.levels → new.pending ≡ None →
-        bytes_weight new ≤ bytes_weight mid → (payload : List ℕ) → TakesContent (IsUnread remaining mid)
-        (IsUnread remaining new) kind len payload → ((ts : List ℕ) → AreSkipped false ts →
+        h ≡ head_of kind len → KeepsSource remaining mid new → (payload : List ℕ) →
+        TakesContent (IsUnread remaining mid) (IsUnread remaining new) kind len payload → ((ts : List ℕ) → AreSkipped
+        false ts →
         outcome (Some old.levels) (taken (under ts (string_item kind len payload))) ≡ gives (content v)) →
         TakesOne can_fail remaining old new taken content (Ok v)
-    string-given {v} head kind len is kept levels none fewer payload took give = behind-given kept levels none fewer
+    string-given {v} head kind len is kept payload took give = behind-given kept
         (string-read remaining old taken mid h head kind len is new payload (content v) took give)
+
+    -- or refused
+    pub string-one : (r : Result T (Error (Unit {0}))) (payload : T → List ℕ) →
+        TakesBare (IsUnread remaining) old mid false h → (kind : StringType) (len : Option ℕ) → h ≡ head_of kind len →
+        KeepsSource remaining mid new →
+        IfOk r (λ v. TakesContent (IsUnread remaining mid) (IsUnread remaining new) kind len (payload v)) →
+        IfErr r (λ e. DeniesContent (IsUnread remaining mid) (end_at remaining mid) kind len
+        (fault_at can_fail remaining new e)) →
+        ((v : T) (ts : List ℕ) → AreSkipped false ts →
+        outcome (Some old.levels) (taken (under ts (string_item kind len (payload v)))) ≡ gives (content v)) →
+        TakesOne can_fail remaining old new taken content r
+    string-one (Ok v) payload head kind len is kept took denied give =
+        string-given head kind len is kept (payload v) took (give v)
+    string-one (Err e) payload head kind len is kept took denied give =
+        behind-refused kept.only kept.no_more (string-refuses taken reads head _ kind len is denied)
 
   -- just a head was taken
   module _ {h : Header} {offset : ℕ} (reads : ReadsBareHead can_fail remaining old new false (Ok (h, offset))) where
@@ -386,6 +430,6 @@ module _ {S W T A : Type 0} {can_fail : Bool} {remaining : S → Option (List �
         ((x : List ℕ) → SpellsHeader x k → Spells x i) →
         ((ts : List ℕ) → AreSkipped false ts → outcome (Some old.levels) (taken (under ts i)) ≡ gives (content v)) →
         TakesOne can_fail remaining old new taken content (Ok v)
-    whole-given {v} head k is i make give = behind-given reads (refl, λ first t. t) refl reads.pending (omega arith)
+    whole-given {v} head k is i make give = behind-given reads (keeps-none remaining new reads.kept.pending)
         (reads-whole (IsUnread remaining) false k (Some old.levels) taken old new (content v) i
         (subst (TakesBare (IsUnread remaining) old new false) is head) make give)

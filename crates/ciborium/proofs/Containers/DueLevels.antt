@@ -1,5 +1,5 @@
 -- Tags that are entered, and the levels of tags and variants.
-use Rattle.std.proofs.Common.{Bool, ◌≡◌, ◌≢◌, ℕ, List, ◌++◌, Option, Some, None, refl, sym, ap, ◌∙◌, subst}
+use Rattle.std.proofs.Common.{Bool, ◌≡◌, ◌≢◌, ◌+◌, ◌-◌, ℕ, List, ◌++◌, Option, Some, None, refl, sym, ap, ◌∙◌, subst}
 use Rattle.std.proofs.Common.{append_assoc, arith}
 use Rattle.ciborium_ll.specs.{declared.header.Header.Header, Header.SpellsHeader, Item.{Item, tag}}
 use Rattle.ciborium_value.specs.{Sources.{Completes, Holds, IsFaultOf, RefusesAhead, TakesTo}, Given.{Given, gives}}
@@ -12,6 +12,17 @@ use Rattle.ciborium.proofs.{Containers.EnteredContainers.{within-is, deeper-is},
 use Rattle.ciborium.proofs.{Items.ItemHeads.{header_of, tag-front, same-head, by-shape}, Items.TakenOnly.IsKept}
 use Rattle.ciborium.proofs.Items.TakenOnly.{kept-reader}
 use Rattle.ciborium_ll.specs.declared.header.Header.TheVariants as header
+
+-- ---- the level that was taken behind a head
+
+pub level-some : {old mid : ℕ} (taken : ℕ) → mid ≡ old → mid ≡ taken + 1 → old ≢ 0
+level-some taken same less none = absurd (omega (arith, same, less, none))
+
+pub level-inner : {old mid : ℕ} (taken : ℕ) → mid ≡ old → mid ≡ taken + 1 → taken ≡ old - 1
+level-inner taken same less = omega (arith, same, less)
+
+pub level-behind : {old mid new : ℕ} (taken : ℕ) → mid ≡ old → mid ≡ taken + 1 → new ≡ taken → old ≡ new + 1
+level-behind taken same less kept = omega (arith, same, less, kept)
 
 -- ---- where the source then stands
 

@@ -12,6 +12,7 @@ use Rattle.ciborium_value.specs.{Nesting.Limit, Places.{is_open, sequence, dicti
 use Rattle.ciborium.proofs.Items.ItemHeads.{HasItems, HasPairs, array-front, by-shape, header_of, map-front}
 use Rattle.ciborium.proofs.Items.ItemHeads.{no-bare-tag, packed, packed-pairs}
 use Rattle.ciborium.proofs.Items.{SkippedTags.untagged-under, TakenOnly.{IsKept, kept-alone, kept-reader}}
+use Rattle.ciborium.proofs.Items.TakenOnly.{is-kept, keeps-then}
 use Rattle.ciborium.{proofs.Items.Weights.entered-fewer, specs.declared.de.byte_source.ByteSeq.ByteSeq}
 use Rattle.ciborium.specs.{declared.de.byte_source.{ByteSource.ByteSource, Left.Left}, inner.ByteSources.IsUnread}
 use Rattle.ciborium.specs.inner.ByteSources.{IsUnreadBy, StandsBefore, HoldsItems, HoldsPairs, SeqOwes}
@@ -20,7 +21,7 @@ use Rattle.ciborium.specs.inner.ByteSources.{ReadsBareHead, bytes_left, parts_le
 use Rattle.ciborium.specs.inner.Skips.{under, AreSkipped, IsBare, TakesBare, EntersUnread}
 use Rattle.ciborium.specs.inner.{StringContents.TakesContent, Unread.{AreSpelled, AreLeft, SpellsPair, IsRest, ending}}
 use Rattle.ciborium.specs.inner.Unread.{span_of, HasCount}
-use Rattle.ciborium.specs.inner.ByteSources.{bytes_weight, pending_head_weight}
+use Rattle.ciborium.specs.inner.ByteSources.{KeepsSource, bytes_weight, pending_head_weight}
 use Rattle.ciborium_value.specs.Sources.{TakesTo}
 use Rattle.ciborium.proofs.Items.Weights.{weight-bounds}
 use Rattle.ciborium_ll.specs.declared.header.Header.TheVariants as header
@@ -155,23 +156,23 @@ module _ {S W X : Type 0} {SpellsPart : List ℕ → X → Type 0} {head_with : 
       outcome (Some m) (taken (under ts i)) ≡ outcome (deeper (Some m)) (f (span_of count) xs)) →
       HasEntered remaining Owed SpellsPart Held old new taken f q
   entered taken f same give =
-      let none = is.1 ∙ reads.pending in
+      let none = is.1 ∙ reads.kept.pending in
       let fewer = entered-fewer old mid new h is.0 none reads.fewer in
       let nothing : seq_left q ≡ 0 = ap bytes_left is.4 ∙ none-left count in
       record {
-        kept = kept-alone remaining old mid new is.0 (reads.same_reader, reads.only);
-        levels = back ∙ reads.levels;
+        kept = kept-alone remaining old mid new is.0 (is-kept reads.kept);
+        levels = back ∙ reads.kept.levels;
         none = none;
         fewer = omega (arith, fewer, nothing);
         opens = subst (λ n. EntersUnread (IsUnread remaining) Owed SpellsPart Held old new (Some old.levels) (Some n)
-            taken f q) (sym (is.3 ∙ ap (λ n. n - 1) reads.levels)) opens;
+            taken f q) (sym (is.3 ∙ ap (λ n. n - 1) reads.kept.levels)) opens;
       }
     where
       m : ℕ
       m = old.levels
 
       some : m ≢ 0
-      some z = is.2 (reads.levels ∙ z)
+      some z = is.2 (reads.kept.levels ∙ z)
 
       opens : EntersUnread (IsUnread remaining) Owed SpellsPart Held old new (Some m) (Some (m - 1)) taken f q
       opens b u =
@@ -227,18 +228,17 @@ bytes-had u v h = absurd h
 pub bytes-entered : {S W : Type 0} {can_fail : Bool} {remaining : S → Option (List ℕ)} {old mid : ByteSource S W}
     {h : Header} {offset : ℕ} (new : ByteSource S W) (len : Option ℕ) (q : ByteSeq) →
     ReadsBareHead can_fail remaining old mid false (Ok (h, offset)) → TakesBare (IsUnread remaining) old mid false h →
-    h ≡ header.Bytes len → IsKept remaining mid new → new.levels ≡ mid.levels → q.levels ≡ mid.levels →
-    new.pending ≡ None → bytes_weight new + seq_left q ≤ bytes_weight mid →
+    h ≡ header.Bytes len → KeepsSource remaining mid new → q.levels ≡ mid.levels → bytes_weight new + seq_left q ≤
+    bytes_weight mid →
     HasBytes q.left (TakesContent (IsUnread remaining mid) (IsUnread remaining new) StringType.Bytes len) →
     HasEnteredItems remaining old new given_seq (λ span is. give (takes_level span, is)) q
-bytes-entered {S} {W} {can_fail} {remaining} {old} {mid} {h} new len q reads head is-head kept levels back none fewer
-    had =
+bytes-entered {S} {W} {can_fail} {remaining} {old} {mid} {h} new len q reads head is-head kept back fewer had =
     let (some, two) = weight-bounds h in
-    let nothing : pending_head_weight new.pending ≡ 0 = ap pending_head_weight none in
+    let nothing : pending_head_weight new.pending ≡ 0 = ap pending_head_weight kept.pending in
     record {
-      kept = (kept.0 ∙ reads.same_reader, λ first t. kept.1 first (reads.only first t));
-      levels = back ∙ reads.levels;
-      none = none;
+      kept = is-kept (keeps-then reads.kept kept);
+      levels = back ∙ reads.kept.levels;
+      none = kept.pending;
       fewer = omega (arith, fewer, some, nothing, reads.fewer);
       opens = opens;
     }
@@ -265,7 +265,7 @@ bytes-entered {S} {W} {can_fail} {remaining} {old} {mid} {h} new len q reads hea
                 [],
                 ap (λ j. outcome (Some old.levels) (bare_seq j))
                     (ap untagged io ∙ untagged-under ts i ∙ ap untagged one.2),
-                ap Some (sym (levels ∙ reads.levels)),
+                ap Some (sym (kept.levels ∙ reads.kept.levels)),
                 refl,
                 sym one.1,
                 subst (λ k. HoldsItems k of_bytes (map unsigned payload)) (sym is) (refl, refl),

@@ -5,7 +5,7 @@ use Rattle.std.{proofs.Common.{inr, ◌⊎◌, length-append}, specs.Vec.Iter.in
 use Rattle.ciborium_ll.{proofs.{OneHeader.one_header_at_front, UniqueSpelling.one_at_front}, specs.Decoding.left_of}
 use Rattle.ciborium_ll.specs.{Head.{IsHead, break_byte, head_in, eight_bytes}, Header.{SpellsHeader, announced_length}}
 use Rattle.ciborium_ll.specs.{Item.{Item, unsigned}, Spells.Spells, declared.header.Header.Header}
-use Rattle.ciborium_value.specs.Ahead.{Span, Rest, bottom, parts, pairs, entry, level_due, item, past, inside, end_of}
+use Rattle.ciborium_value.specs.Ahead.{Span, Rest, bottom, parts, pairs, entry, item, past, inside, end_of}
 use Rattle.ciborium_value.specs.{Nesting.Limit, Places.{Shape, sequence, dictionary}, Sources.{Fault, HasItem, HasPart}}
 use Rattle.ciborium_value.specs.Sources.{GoesOn, Leaves, RefusesNext, OwesLess, OwesNothing}
 use Rattle.ciborium.proofs.Items.ItemHeads.{header_of, first-head, first-payload, same-head, no-break-head}

@@ -1,10 +1,11 @@
 -- What an exit says behind the next head that is not a tag.
-use Rattle.std.proofs.Common.{Bool, ◌≡◌, ℕ, List, Option, Some, false, ap, subst}
+use Rattle.std.proofs.Common.{Bool, Err, IfErr, IfOk, Ok, ◌≡◌, ℕ, List, Option, Result, Some, false, ap, subst}
 use Rattle.ciborium_ll.specs.{Item.Item, declared.{header.Header.Header, kind.Kind.Kind, strings.StringType.StringType}}
 use Rattle.ciborium_value.specs.{Sources.{Fault, TakesOnly, of_kind}, Given.{Given, gives, nests, outcome, refuses}}
 use Rattle.ciborium.specs.{declared.de.byte_source.ByteSource.ByteSource, declared.de.error.Error.Error}
 use Rattle.ciborium.specs.{declared.de.error.Error.TheVariants.RecursionLimitExceeded, inner.ByteSources.HasTaken}
-use Rattle.ciborium.specs.{inner.ByteSources.{IsUnread, end_at, fault_at}, inner.FrontItems.{Denies, DeniesItem, Reads}}
+use Rattle.ciborium.specs.{inner.ByteSources.{AnswersItem, IsUnread, end_at, fault_at}}
+use Rattle.ciborium.specs.{inner.FrontItems.{Denies, DeniesItem, Reads}}
 use Rattle.ciborium.specs.{inner.Skips.{AreSkipped, TakesBare, under}, inner.StringContents.DeniesContent}
 use Rattle.ciborium.specs.inner.StringContents.{TakesContent, head_of, string_item}
 use Rattle.ciborium.proofs.{Items.ItemHeads.header_of, Items.SkippedTags.{denies-bare, denies-nested, denies-of-item}}
@@ -49,3 +50,18 @@ module _ {S W A : Type 0} (remaining : S → Option (List ℕ)) (old : ByteSourc
           Reads (IsUnread remaining) old new (Some old.levels) taken v
       string-read new payload v content give = reads-string (IsUnread remaining) old mid new kind len (Some old.levels)
           taken payload v (subst (TakesBare (IsUnread remaining) old mid false) is head) content give
+
+      -- either
+      pub string-answered : {T : Type 0} {P : T → Type 0} (can_fail : Bool) (new : ByteSource S W) (content : T → A)
+          (r : Result T (Error Unit)) → TakesOnly (HasTaken remaining) old.decoder mid.decoder → IfOk r P →
+          ((v : T) → P v → (payload : List ℕ) ×
+          TakesContent (IsUnread remaining mid) (IsUnread remaining new) kind len payload ×
+          ((ts : List ℕ) → AreSkipped false ts →
+          outcome (Some old.levels) (taken (under ts (string_item kind len payload))) ≡ gives (content v))) →
+          IfErr r (λ e. DeniesContent (IsUnread remaining mid) (end_at remaining mid) kind len
+          (fault_at can_fail remaining new e)) →
+          AnswersItem can_fail remaining old new (Some old.levels) taken content r
+      string-answered can_fail new content (Ok v) only took give denied =
+          let (payload, read, made) = give v took in string-read new payload (content v) read made
+      string-answered can_fail new content (Err e) only took give denied =
+          string-denied only (fault_at can_fail remaining new e) denied

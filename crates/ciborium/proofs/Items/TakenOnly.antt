@@ -1,13 +1,14 @@
 -- A call takes a beginning of what is unread, and nothing else.
 use Rattle.std.proofs.Common.{◌≡◌, ◌≤◌, ℕ, ◌+◌, List, [], ◌++◌, length, Option, Some, None, refl, ◌∙◌, sym, ap, subst}
-use Rattle.std.proofs.{Common.{arith, length-append}, KnownBytes.Consumes-nil}
+use Rattle.std.proofs.{Common.{arith, le_refl, le_trans, length-append}, KnownBytes.Consumes-nil}
 use Rattle.std.specs.{Borrow.GName, Io.KnownBytes.Consumes}
 use Rattle.ciborium_ll.specs.{declared.decoder.Decoder.Decoder, declared.header.Header.Header, Decoding.HasBegun}
 use Rattle.ciborium_ll.specs.Decoding.{HasSameReader, Takes, left_of}
 use Rattle.ciborium_ll.proofs.{Advancing.Advances-then, Decoders.begun-left, Unread.rest-of}
 use Rattle.ciborium_value.specs.{Ahead.{Span, Rest, bottom, parts, pairs, entry, level_due, end_of}, Sources.TakesOnly}
 use Rattle.ciborium.specs.{declared.de.byte_source.ByteSource.ByteSource, inner.ByteSources.{HasTaken, IsUnread}}
-use Rattle.ciborium.specs.{inner.ByteSources.{IsUnreadBy, end_at, known_end, reader_of}, inner.Unread.{IsRest, ending}}
+use Rattle.ciborium.specs.inner.ByteSources.{IsUnreadBy, KeepsSource, end_at, known_end, pending_head_weight, reader_of}
+use Rattle.ciborium.specs.inner.{ByteSources.weight_left, Unread.{IsRest, ending}}
 use Rattle.ciborium.specs.{NextItems.TakesTo, TypedAnswers.TakesBeginning}
 
 -- whatever holds of the bytes
@@ -91,6 +92,54 @@ taken-beginning remaining old new lent x p begins back taken =
 abbrev pub IsKept : {S W : Type 0} → (S → Option (List ℕ)) → ByteSource S W → ByteSource S W → Type 0
 IsKept remaining old new = HasSameReader old.decoder new.decoder ×
     TakesOnly (HasTaken remaining) old.decoder new.decoder
+
+-- a step that keeps the source
+pub is-kept : {S W : Type 0} {remaining : S → Option (List ℕ)} {old new : ByteSource S W} →
+    KeepsSource remaining old new → IsKept remaining old new
+is-kept kept = (kept.same_reader, kept.only)
+
+-- nothing was done
+pub keeps-none : {S W : Type 0} (remaining : S → Option (List ℕ)) (s : ByteSource S W) → s.pending ≡ None →
+    KeepsSource remaining s s
+keeps-none remaining s none =
+    record { same_reader = refl; only = λ first t. t; levels = refl; pending = none; no_more = le_refl _ }
+
+-- one step after another
+pub keeps-then : {S W : Type 0} {remaining : S → Option (List ℕ)} {old mid new : ByteSource S W} →
+    KeepsSource remaining old mid → KeepsSource remaining mid new → KeepsSource remaining old new
+keeps-then one more = record {
+  same_reader = more.same_reader ∙ one.same_reader;
+  only = λ first t. more.only first (one.only first t);
+  levels = more.levels ∙ one.levels;
+  pending = more.pending;
+  no_more = le_trans more.no_more one.no_more;
+}
+
+-- the same behind what may have left a head pending
+pub keeps-from : {S W : Type 0} {remaining : S → Option (List ℕ)} {old mid new : ByteSource S W} →
+    IsKept remaining old mid → mid.levels ≡ old.levels → weight_left mid ≤ weight_left old →
+    KeepsSource remaining mid new → KeepsSource remaining old new
+keeps-from one levels less more = record {
+  same_reader = more.same_reader ∙ one.0;
+  only = λ first t. more.only first (one.1 first t);
+  levels = more.levels ∙ levels;
+  pending = more.pending;
+  no_more = le_trans more.no_more less;
+}
+
+-- what the decoder takes
+pub keeps-taken : {S W : Type 0} (remaining : S → Option (List ℕ)) (old new : ByteSource S W) (P : List ℕ → Type 0) →
+    HasSameReader old.decoder new.decoder → Takes remaining old.decoder new.decoder P → new.levels ≡ old.levels →
+    new.pending ≡ None → KeepsSource remaining old new
+keeps-taken remaining old new P same taken levels none =
+    let count = taken.2 in
+    let weight : pending_head_weight new.pending ≡ 0 = ap pending_head_weight none in record {
+      same_reader = same;
+      only = takes-only remaining old.decoder new.decoder P same taken;
+      levels = levels;
+      pending = none;
+      no_more = omega (arith, count, weight);
+    }
 
 -- the bytes were left alone
 pub kept-alone : {S W : Type 0} (remaining : S → Option (List ℕ)) (old mid new : ByteSource S W) →

@@ -8,7 +8,7 @@ use Rattle.ciborium_ll.specs.{Header.SpellsHeader, Item.{Item, unsigned, simple}
 use Rattle.ciborium_ll.specs.declared.{decoder.Decoder.Decoder, header.Header.Header}
 use Rattle.ciborium_value.{proofs.Sources.Sequences.fault_outside, specs.Given.{gives, given_value, outcome}}
 use Rattle.ciborium_value.specs.{Meaning.simple_meaning, Nesting.{Limit, IsWithin, nesting}, Refuses.Refuses}
-use Rattle.ciborium_value.specs.{Sources.IsFaultOf, Spelling.any, Tree.Tree, View.{read_as, tree_of}}
+use Rattle.ciborium_value.specs.{Sources.IsFaultOf, Spelling.any, Tree.Tree, View.{result_map, tree_of}}
 use Rattle.ciborium_value.specs.declared.tree.Value.{Value}
 use Rattle.ciborium.proofs.Items.{FrontReads.io-outside, ValueFaults.value-faults, ValuesGiven.value-gives}
 use Rattle.ciborium.proofs.{Readers.WhateverFollows.{ahead-same, so-unread}, Turns.Fronts.{Front, ahead-at, front-fits}}
@@ -175,7 +175,7 @@ pub pushed-ahead : (E : Type 0) {S W : Type 0} (remaining : S → Option (List �
     (pending : Option (Header × ℕ)) (l : ℕ) (x : Result Value (Error E)) → e.pushed ≡ pending → ReadsNothing d e →
     TakesBeforeAny remaining e f (λ a b. (xs : List ℕ) (p : ℕ) → IsAhead Some a xs p →
     IsValueRead {S = List ℕ} {E = E} any Some b l xs p x) →
-    TakesBeforeAny remaining d f (λ a b. ReadSo {E = E} l pending a b (read_as tree_of x))
+    TakesBeforeAny remaining d f (λ a b. ReadSo {E = E} l pending a b (result_map tree_of x))
 pushed-ahead E remaining d e f pending l x pushed unread (s, taken, sum, h, bytes) = (
   s,
   subst (λ r. Consumes r (left_of remaining f) s) (unread-left remaining d e unread) taken,

@@ -5,7 +5,7 @@ use Rattle.std.proofs.{Common.{length-append, arith, lit<, add-one, lt-ltb, le-l
 use Rattle.std.proofs.{Math.Nat.pow-suc, lemmas.{Bool.Decides.nat_tests, List.Elements.{All-append, All-head}}}
 use Rattle.std.proofs.lemmas.List.Elements.{All-tail}
 use Rattle.ciborium_ll.{proofs.Unread.rest-of, specs.{Accesses.{HasEnded, left_at_failure}, Bytes.AreBytes}}
-use Rattle.ciborium_ll.specs.{Bytes.greatest_offset, Decoding.{Takes, left_of}, ReaderSteps.IsFillTaken}
+use Rattle.ciborium_ll.specs.{Decoding.{Takes, left_of}, ReaderSteps.IsFillTaken}
 use Rattle.ciborium_ll.specs.declared.{decoder.Decoder.Decoder, header.Error.Error as LlError}
 use Rattle.ciborium_value.{proofs.FoldedTrees.BigEndian.bound-more, specs.{Given.magnitude, Meaning.big_endian_behind}}
 use Rattle.ciborium_value.specs.{Meaning.{big_endian, without_zeros}, Sources.IsOutsideFault}
@@ -126,12 +126,6 @@ digits-none bs h e = by (ltb 16 (length (without_zeros bs))) refl
         let n : None ≡ Some (big_endian bs) = e ∙ (number-of bs h).0 fits in cc
 
 -- ---- one byte more
-
-pub fill-fewer : (E : Type 0) {S W : Type 0} (remaining : S → Option (List ℕ)) (d e : Decoder S W) (buffer : List ℕ) →
-    Takes remaining d e (λ b. IsFillTaken {E = E} b d.counter.count buffer (Ok tt)) →
-    3 * (greatest_offset - e.counter.count) ≤ 3 * (greatest_offset - d.counter.count)
-fill-fewer E remaining d e buffer (b, takes, count, taken, small) = let fits = e.counter.fits in
-    omega (arith, fits, count)
 
 pub digit-more : (E : Type 0) {S W : Type 0} (remaining : S → Option (List ℕ)) (d e : Decoder S W) (buffer : List ℕ)
     (x left n : ℕ) (start value next : Option ℕ) (y : List ℕ) → buffer ≡ x ∷ [] → 0 < left →

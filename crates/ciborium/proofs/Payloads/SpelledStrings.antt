@@ -2,16 +2,17 @@
 use Rattle.std.proofs.Common.{Bool, ◌≡◌, ℕ, ◌+◌, List, [], ◌∷◌, ◌++◌, length, take, drop, Option, Some, None, refl, sym}
 use Rattle.std.proofs.Common.{ap, ◌∙◌, subst, append_assoc, inl, inr, ◌<◌, ◌≤◌, arith, length-append, suc}
 use Rattle.std.proofs.Math.Seq.{take-append_seam, drop-append_seam}
-use Rattle.ciborium_ll.{proofs.OneHeader.one_header_at_front, specs.{Bytes.greatest_offset, Decoding.left_of}}
-use Rattle.ciborium_ll.specs.{Head.{IsHead, open_byte, break_byte}, Header.{SpellsHeader, announced_length}}
-use Rattle.ciborium_ll.specs.{Refusal.{Refusal, io, syntax, too_long, HeadRefuses}, Spells.{Spells, AreChunks}}
-use Rattle.ciborium_ll.specs.StringRefusal.{string_major, IsAllowed, PayloadRefuses, ChunkRefuses, ContentRefuses}
-use Rattle.ciborium_ll.specs.declared.{decoder.Decoder.Decoder, header.Header.Header, strings.StringType.StringType}
+use Rattle.ciborium_ll.{proofs.OneHeader.one_header_at_front, specs.Accesses.{HasEnded, left_at_failure}}
+use Rattle.ciborium_ll.specs.{Bytes.greatest_offset, Decoding.left_of, Head.{IsHead, open_byte, break_byte}}
+use Rattle.ciborium_ll.specs.{Header.{SpellsHeader, announced_length}, Refusal.{Refusal, io, syntax, too_long}}
+use Rattle.ciborium_ll.specs.{Refusal.HeadRefuses, Spells.{Spells, AreChunks}, StringRefusal.{string_major, IsAllowed}}
+use Rattle.ciborium_ll.specs.{StringRefusal.{PayloadRefuses, ChunkRefuses}, Strings.ContentRefuses}
+use Rattle.ciborium_ll.specs.declared.{decoder.Decoder.Decoder, header.{Error.Error as LlError, Header.Header}}
+use Rattle.ciborium_ll.specs.declared.strings.StringType.{StringType}
 use Rattle.ciborium_value.specs.Sources.{IsOutsideFault}
 use Rattle.ciborium.proofs.Items.FrontReads.{ended-ll, failed-fault, head-passes, io-outside, only-long}
 use Rattle.ciborium.specs.{Errors.{fault_of, from_ll}, inner.ByteSources.{IsUnreadBy, known_end}}
 use Rattle.ciborium.specs.inner.StringContents.{DeniesContent, head_of, string_item}
-use Rattle.ciborium_ll.specs.{declared.header.Error.Error as LlError, Accesses.{HasEnded, left_at_failure}}
 use Rattle.ciborium_ll.specs.declared.header.Header.TheVariants as header
 use Rattle.ciborium_ll.specs.declared.header.Error.TheVariants as ll
 use Rattle.ciborium_ll.specs.ReaderSteps as reading

@@ -12,7 +12,7 @@ use Rattle.ciborium_value.specs.{Encoding.written_bytes, Folded.{folded, tree_pa
 use Rattle.ciborium_value.specs.{Meaning.tree_pairs_more, OrderedValues.ordered_value_cmp, Places.dictionary}
 use Rattle.ciborium_value.specs.{Places.pairs_from, Readings.Reading, ReadsBack.{IsPlainlyReadBack, by_bytes}}
 use Rattle.ciborium_value.specs.Sinks.{Named, all_named, and_then, contained, container_of, in_turn, named_value}
-use Rattle.ciborium_value.specs.{Spelling.deterministic, Tree.{Tree, TreePairs}, View.{tree_of, tree_pairs_of}}
+use Rattle.ciborium_value.specs.{Spelling.deterministic, Tree.{Tree, TreePairs}, ValueLists.tree_pairs_of, View.tree_of}
 use Rattle.ciborium_value.specs.{WrittenItems.IsWritten, declared.{key_order.KeyOrder.KeyOrder, tree.Value.Value}}
 use Rattle.ciborium.proofs.{Encodings.RisingKeys.keys-rise, ReadBack.RoundTrips.one-content}
 use Rattle.ciborium.specs.{ValueAnswers.{AnswersGoodItem, GivesTree}, ValueClauses.TakesValue, Writes.IsNamedWritten}

@@ -5,7 +5,8 @@ use Rattle.std.specs.Io.KnownBytes.{Consumes}
 use Rattle.ciborium_ll.{proofs.Decoders.begun-left, specs.{Accesses.left_at_failure, Decoding.{HasBegun, IsAheadBy}}}
 use Rattle.ciborium_ll.specs.{Decoding.{with_left, left_of}, Item.Item, Spells.Spells}
 use Rattle.ciborium_value.specs.{Ahead.{bottom, item}, Given.Given, Readings.Reading, Sources.{Fault, IsGrantedFault}}
-use Rattle.ciborium_value.specs.{Sources.{RefusesAhead, TakesAhead, TakesItem}, Spelling.any, Tree.Tree, View.read_as}
+use Rattle.ciborium_value.specs.{Sources.{RefusesAhead, TakesAhead, TakesItem}, Spelling.any, Tree.Tree}
+use Rattle.ciborium_value.specs.View.{result_map}
 use Rattle.ciborium.proofs.Items.TakenOnly.{taken-beginning, taken-name, taken-none}
 use Rattle.ciborium.{proofs.Readers.WhateverFollows.taken-tree, specs.Errors.{HasEndedBy, fault_of}}
 use Rattle.ciborium.specs.{NextItems.IsReadFrom, TypedAnswers.{IsFaultAhead, ReadsAsTypeFrom, TakesGiving}}
@@ -49,7 +50,7 @@ pub some-map : {A : Type 0} {P Q : A → Type 0} (o : Option A) → IfSome o P �
 some-map (Some v) p f = f v p
 some-map None p f = tt
 
-pub err-read : {T A E : Type 0} (content : T → A) (P : E → Type 0) (r : Result T E) → IfErr (read_as content r) P →
+pub err-read : {T A E : Type 0} (content : T → A) (P : E → Type 0) (r : Result T E) → IfErr (result_map content r) P →
     IfErr r P
 err-read content P (Ok v) h = tt
 err-read content P (Err e) h = h
@@ -74,12 +75,12 @@ module _ {S W T A : Type 0} (E : Type 0) (can_fail : Bool) (remaining : S → Op
 
   module _ (b : List ℕ) (p : ℕ) (front : IsUnread remaining old b) (ends : end_at remaining old ≡ p + length b) where
     pub handed-given : (r : Result T (Error E)) → IsRead r →
-        IfOk (read_as reading.content r) (λ v. TakesGiving (Some old.levels) reading.taken b v (remaining x))
+        IfOk (result_map reading.content r) (λ v. TakesGiving (Some old.levels) reading.taken b v (remaining x))
     handed-given (Ok v) h =
         handed-ok remaining old reading.taken b front p ends new (reading.content v) x back h.took h.ok
     handed-given (Err e) h = tt
 
-    pub handed-denied : (r : Result T (Error E)) → IsRead r → IfErr (read_as reading.content r)
+    pub handed-denied : (r : Result T (Error E)) → IsRead r → IfErr (result_map reading.content r)
         (λ e. IsFaultAhead p (Some old.levels) reading.taken b (fault_of (left_at_failure can_fail (remaining x)) e))
     handed-denied (Ok v) h = tt
     handed-denied (Err e) h =
@@ -141,5 +142,5 @@ handed-all E can_fail remaining reading old new lent x p begins none back r h =
       taken = taken-beginning remaining old.decoder new.decoder lent x p begins back
           (h.only old (taken-none remaining old.decoder));
       value = some-map reading.whole h.whole (λ tree reads. handed-from E can_fail remaining old new lent x p
-          (read_as (λ v. tree (reading.content v)) r) begins none back reads);
+          (result_map (λ v. tree (reading.content v)) r) begins none back reads);
     }

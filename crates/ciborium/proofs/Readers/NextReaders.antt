@@ -10,7 +10,7 @@ use Rattle.ciborium_ll.specs.{ReaderSteps.{Advances, IsHeadTaken}, Refusal.{Head
 use Rattle.ciborium_ll.specs.declared.{decoder.Decoder.Decoder, header.{Error.Error as LlError, Header.Header}}
 use Rattle.ciborium_value.{proofs.{GoodItems.Spelled.spells-pos, Sources.Sequences.fault_outside}, specs.Given.Given}
 use Rattle.ciborium_value.specs.{Given.outcome, Readings.Reading, Refuses.Refuses, Sources.IsGrantedFault}
-use Rattle.ciborium_value.specs.{Sources.{IsOutsideFault, TakesOnly}, Spelling.any, Tree.Tree, View.read_as}
+use Rattle.ciborium_value.specs.{Sources.{IsOutsideFault, TakesOnly}, Spelling.any, Tree.Tree, View.result_map}
 use Rattle.ciborium.proofs.Items.{FrontReads.{ended-ll, failed-fault, granted-head, head-outside}, ItemHeads.first-head}
 use Rattle.ciborium.proofs.Items.{ItemHeads.{first-payload, header_of}, TakenOnly.{taken-beginning, taken-none}}
 use Rattle.ciborium.proofs.Items.TakenOnly.{taken-then, taken-to, takes-end, takes-only}
@@ -187,20 +187,20 @@ module _ {S W T A : Type 0} (E : Type 0) (can_fail : Bool) (remaining : S →
             λ full. absurd (omega (arith, less, full)),
           );
           ok = item-says (λ q. TakesGiven (Some s.levels) reading.taken (remaining lent) (remaining x)
-              (read_as reading.content q)) first r (λ h read q item b known. handed-given E can_fail remaining reading
-              (behind_head s p h) t x back b p (front E can_fail remaining d s lent p begins kept h read b known)
-              (ends b known h read) q item) taken none item;
+              (result_map reading.content q)) first r (λ h read q item b known. handed-given E can_fail remaining
+              reading (behind_head s p h) t x back b p (front E can_fail remaining d s lent p begins kept h read b
+              known) (ends b known h read) q item) taken none item;
           refused = item-says (λ q. RefusesGiven p (Some s.levels) reading.taken (remaining lent)
-              (left_at_failure can_fail (remaining x)) (read_as reading.content q)) first r
+              (left_at_failure can_fail (remaining x)) (result_map reading.content q)) first r
               (λ h read q item b known. handed-denied E can_fail remaining reading (behind_head s p h) t x back
               b p (front E can_fail remaining d s lent p begins kept h read b known) (ends b known h read) q item)
               taken none item;
           memory = next-memory back first r none item;
           taken = (all.0, all.1);
           value = item-says (λ q. IfSome reading.whole (λ tree. TakesBytes any p (remaining lent) s.levels (remaining x)
-              (read_as (λ v. tree (reading.content v)) q))) first r (λ h read q item. some-map reading.whole item.whole
-              (λ tree reads. joined E can_fail remaining d s lent p begins kept h read t x
-              (read_as (λ v. tree (reading.content v)) q) back reads)) taken none item;
+              (result_map (λ v. tree (reading.content v)) q))) first r (λ h read q item. some-map reading.whole
+              item.whole (λ tree reads. joined E can_fail remaining d s lent p begins kept h read t x
+              (result_map (λ v. tree (reading.content v)) q) back reads)) taken none item;
         },
         moves-offset r q all at,
       )
@@ -309,8 +309,8 @@ start-end before after (Err e) h = λ known. h known (lit< tt)
 
 start-whole : {T A : Type 0} (E : Type 0) (l : ℕ) (reading : Reading T A) (before after : Option (List ℕ))
     (r : Result (Option T) (Error E)) → Otherwise r (λ q. IfSome reading.whole (λ tree. TakesBytes any 0 before l after
-    (read_as (λ v. tree (reading.content v)) q))) → Otherwise r (λ q. IfSome reading.whole (λ tree. ReadsWhole any
-    before l after (read_as (λ v. tree (reading.content v)) q)))
+    (result_map (λ v. tree (reading.content v)) q))) → Otherwise r (λ q. IfSome reading.whole (λ tree. ReadsWhole any
+    before l after (result_map (λ v. tree (reading.content v)) q)))
 start-whole E l reading before after (Ok None) h = tt
 start-whole E l reading before after (Ok (Some v)) h = some-map reading.whole h
     (λ tree taken. whole-of {E = E} any l before after (Ok (tree (reading.content v))) taken)

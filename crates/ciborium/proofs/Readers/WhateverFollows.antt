@@ -7,15 +7,19 @@ use Rattle.ciborium_ll.proofs.{Decoders.{unread-left, begun-left, unread-count},
 use Rattle.ciborium_ll.{proofs.Unread.rest-of, specs.{Bytes.{AreBytes, greatest_offset}, Decoded.IsVisited}}
 use Rattle.ciborium_ll.specs.Decoding.{HasBegun, IsAhead, IsAheadBy, ReadsNothing, Pulls, PullsTo, Takes}
 use Rattle.ciborium_ll.specs.{Decoding.{TakesBeforeAny, with_left, left_of}, ReaderSteps.IsHeadTaken}
-use Rattle.ciborium_ll.specs.{StringRefusal.{ContentRefuses, IsAllowed}, Strings.IsStringTaken}
-use Rattle.ciborium_ll.specs.declared.strings.StringType.{StringType}
+use Rattle.ciborium_ll.specs.{StringRefusal.IsAllowed, Strings.{ContentRefuses, IsStringTaken}}
 use Rattle.ciborium_ll.specs.declared.{decoder.Decoder.Decoder, header.Error.{Error as LlError, TheVariants.Io}}
 use Rattle.ciborium_ll.specs.declared.header.{Error.TheVariants.{Syntax, TooLong, Memory}, Header.Header}
+use Rattle.ciborium_ll.specs.declared.strings.StringType.{StringType}
 use Rattle.ciborium_value.specs.{Spelling.{Spelling, any, deterministic, IsReadAs}, Tree.Tree, View.tree_of}
 use Rattle.ciborium_value.specs.{declared.tree.Value.Value, inner.ReadItems.string_tree}
 use Rattle.ciborium.proofs.{Readers.Outcomes.left-at, Turns.{Fronts.ahead-at, Pulled.refused-from}}
-use Rattle.ciborium.specs.{Errors.from_ll, ValueAnswers.{IsTakenFrom, TakesBytes}, declared.de.error.Error.Error}
-use Rattle.ciborium.specs.inner.{StringAnswers.IsStringRead, Turns.IsTreeRead, ValuesInBytes.{IsAt, StandsAt}}
+use Rattle.ciborium.specs.Errors.{from_ll}
+use Rattle.ciborium.specs.ValueAnswers.{IsTakenFrom, TakesBytes}
+use Rattle.ciborium.specs.declared.de.{error.Error.Error, front.Part.Part}
+use Rattle.ciborium.specs.inner.StringAnswers.{IsStringPart, IsStringRead}
+use Rattle.ciborium.specs.inner.Turns.{IsTreeRead}
+use Rattle.ciborium.specs.inner.ValuesInBytes.{IsAt, StandsAt}
 use Rattle.ciborium_ll.specs.ReaderSteps as reading
 
 no-bytes : AreBytes []
@@ -101,6 +105,11 @@ abbrev pub StringSo : {W E : Type 0} → StringType → Option ℕ → ℕ → D
     Result Value (Error E) → Type 0
 StringSo {W} {E} kind len at d e x = (xs : List ℕ) (p : ℕ) → IsAt Some d xs p →
     IsStringRead {S = List ℕ} {E = E} kind Some e len at xs p x
+
+abbrev pub PartSo : {W E : Type 0} → StringType → Option ℕ → ℕ → Decoder (List ℕ) W → Decoder (List ℕ) W →
+    Result Part (Error E) → Type 0
+PartSo {W} {E} kind len at d e x = (xs : List ℕ) (p : ℕ) → IsAt Some d xs p →
+    IsStringPart {S = List ℕ} {E = E} kind Some e len at xs p x
 
 string-read : (E : Type 0) {S W : Type 0} (kind : StringType) (remaining : S → Option (List ℕ)) (d e : Decoder S W)
     (len : Option ℕ) (xs : List ℕ) (p : ℕ) (old new : List ℕ) (v : Value) →

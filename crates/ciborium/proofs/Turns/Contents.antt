@@ -1,15 +1,16 @@
 -- Strings behind their heads, in each spelling.
 use Rattle.std.proofs.Common.{◌≡◌, ℕ, ◌+◌, ◌≤◌, ◌⊎◌, List, [], ◌∷◌, ◌++◌, length, Option, Some, None, Ok, refl, sym, ap}
-use Rattle.std.proofs.Common.{◌∙◌, subst, arith, length-append, append_assoc, inl, inr}
+use Rattle.std.proofs.Common.{Err, Result, ◌∙◌, subst, arith, length-append, append_assoc, inl, inr}
 use Rattle.ciborium_ll.specs.{Bytes.greatest_offset, Decoding.left_of, Head.{open_byte, break_byte}}
 use Rattle.ciborium_ll.specs.{Header.{SpellsHeader, IsCounted}, Refusal.Refusal, StringRefusal.string_major}
-use Rattle.ciborium_ll.specs.{StringRefusal.{ContentRefuses, PayloadRefuses, ChunksRefuse}, Strings.IsStringTaken}
+use Rattle.ciborium_ll.specs.{StringRefusal.{PayloadRefuses, ChunksRefuse}, Strings.{ContentRefuses, IsStringTaken}}
 use Rattle.ciborium_ll.specs.declared.{decoder.Decoder.Decoder, header.Header.Header, strings.StringType.StringType}
 use Rattle.ciborium_value.specs.{declared.tree.Value.Value, Refuses.{HasGoodHead, Refuses}, Spelling.Spelling}
 use Rattle.ciborium_value.specs.{View.tree_of, inner.ReadItems.{ReadsItem, string_tree}}
 use Rattle.ciborium_value.proofs.GoodItems.Introduced.{reads-string, reads-open_string}
 use Rattle.ciborium.specs.{declared.de.error.Error.Error, ValueAnswers.IsRefusedBy, inner.Parts.IsHeadAccepted}
-use Rattle.ciborium.specs.{inner.Parts.RefusesPart, inner.StringAnswers.IsStringRead, inner.ValuesInBytes.IsAt}
+use Rattle.ciborium.specs.inner.{Parts.{IsPartRead, RefusesPart}, StringAnswers.{IsStringPart, IsStringRead}}
+use Rattle.ciborium.specs.{declared.de.front.Part.{Part, TheVariants.Whole}, inner.ValuesInBytes.IsAt}
 use Rattle.ciborium.proofs.Turns.{Fronts.{Front, string-room, IsNoBreak, no-break}, Pulled.refused-map}
 use Rattle.ciborium.proofs.Turns.Heads.{Got, accepted-front, good-head, got}
 use Rattle.ciborium_ll.specs.declared.header.Header.TheVariants as header
@@ -81,7 +82,7 @@ module _ (spelling : Spelling) (kind : StringType) (l : ℕ) (xs : List ℕ) (p 
 module _ {S W : Type 0} {spelling : Spelling} {remaining : S → Option (List ℕ)} {d : Decoder S W} (e : Decoder S W)
     (l : ℕ) {xs : List ℕ} {p : ℕ} {h : Header} (E : Type 0) (kind : StringType) (len : Option ℕ)
     (is : h ≡ header_of kind len) where
-  pub got-string : (v : Value) → e.pushed ≡ None → IsHeadAccepted spelling remaining d h xs p →
+  got-string : (v : Value) → e.pushed ≡ None → IsHeadAccepted spelling remaining d h xs p →
       ((ys : List ℕ) (q : ℕ) → IsAt remaining d ys q →
       IsStringRead {S = S} {E = E} kind remaining e len d.last ys q (Ok v)) →
       Got spelling remaining e l xs p (tree_of v)
@@ -92,7 +93,7 @@ module _ {S W : Type 0} {spelling : Spelling} {remaining : S → Option (List �
       got remaining e pushed c.4 (string-reads spelling kind l xs p b r (good-head a) E len d.last c.0 c.1 c.2
       (accepted-front is a) c.3 c.5 c.7) c.6
 
-  pub string-fault : (x : Error E) → IsHeadAccepted spelling remaining d h xs p →
+  string-fault : (x : Error E) → IsHeadAccepted spelling remaining d h xs p →
       ((ys : List ℕ) (q : ℕ) → IsAt remaining d ys q →
       IsRefusedBy (left_of remaining e) x (λ r. ContentRefuses kind len d.last ys q r)) →
       IsRefusedBy (left_of remaining e) x (RefusesPart spelling xs p l)
@@ -106,3 +107,11 @@ module _ {S W : Type 0} {spelling : Spelling} {remaining : S → Option (List �
         content-refuses spelling kind l xs p b r (good-head a) len d.last f a.pulled.5 u g,
         no-break (no-break-kind kind len) u,
       )) (read r (p + length b) a.pulled.6)
+
+  -- either
+  pub string-part : (r : Result Part (Error E)) → e.pushed ≡ None → IsHeadAccepted spelling remaining d h xs p →
+      ((ys : List ℕ) (q : ℕ) → IsAt remaining d ys q → IsStringPart {S = S} kind remaining e len d.last ys q r) →
+      IsPartRead spelling remaining e l xs p r
+  string-part (Ok (Whole v)) pushed a read = got-string v pushed a read
+  string-part (Err x) pushed a read = string-fault x a read
+  string-part (Ok part) pushed a read = absurd (read a.pulled.1 (p + length a.pulled.0) a.pulled.6)

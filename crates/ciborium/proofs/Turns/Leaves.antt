@@ -13,6 +13,7 @@ use Rattle.ciborium.proofs.Turns.Heads.{Got, accepted-front, good-head, got, sta
 use Rattle.ciborium.specs.ValueAnswers.{IsRefusedBy}
 use Rattle.ciborium.specs.declared.de.{error.Error.Error, front.Part.{Part, TheVariants.{Whole, Begun, Ended}}}
 use Rattle.ciborium.specs.inner.{Around.IsOpen, Parts.{IsHeadAccepted, IsPartRead, RefusesPart, IsContainerBegun}}
+use Rattle.ciborium.specs.inner.Parts.{IsSimpleRead}
 use Rattle.ciborium.specs.inner.Parts.{IsBehind, container_header, empty_container, begun_container}
 use Rattle.ciborium.specs.inner.ValuesInBytes.{StandsAt}
 use Rattle.ciborium_ll.specs.declared.header.Header.TheVariants as header
@@ -39,7 +40,7 @@ module _ {S W : Type 0} {spelling : Spelling} {remaining : S → Option (List �
   got-negative {l} {n} pushed same is a = got-alone pushed same is a (λ u. reads-negative spelling xs p n
       (length a.pulled.0) (Some l) a.pulled.1 (a.pulled.0, u.spelled, refl, u.split) (good-head a).1)
 
-  pub got-simple : {l n : ℕ} {t : Tree} → d.pushed ≡ None → simple_meaning n ≡ Some t → h ≡ header.Simple n →
+  got-simple : {l n : ℕ} {t : Tree} → d.pushed ≡ None → simple_meaning n ≡ Some t → h ≡ header.Simple n →
       IsHeadAccepted spelling remaining d h xs p → Got spelling remaining d l xs p t
   got-simple {l} {n} {t} pushed means is a = got-alone pushed refl is a (λ u. reads-simple spelling xs p (Some l)
       a.pulled.0 n a.pulled.1 t u.spelled u.split means (good-head a).1)
@@ -151,7 +152,7 @@ module _ {S W : Type 0} (remaining : S → Option (List ℕ)) (d : Decoder S W) 
 
 module _ {S W : Type 0} {spelling : Spelling} {remaining : S → Option (List ℕ)} {d : Decoder S W} {l : ℕ} {xs : List ℕ}
     {p : ℕ} {h : Header} where
-  pub simple-refuses : {n : ℕ} → simple_meaning n ≡ None → h ≡ header.Simple n →
+  simple-refuses : {n : ℕ} → simple_meaning n ≡ None → h ≡ header.Simple n →
       IsHeadAccepted spelling remaining d h xs p → RefusesPart spelling xs p l (semantic p kinds.Simple)
   simple-refuses {n} none is a =
       let u = accepted-front is a in
@@ -176,3 +177,13 @@ module _ {S W : Type 0} {spelling : Spelling} {remaining : S → Option (List �
           (omega arith)
       by b (raw, (inr (inr s)), k) e = at 0xfb raw (e ∙ ap (λ (z : List ℕ). z ++ a.pulled.1) s.1) (omega arith)
           (omega arith)
+
+pub simple-part : {S W E : Type 0} {spelling : Spelling} {remaining : S → Option (List ℕ)} {d : Decoder S W}
+    {xs : List ℕ} {p : ℕ} {h : Header} (l n q : ℕ) (r : Result Part (Error E)) → d.pushed ≡ None →
+    h ≡ header.Simple n → q ≡ p → IsSimpleRead n q r → IsHeadAccepted spelling remaining d h xs p →
+    IsPartRead spelling remaining d l xs p r
+simple-part l n q (Ok (Whole v)) pushed is at means a = got-simple pushed means is a
+simple-part l n q (Ok part) pushed is at means a = absurd means
+simple-part {spelling = spelling} {remaining} {d} {xs} {p} l n q (Err e) pushed is at (none, same) a =
+    subst (λ z. IsRefusedBy (left_of remaining d) z (RefusesPart spelling xs p l)) (sym same)
+    (subst (λ k. RefusesPart spelling xs p l (semantic k kinds.Simple)) (sym at) (simple-refuses none is a))

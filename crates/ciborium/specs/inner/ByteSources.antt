@@ -1,6 +1,6 @@
 -- Where a source over bytes stands.
 use Rattle.std.specs.Prelude.{◌<◌, ◌≡◌, ℕ, ◌+◌, ◌*◌, ◌-◌, ◌≤◌, List, ◌++◌, length, map, Option, Some, None, Bool, true}
-use Rattle.std.specs.{Prelude.{false, IfErr, IfOk, MatchResult, OnErr, OnOk, Result, if◌then◌else◌}, Borrow.GName}
+use Rattle.std.specs.{Prelude.{false, IfErr, IfOk, MatchResult, OnOk, Result, if◌then◌else◌}, Borrow.GName}
 use Rattle.std.specs.Vec.Iter.{into_iter_items}
 use Rattle.ciborium_ll.specs.{declared.header.Header.Header, declared.decoder.Decoder.Decoder, Bytes.greatest_offset}
 use Rattle.ciborium_ll.specs.{Accesses.left_at_failure, Decoding.{HasSameReader, IsAheadBy, Takes, TakesBeforeAny}}
@@ -224,36 +224,26 @@ HasBytes (left.Bytes v) P = P (into_iter_items v)
 
 -- ---- what a call leaves and answers
 
--- the reader is the same, a beginning of what was unread was taken, no more is left to read, and
--- behind an answer no head is pending
-pub record KeepsSource {S W A E : Type 0} (remaining : S →
-    Option (List ℕ)) (old new : ByteSource S W)
-    (result : Result A E) : Type 0 where
+-- the reader is the same, a beginning of what was unread was taken, the levels stay, no head is
+-- pending, and no more is left to read
+pub record KeepsSource {S W : Type 0} (remaining : S → Option (List ℕ)) (old new : ByteSource S W) : Type 0 where
   pub same_reader : HasSameReader old.decoder new.decoder
   pub only : TakesOnly (HasTaken remaining) old.decoder new.decoder
-  pub no_more : OnErr result (weight_left new ≤ weight_left old)
-  pub pending : OnOk result (new.pending ≡ None)
-
--- the same where an item is read: the levels stay, and behind an answer less is left
-pub record PassesItem {S W A E : Type 0} (remaining : S →
-    Option (List ℕ)) (old new : ByteSource S W)
-    (result : Result A E) : Type 0 where
-  pub same_reader : HasSameReader old.decoder new.decoder
-  pub only : TakesOnly (HasTaken remaining) old.decoder new.decoder
-  pub no_more : OnErr result (weight_left new ≤ weight_left old)
-  pub pending : OnOk result (new.pending ≡ None)
   pub levels : new.levels ≡ old.levels
+  pub pending : new.pending ≡ None
+  pub no_more : weight_left new ≤ weight_left old
+
+-- the same where an item is read: behind an answer less is left
+pub record PassesItem {S W A E : Type 0} (remaining : S → Option (List ℕ)) (old new : ByteSource S W)
+    (result : Result A E) : Type 0 where
+  pub kept : KeepsSource remaining old new
   pub fewer : OnOk result (weight_left new < weight_left old)
 
 -- the same of the head behind any number of tags
 pub record ReadsBareHead {S W : Type 0} (can_fail : Bool) (remaining : S → Option (List ℕ))
     (old new : ByteSource S W) (numbers : Bool) (result : Result (Header × ℕ) (Error
     (Unit {0}))) : Type 0 where
-  pub same_reader : HasSameReader old.decoder new.decoder
-  pub only : TakesOnly (HasTaken remaining) old.decoder new.decoder
-  pub no_more : OnErr result (weight_left new ≤ weight_left old)
-  pub pending : OnOk result (new.pending ≡ None)
-  pub levels : new.levels ≡ old.levels
+  pub kept : KeepsSource remaining old new
   pub fewer : IfOk result (λ h. bytes_weight new + head_weight h.0 ≤ weight_left old)
   pub bare : IfOk result (λ h. IsBare numbers h.0)
   pub memory : IfErr result (λ e. IsGrantedFault (fault_at can_fail remaining new e) false)

@@ -46,8 +46,9 @@ IsContainerBegun is_map count l (Ok Ended) = ⊥
 IsContainerBegun is_map count l (Err e) = (l ≡ 0) × (e ≡ RecursionLimitExceeded)
 
 -- what a simple value at offset p is read as
-abbrev pub IsSimpleRead : {E : Type 0} → ℕ → ℕ → Result Value (Error E) → Type 0
-IsSimpleRead n p (Ok v) = simple_meaning n ≡ Some (tree_of v)
+abbrev pub IsSimpleRead : {E : Type 0} → ℕ → ℕ → Result Part (Error E) → Type 0
+IsSimpleRead n p (Ok (Whole v)) = simple_meaning n ≡ Some (tree_of v)
+IsSimpleRead n p (Ok part) = ⊥
 IsSimpleRead n p (Err e) = (simple_meaning n ≡ None) × (e ≡ Semantic (Some p) kinds.Simple)
 
 -- a container or tag that is unfinished at zs begins at ys
@@ -87,17 +88,15 @@ IsPartRead spelling remaining d l xs p (Ok Ended) =
     (zs : List ℕ) × (xs ≡ break_byte ∷ zs) × (p < greatest_offset) × StandsAt spelling remaining d zs (p + 1)
 IsPartRead spelling remaining d l xs p (Err e) = IsRefusedBy (left_of remaining d) e (RefusesPart spelling xs p l)
 
--- a level is left for what was entered
-abbrev pub HasLevel : Part → ℕ → Type 0
-HasLevel (Whole v) l = Unit {0}
-HasLevel (Begun f) l = 0 < l
-HasLevel Ended l = Unit {0}
+-- a value that is whole
+abbrev pub IsWhole : Part → Type 0
+IsWhole (Whole v) = Unit {0}
+IsWhole part = ⊥
 
--- no head is pushed behind a whole value or a break
-abbrev pub IsAtRest : Part → Option (Header × ℕ) → Type 0
-IsAtRest (Whole v) pushed = pushed ≡ None
-IsAtRest (Begun f) pushed = Unit {0}
-IsAtRest Ended pushed = pushed ≡ None
+-- a level is left for what was entered, and behind anything else no head is pushed
+abbrev pub IsAtRest : Part → ℕ → Option (Header × ℕ) → Type 0
+IsAtRest (Begun f) l pushed = 0 < l
+IsAtRest part l pushed = pushed ≡ None
 
 -- what the bytes over which a tag at offset p folds are read as
 abbrev pub IsFolded : {E : Type 0} → ℕ → List ℕ → ℕ → Result Value (Error E) → Type 0

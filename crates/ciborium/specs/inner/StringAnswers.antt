@@ -1,11 +1,13 @@
 -- What reading the payload of a string answers.
 use Rattle.std.specs.Prelude.{◌≡◌, ℕ, ◌+◌, ◌≤◌, List, ◌++◌, length, Option, Result, Ok, Err, Bool, true, false, None}
 use Rattle.std.specs.Prelude.{Some}
-use Rattle.ciborium_ll.specs.{Bytes.greatest_offset, Decoding.left_of, StringRefusal.{ContentRefuses, IsAllowed}}
+use Rattle.ciborium_ll.specs.{Bytes.greatest_offset, Decoding.left_of, StringRefusal.IsAllowed, Strings.ContentRefuses}
 use Rattle.ciborium_ll.specs.{Strings.IsStringTaken, declared.{decoder.Decoder.Decoder, strings.StringType.StringType}}
 use Rattle.ciborium_value.specs.{View.tree_of, declared.tree.Value.Value, inner.ReadItems.string_tree}
 use Rattle.ciborium.specs.{ValueAnswers.IsRefusedBy, declared.de.{error.Error.Error, held.Copied.Copied}}
 use Rattle.ciborium.specs.{declared.de.held.Copied.TheVariants.{Whole, NoText, NoMemory}, inner.ValuesInBytes.IsAt}
+use Rattle.ciborium.specs.declared.de.front.Part.{Part}
+use Rattle.ciborium.specs.declared.de.front.Part.TheVariants as parts
 
 abbrev pub string_kind : Bool → StringType
 string_kind true = StringType.Text
@@ -32,3 +34,11 @@ abbrev pub IsHeldRead : {S W E : Type 0} → StringType → (S → Option (List 
 IsHeldRead kind remaining d n at xs p (Ok None) = IsAt remaining d xs p
 IsHeldRead {E} kind remaining d n at xs p (Ok (Some v)) = IsStringRead {E = E} kind remaining d (Some n) at xs p (Ok v)
 IsHeldRead kind remaining d n at xs p (Err e) = IsStringRead kind remaining d (Some n) at xs p (Err e)
+
+-- the same where the value is a part
+abbrev pub IsStringPart : {S W E : Type 0} → StringType → (S → Option (List ℕ)) → Decoder S W →
+    Option ℕ → ℕ → List ℕ → ℕ → Result Part (Error E) → Type 0
+IsStringPart {E} kind remaining d len at xs p (Ok (parts.Whole v)) =
+    IsStringRead {E = E} kind remaining d len at xs p (Ok v)
+IsStringPart kind remaining d len at xs p (Ok part) = ⊥
+IsStringPart kind remaining d len at xs p (Err e) = IsStringRead kind remaining d len at xs p (Err e)

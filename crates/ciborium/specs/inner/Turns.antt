@@ -1,8 +1,9 @@
 -- The answers of the loop that puts a value together, turn by turn.
 use Rattle.std.specs.Prelude.{◌≡◌, ℕ, ◌⊎◌, List, Option, Some, None, Result, Ok, Err}
 use Rattle.ciborium_ll.specs.{declared.decoder.Decoder.Decoder, Decoding.{IsAhead, left_of}}
-use Rattle.ciborium_value.specs.{declared.tree.Value.Value, Refuses.Refuses, View.{read_as, tree_of}, Spelling.Spelling}
-use Rattle.ciborium_value.specs.{Tree.Tree, inner.Frames.{TreeFrame, done, more, placed}, inner.ReadItems.ReadsItem}
+use Rattle.ciborium_value.specs.{Refuses.Refuses, Spelling.Spelling, Tree.Tree, View.{result_map, tree_of}}
+use Rattle.ciborium_value.specs.{declared.tree.Value.Value, inner.Frames.{TreeFrame, done, more, placed}}
+use Rattle.ciborium_value.specs.inner.ReadItems.{ReadsItem}
 use Rattle.ciborium.specs.{declared.de.error.Error.Error, declared.de.error.Error.TheVariants.{Memory, Semantic}}
 use Rattle.ciborium.specs.{ValueAnswers.IsRefusedBy, inner.Around.IsAround, inner.Rules.HasKeysInOrder}
 use Rattle.ciborium.specs.{inner.Rules.HasKeyOutOfOrder, inner.ValuesInBytes.StandsAt}
@@ -24,7 +25,7 @@ IsTreeRead spelling remaining d l xs p (Err e) = IsRefusedBy (left_of remaining 
 
 abbrev pub IsValueRead : {S W E : Type 0} → Spelling → (S → Option (List ℕ)) → Decoder S W → ℕ →
     List ℕ → ℕ → Result Value (Error E) → Type 0
-IsValueRead spelling remaining d l xs p r = IsTreeRead spelling remaining d l xs p (read_as tree_of r)
+IsValueRead spelling remaining d l xs p r = IsTreeRead spelling remaining d l xs p (result_map tree_of r)
 
 -- the answer of one turn of the loop
 abbrev pub IsTurned : {S W E : Type 0} → Spelling → (S → Option (List ℕ)) → Decoder S W →

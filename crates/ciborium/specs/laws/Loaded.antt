@@ -3,12 +3,13 @@
 use Rattle.std.specs.Prelude.{◌≡◌, ℕ, ◌<◌, ◌≤◌, ◌⊎◌, List, [], ◌++◌, length, map, Option, Some, None, Result, Ok, Err}
 use Rattle.std.specs.{List.All, BTreeMap.BTreeMap, declared.io.Error.Error as IoError}
 use Rattle.ciborium_ll.specs.Bytes.{greatest_offset}
-use Rattle.ciborium_value.specs.{OrderedValues.ordered_value_cmp, Encoding.{encoding, item_of}, Nesting.nesting}
-use Rattle.ciborium_value.specs.{Folded.folded, Places.dictionary, Readings.Reading, lemmas.ReadsBackMaps.IsMapValid}
-use Rattle.ciborium_value.specs.{Sinks.{Named, container_of, in_turn, named_value}, Given.{Outcome, Given, gives}}
-use Rattle.ciborium_value.specs.{Given.{nests, outcome}, Tree.Tree, TreeAnswers.value_item, View.tree_of}
-use Rattle.ciborium_value.specs.{View.tree_pairs_of, declared.key_order.KeyOrder.KeyOrder, declared.tree.Value.Value}
-use Rattle.ciborium_value.specs.{DeterministicTrees.IsDeterministicTree, Spelling.deterministic}
+use Rattle.ciborium_value.specs.{DeterministicTrees.IsDeterministicTree, Encoding.{encoding, item_of}, Folded.folded}
+use Rattle.ciborium_value.specs.{Given.{Outcome, Given, gives, nests, outcome}, Nesting.nesting}
+use Rattle.ciborium_value.specs.{OrderedValues.ordered_value_cmp, Places.dictionary, Readings.Reading, Sinks.Named}
+use Rattle.ciborium_value.specs.{Sinks.{container_of, in_turn, named_value}, Spelling.deterministic, Tree.Tree}
+use Rattle.ciborium_value.specs.{TreeAnswers.value_item, ValueLists.tree_pairs_of, View.tree_of}
+use Rattle.ciborium_value.specs.declared.{key_order.KeyOrder.KeyOrder, tree.Value.Value}
+use Rattle.ciborium_value.specs.lemmas.ReadsBackMaps.{IsMapValid}
 use Rattle.ciborium.specs.{declared.de.error.Error.Error, declared.de.error.Error.TheVariants.Memory}
 use Rattle.ciborium.specs.declared.de.error.Error.TheVariants.{RecursionLimitExceeded}
 use Rattle.ciborium.specs.{DeterministicWrites.{IsFormWritten, WritesForm, named_form}, LoadedAnswers.LoadsAll}

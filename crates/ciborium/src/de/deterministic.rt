@@ -3,7 +3,7 @@
 ghost use Rattle.std.specs.Prelude.{◌≡◌, ℕ};
 ghost use Rattle.std.specs.declared.cmp.Ordering.TheVariants.{Less};
 ghost use Rattle.ciborium_value.specs.Canonical.{key_order};
-ghost use Rattle.ciborium_value.specs.View.{read_as, tree_of};
+ghost use Rattle.ciborium_value.specs.View.{result_map, tree_of};
 ghost use Rattle.ciborium_value.specs.declared.key_order.KeyOrder.TheVariants as orders;
 ghost use Rattle.ciborium.specs.ValueClauses.{ReadsWhole};
 ghost use Rattle.ciborium.specs.inner.Rules.{counted_fault};
@@ -96,7 +96,7 @@ fn read_by<S: Rules, R, A: Access<R>>(
     limit: usize,
 ) -> Result<Value, Error<io::Error>>
     ensures { ReadsWhole S.spelling (A.remaining reader.old) limit
-        (A.remaining reader.new) (read_as tree_of result) }
+        (A.remaining reader.new) (result_map tree_of result) }
 {
     let mut scratch = [0u8; SCRATCH_SIZE];
     let mut decoder = Decoder::<R, A>::begin(reader, 0);
@@ -115,7 +115,7 @@ pub(super) fn read_in_order<R, A: Access<R>>(
     order: KeyOrder,
 ) -> Result<Value, Error<io::Error>>
     ensures { ReadsWhole (deterministic order) (A.remaining reader.old) limit
-        (A.remaining reader.new) (read_as tree_of result) }
+        (A.remaining reader.new) (result_map tree_of result) }
 {
     match order {
         KeyOrder::LengthFirst => read_by::<Deterministic<LengthFirst>, R, A>(alloc, reader, limit),
@@ -145,7 +145,7 @@ pub fn from_reader_deterministic<R: Read>(
     limit: usize,
 ) -> Result<Value, Error<io::Error>>
     ensures { ReadsWhole (deterministic orders.LengthFirst) (R.remaining reader.old) limit
-        (R.remaining reader.new) (read_as tree_of result) }
+        (R.remaining reader.new) (result_map tree_of result) }
 {
     read_by::<Deterministic<LengthFirst>, R, Plain>(alloc, reader, limit)
 }
@@ -171,7 +171,7 @@ pub fn from_reader_deterministic_with_order<R: Read>(
     order: KeyOrder,
 ) -> Result<Value, Error<io::Error>>
     ensures { ReadsWhole (deterministic order) (R.remaining reader.old) limit
-        (R.remaining reader.new) (read_as tree_of result) }
+        (R.remaining reader.new) (result_map tree_of result) }
 {
     read_in_order::<R, Plain>(alloc, reader, limit, order)
 }
@@ -187,7 +187,7 @@ pub fn from_buf_reader_deterministic<R: BufRead>(
     limit: usize,
 ) -> Result<Value, Error<io::Error>>
     ensures { ReadsWhole (deterministic orders.LengthFirst) (R.remaining reader.old) limit
-        (R.remaining reader.new) (read_as tree_of result) }
+        (R.remaining reader.new) (result_map tree_of result) }
 {
     read_by::<Deterministic<LengthFirst>, R, Buffered>(alloc, reader, limit)
 }
@@ -204,7 +204,7 @@ pub fn from_buf_reader_deterministic_with_order<R: BufRead>(
     order: KeyOrder,
 ) -> Result<Value, Error<io::Error>>
     ensures { ReadsWhole (deterministic order) (R.remaining reader.old) limit
-        (R.remaining reader.new) (read_as tree_of result) }
+        (R.remaining reader.new) (result_map tree_of result) }
 {
     read_in_order::<R, Buffered>(alloc, reader, limit, order)
 }

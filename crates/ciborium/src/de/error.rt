@@ -21,7 +21,8 @@ pub enum Error<T> {
     Io(T),
     /// What stands at this offset is not well-formed (RFC 8949, appendix F).
     Syntax(usize),
-    /// An item is well-formed but not the wanted one: where it begins, if that is known, and why.
+    /// What begins at this offset, if that is known, is no wanted item, and why: another one, a
+    /// break where an item must stand, or one that is not spelled as it has to be.
     Semantic(Option<usize>, Kind),
     /// An array, a map or a tag nests deeper than the limit.
     RecursionLimitExceeded,

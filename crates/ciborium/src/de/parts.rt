@@ -4,10 +4,10 @@
 ghost use Rattle.std.specs.Prelude.{◌≡◌, ◌+◌, ◌<◌, ◌≤◌, IfErr, IfOk, List, None, OnOk, Some, ℕ};
 ghost use Rattle.ciborium_ll.specs.Decoding.{HasSameReader, TakesBeforeAny, last_of, pushed_of};
 ghost use Rattle.ciborium.specs.inner.ValuesInBytes.{HasEndedAfter};
-ghost use Rattle.ciborium.specs.inner.Parts.{HasLevel, IsContainerBegun, IsPartRead};
+ghost use Rattle.ciborium.specs.inner.Parts.{IsContainerBegun, IsPartRead, IsWhole};
 ghost use Rattle.ciborium.specs.inner.Parts.{IsAtRest, IsSimpleRead};
 ghost use Rattle.ciborium.specs.inner.ValuesInBytes.{IsAt, StandsAt, heads_left};
-ghost use Rattle.ciborium.specs.inner.StringAnswers.{IsStringRead, string_kind};
+ghost use Rattle.ciborium.specs.inner.StringAnswers.{IsStringPart, string_kind};
 
 use crate::de::error::{BareReadError, Error};
 use crate::de::front::{Part, pull};
@@ -53,13 +53,13 @@ fn begin_container<E>(
 
 #[tactic(auto, unfolding(ciborium_value::specs::Meaning::simple_meaning))]
 #[inline(always)]
-pub(super) fn read_simple<E>(number: u8, offset: usize) -> Result<Value, Error<E>>
+fn read_simple<E>(number: u8, offset: usize) -> Result<Part, Error<E>>
     ensures { IsSimpleRead number offset result }
 {
     match number {
-        simple::FALSE => Ok(Value::Bool(false)),
-        simple::TRUE => Ok(Value::Bool(true)),
-        simple::NULL | simple::UNDEFINED => Ok(Value::Null),
+        simple::FALSE => Ok(Part::Whole(Value::Bool(false))),
+        simple::TRUE => Ok(Part::Whole(Value::Bool(true))),
+        simple::NULL | simple::UNDEFINED => Ok(Part::Whole(Value::Null)),
         _ => Err(Error::Semantic(Some(offset), Kind::Simple)),
     }
 }
@@ -72,22 +72,23 @@ fn read_string<R, A: Access<R>>(
     is_text: bool,
     len: Option<usize>,
     failure: &mut Option<io::Error>,
-) -> Result<Value, BareReadError>
+) -> Result<Part, BareReadError>
     requires { pushed_of decoder.old ≡ None }
     ensures same_reader { HasSameReader decoder.old decoder.new }
     ensures pushed { pushed_of decoder.new ≡ None }
     ensures fewer { OnOk result (heads_left decoder.new ≤ heads_left decoder.old) }
+    ensures whole { IfOk result IsWhole }
     ensures ended { IfErr result
         (λ e. HasEndedAfter A.can_fail A.remaining decoder.new e) }
     ensures content { TakesBeforeAny A.remaining decoder.old decoder.new
         (λ d e. (xs : List ℕ) (p : ℕ) → IsAt Some d xs p →
-        IsStringRead (string_kind is_text) Some e len (last_of decoder.old) xs p result) }
+        IsStringPart (string_kind is_text) Some e len (last_of decoder.old) xs p result) }
 {
     let Some(size) = len else {
         return append_string(alloc, decoder, scratch, is_text, len, failure);
     };
     match copy_held(alloc, decoder, is_text, size, failure)? {
-        Some(value) => Ok(value),
+        Some(value) => Ok(Part::Whole(value)),
         None => append_string(alloc, decoder, scratch, is_text, len, failure),
     }
 }
@@ -100,25 +101,26 @@ fn append_string<R, A: Access<R>>(
     is_text: bool,
     len: Option<usize>,
     failure: &mut Option<io::Error>,
-) -> Result<Value, BareReadError>
+) -> Result<Part, BareReadError>
     requires { pushed_of decoder.old ≡ None }
     ensures same_reader { HasSameReader decoder.old decoder.new }
     ensures pushed { pushed_of decoder.new ≡ None }
     ensures fewer { OnOk result (heads_left decoder.new ≤ heads_left decoder.old) }
+    ensures whole { IfOk result IsWhole }
     ensures ended { IfErr result
         (λ e. HasEndedAfter A.can_fail A.remaining decoder.new e) }
     ensures content { TakesBeforeAny A.remaining decoder.old decoder.new
         (λ d e. (xs : List ℕ) (p : ℕ) → IsAt Some d xs p →
-        IsStringRead (string_kind is_text) Some e len (last_of decoder.old) xs p result) }
+        IsStringPart (string_kind is_text) Some e len (last_of decoder.old) xs p result) }
 {
     if is_text {
         let mut text = String::new(alloc);
         decoder.text_into_keeping(len, scratch, &mut text, failure)?;
-        return Ok(Value::Text(text));
+        return Ok(Part::Whole(Value::Text(text)));
     }
     let mut bytes = Vec::new(alloc);
     decoder.bytes_into_keeping(len, scratch, &mut bytes, failure)?;
-    Ok(Value::Bytes(bytes))
+    Ok(Part::Whole(Value::Bytes(bytes)))
 }
 
 /// Reads the next part, with this many levels left.
@@ -132,8 +134,7 @@ pub(crate) fn next<S: Rules, R, A: Access<R>>(
 ) -> Result<Part, BareReadError>
     ensures same_reader { HasSameReader decoder.old decoder.new }
     ensures fewer { OnOk result (heads_left decoder.new < heads_left decoder.old) }
-    ensures rests { IfOk result (λ part. IsAtRest part (pushed_of decoder.new)) }
-    ensures room { IfOk result (λ part. HasLevel part levels) }
+    ensures rests { IfOk result (λ part. IsAtRest part levels (pushed_of decoder.new)) }
     ensures ended { IfErr result
         (λ e. HasEndedAfter A.can_fail A.remaining decoder.new e) }
     ensures part { TakesBeforeAny A.remaining decoder.old decoder.new
@@ -147,21 +148,15 @@ pub(crate) fn next<S: Rules, R, A: Access<R>>(
     match header {
         Header::Positive(n) => Ok(Part::Whole(Value::Integer(Integer::from(n)))),
         Header::Negative(n) => Ok(Part::Whole(Value::Integer(Integer::from_head(true, n)))),
-        Header::Bytes(len) => {
-            let value = read_string(alloc, decoder, scratch, false, len, failure)?;
-            Ok(Part::Whole(value))
-        }
-        Header::Text(len) => {
-            let value = read_string(alloc, decoder, scratch, true, len, failure)?;
-            Ok(Part::Whole(value))
-        }
+        Header::Bytes(len) => read_string(alloc, decoder, scratch, false, len, failure),
+        Header::Text(len) => read_string(alloc, decoder, scratch, true, len, failure),
         Header::Array(count) => begin_container(alloc, false, count, levels),
         Header::Map(count) => begin_container(alloc, true, count, levels),
         Header::Tag(tag) => {
             let offset = decoder.last_offset();
             read_tag::<S, R, A>(alloc, decoder, tag, offset, levels, failure)
         }
-        Header::Simple(n) => Ok(Part::Whole(read_simple(n, decoder.last_offset())?)),
+        Header::Simple(n) => read_simple(n, decoder.last_offset()),
         Header::Float(_) => Err(Error::Semantic(Some(decoder.last_offset()), Kind::Float)),
         Header::Break => Ok(Part::Ended),
     }

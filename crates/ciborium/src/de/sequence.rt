@@ -2,7 +2,7 @@
 
 ghost use Rattle.std.specs.Prelude.{Some, map};
 ghost use Rattle.ciborium_ll.specs.Accesses.{left_at_failure};
-ghost use Rattle.ciborium_value.specs.View.{read_as};
+ghost use Rattle.ciborium_value.specs.View.{result_map};
 ghost use Rattle.ciborium.specs.SequenceReads.{RefusesSequence, TakesSequence};
 ghost use Rattle.ciborium.specs.TypedAnswers.{TakesBeginning};
 
@@ -17,10 +17,10 @@ fn read_items<T: Deserialize, R, A: Access<R>>(
     reader: &mut R,
 ) -> Result<Vec<T>, Error<io::Error>>
     ensures ok { TakesSequence (Some 256) T.reading.taken (A.remaining reader.old)
-        (A.remaining reader.new) (read_as (λ vs. map T.reading.content vs.items) result) }
+        (A.remaining reader.new) (result_map (λ vs. map T.reading.content vs.items) result) }
     ensures refused { RefusesSequence (Some 256) T.reading.taken (A.remaining reader.old)
         (left_at_failure A.can_fail (A.remaining reader.new))
-        (read_as (λ vs. map T.reading.content vs.items) result) }
+        (result_map (λ vs. map T.reading.content vs.items) result) }
     ensures taken { TakesBeginning (A.remaining reader.old) (A.remaining reader.new) }
 {
     let mut scratch = [0u8; SCRATCH_SIZE];
@@ -55,10 +55,10 @@ pub fn read_sequence<T: Deserialize, R: Read>(
 ) -> Result<Vec<T>, Error<io::Error>>
     // All of the known bytes were a sequence that gives the values, and none are left.
     ensures ok { TakesSequence (Some 256) T.reading.taken (R.remaining reader.old)
-        (R.remaining reader.new) (read_as (λ vs. map T.reading.content vs.items) result) }
+        (R.remaining reader.new) (result_map (λ vs. map T.reading.content vs.items) result) }
     // Behind items that give values, the next one is refused as it is.
     ensures refused { RefusesSequence (Some 256) T.reading.taken (R.remaining reader.old)
-        (R.remaining reader.new) (read_as (λ vs. map T.reading.content vs.items) result) }
+        (R.remaining reader.new) (result_map (λ vs. map T.reading.content vs.items) result) }
     // Refused or not, a prefix of what was there was taken, and nothing else.
     ensures taken { TakesBeginning (R.remaining reader.old) (R.remaining reader.new) }
 {
@@ -76,9 +76,9 @@ pub fn read_buf_sequence<T: Deserialize, R: BufRead>(
 ) -> Result<Vec<T>, Error<io::Error>>
     // The same as of `read_sequence`.
     ensures ok { TakesSequence (Some 256) T.reading.taken (R.remaining reader.old)
-        (R.remaining reader.new) (read_as (λ vs. map T.reading.content vs.items) result) }
+        (R.remaining reader.new) (result_map (λ vs. map T.reading.content vs.items) result) }
     ensures refused { RefusesSequence (Some 256) T.reading.taken (R.remaining reader.old)
-        (R.remaining reader.new) (read_as (λ vs. map T.reading.content vs.items) result) }
+        (R.remaining reader.new) (result_map (λ vs. map T.reading.content vs.items) result) }
     ensures taken { TakesBeginning (R.remaining reader.old) (R.remaining reader.new) }
 {
     read_items::<T, R, Buffered>(alloc, reader)

@@ -5,7 +5,7 @@ ghost use Rattle.ciborium_ll.specs.Decoding.{HasSameReader, TakesBeforeAny, push
 ghost use Rattle.ciborium_ll.specs.declared.header.Header.TheVariants as header;
 ghost use Rattle.ciborium_value.specs.Meaning.{is_bignum_tag};
 ghost use Rattle.ciborium.specs.inner.ValuesInBytes.{HasEndedAfter};
-ghost use Rattle.ciborium.specs.inner.Parts.{HasLevel, IsAtRest, IsBignumRead, IsFolded, IsFolding};
+ghost use Rattle.ciborium.specs.inner.Parts.{IsAtRest, IsBignumRead, IsFolded, IsFolding};
 ghost use Rattle.ciborium.specs.inner.Parts.{IsHeadAccepted, IsPartRead};
 ghost use Rattle.ciborium.specs.inner.ValuesInBytes.{IsAt, heads_left};
 
@@ -92,8 +92,7 @@ pub(crate) fn read_tag<S: Rules, R, A: Access<R>>(
     requires { pushed_of decoder.old ≡ None }
     ensures same_reader { HasSameReader decoder.old decoder.new }
     ensures fewer { OnOk result (heads_left decoder.new ≤ heads_left decoder.old) }
-    ensures rests { IfOk result (λ part. IsAtRest part (pushed_of decoder.new)) }
-    ensures room { IfOk result (λ part. HasLevel part levels) }
+    ensures rests { IfOk result (λ part. IsAtRest part levels (pushed_of decoder.new)) }
     ensures ended { IfErr result
         (λ e. HasEndedAfter A.can_fail A.remaining decoder.new e) }
     ensures part { TakesBeforeAny A.remaining decoder.old decoder.new

@@ -1,10 +1,10 @@
 -- What stands at the front of bytes that are held.
 use Rattle.std.specs.Prelude.{◌≡◌, ℕ, ◌/◌, ◌%◌, ◌<◌, ◌≤◌, ◌⊎◌, true, false, List, [], ◌∷◌, length, take, Some}
-use Rattle.ciborium_ll.specs.{declared.item_heads.Front.Front, declared.item_heads.Front.TheVariants.{Head, IllFormed}}
-use Rattle.ciborium_ll.specs.{declared.item_heads.Front.TheVariants.Cut, declared.header.Header.Header}
-use Rattle.ciborium_ll.specs.{declared.header.Header.TheVariants.{Bytes, Text}, declared.item_heads.Payload.Payload}
-use Rattle.ciborium_ll.specs.{declared.levels.Level.Level, Bytes.AreBytes, Header.SpellsHeader, ItemLengths.BeginText}
-use Rattle.ciborium_ll.specs.{ItemLengths.chunk_major, Levels.IsPayloadOf, Refusal.{argument_length, is_ill_formed}}
+use Rattle.ciborium_ll.specs.{Bytes.AreBytes, Header.{SpellsHeader, is_ill_formed}, ItemLengths.BeginText}
+use Rattle.ciborium_ll.specs.{ItemLengths.chunk_major, Levels.IsPayloadOf, Refusal.argument_length}
+use Rattle.ciborium_ll.specs.declared.{header.Header.{Header, TheVariants.{Bytes, Text}}, item_heads.Front.Front}
+use Rattle.ciborium_ll.specs.declared.item_heads.{Front.TheVariants.{Head, IllFormed, Cut}, Payload.Payload}
+use Rattle.ciborium_ll.specs.declared.levels.Level.{Level}
 use Rattle.ciborium_ll.specs.declared.item_heads.Payload.TheVariants as payload
 
 -- the bytes end before a head does that may begin with them

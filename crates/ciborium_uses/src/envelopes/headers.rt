@@ -1,7 +1,8 @@
 //! What holds of the two headers of a message together, and of the labels that are critical.
 
 ghost use Rattle.std.specs.Prelude.{◌≡◌, IfErr, IfOk, Some, is_none, is_ok};
-ghost use Rattle.ciborium.specs.View.{tree_of, trees_of};
+ghost use Rattle.ciborium.specs.ValueLists.{trees_of};
+ghost use Rattle.ciborium.specs.View.{tree_of};
 ghost use Rattle.ciborium_uses.specs.Envelopes.{AreHeaders, are_apart, are_critical, entries_of};
 ghost use Rattle.ciborium_uses.specs.Envelopes.{entry_trees, is_crit, is_understood, value_at};
 

@@ -1,19 +1,24 @@
 -- The levels of a text while it is read.
-use Rattle.std.proofs.Common.{true, ◌≡◌, ◌≢◌, ◌<◌, ◌≤◌, IfErr, IfOk, Ok, Err, Result, refl, ℕ, Vec, Global, Box, length}
+use Rattle.std.proofs.Common.{true, ◌≡◌, ◌≢◌, ◌<◌, ◌≤◌, Ok, Err, Result, refl, ℕ, Vec, Global, Box, length}
 use Rattle.std.proofs.{Common.{arith, List, [], ◌∷◌, ◌++◌, map, reverse, ap, ◌∙◌, subst, sym}, lemmas.List.length-map}
-use Rattle.std.proofs.lemmas.List.{length-reverse, map-append, reverse-append}
+use Rattle.std.proofs.lemmas.List.{length-append, length-reverse, map-append, reverse-append}
 use Rattle.ciborium_value.proofs.Denoting.Steps.{Begun, first-item, first-key, first_leads, key_leads, leads-array}
 use Rattle.ciborium_value.proofs.Denoting.Steps.{leads-comma, leads-end, leads-leaf, leads-map, leads-map-end}
 use Rattle.ciborium_value.proofs.Denoting.Steps.{leads-next-key, leads-no-item, leads-no-pair, leads-tag, leads-tag-end}
+use Rattle.ciborium_value.proofs.Denoting.Steps.{leads-value, one-token, other-behind-item, other-behind-value}
 use Rattle.ciborium_value.proofs.{Denoting.Steps.enters-deeper, Trees.Views.{tree_of-Array, tree_of-Map, tree_of-Tag}}
-use Rattle.ciborium_value.specs.{Denotes.At, Tokens.Token, Tree.Tree, View.{pair_trees, tree_of, tree_pairs_from}}
-use Rattle.ciborium_value.specs.{View.trees_from, declared.from_notation.error.NotationError.NotationError}
+use Rattle.ciborium_value.specs.{Denotes.At, Tokens.Token, Tree.Tree, ValueLists.pair_trees, View.tree_of}
+use Rattle.ciborium_value.specs.View.{tree_pairs_from, trees_from}
+use Rattle.ciborium_value.specs.declared.from_notation.error.NotationError.{NotationError}
+use Rattle.ciborium_value.specs.declared.from_notation.error.NotationFault.TheVariants.{ArrayEnd, Colon, MapEnd, TagEnd}
 use Rattle.ciborium_value.specs.declared.from_notation.{error.NotationFault.TheVariants.TooDeep, levels.Due.Due}
 use Rattle.ciborium_value.specs.declared.from_notation.{levels.Level.Level, tokens.Token.Token as Read}
 use Rattle.ciborium_value.specs.{declared.tree.Value.Value, inner.ReadTokens.{Around, Await, Leads, around_of, behind}}
-use Rattle.ciborium_value.specs.inner.ReadTokens.{in_array, in_keys, item, Completes, IsMisplaced, IsRoom, array_part}
-use Rattle.ciborium_value.specs.inner.ReadTokens.{await_of, in_tag, in_values, map_part, enters, token_read}
+use Rattle.ciborium_value.specs.inner.ReadTokens.{in_array, in_keys, item, Completes, IsMisplaced, IsRoom, Makes, Takes}
+use Rattle.ciborium_value.specs.inner.ReadTokens.{array_part, await_of, in_tag, in_values, map_part, enters, token_read}
+use Rattle.ciborium_value.specs.declared.from_notation.levels.Due.TheVariants as due
 use Rattle.ciborium_value.specs.declared.from_notation.levels.Level.TheVariants as level
+use Rattle.ciborium_value.specs.declared.from_notation.levels.Step.TheVariants as step
 use Rattle.ciborium_value.specs.declared.from_notation.tokens.Token.TheVariants as read
 use Rattle.ciborium_value.specs.declared.tree.Value.TheViews as value
 use Rattle.ciborium_value.specs.Tokens as tokens
@@ -36,51 +41,101 @@ leads_as levels due {l = l} {more = more} {now = now} {next = next} e f g h =
     subst (Leads levels due l now) g (subst (λ x. Leads levels due l x next) f
     (subst (λ x. Leads levels due x more next) e h))
 
--- ---- behind an item of the innermost level, which was taken off
+-- ---- what a token makes of a level behind an item in it
 
-pub array_comma : (ws : List Value) (w : Value) (ls more : List Level) (items : Vec Value Global) (k : Read) →
-    k ≡ read.Comma → items.items ≡ ws ++ w ∷ [] → more ≡ ls ++ level.Array items ∷ [] →
-    Leads (in_array (map tree_of ws) ∷ map around_of (reverse ls)) (behind (tree_of w)) (token_read k)
-    (map around_of (reverse more)) item
-array_comma ws w ls more items k comma same pushed = leads_as _ _ (ap token_read (sym comma))
-    (sym (entered ls more (level.Array items) pushed ∙ ap (λ (x : List Tree). in_array x ∷ map around_of (reverse ls))
-    (ap (map tree_of) same ∙ map-append tree_of ws (w ∷ [])))) refl
-    (leads-comma (map around_of (reverse ls)) (map tree_of ws) (tree_of w))
+pub array_comma : (ws : List Value) (w : Value) (items : Vec Value Global) (k : Read) → k ≡ read.Comma →
+    items.items ≡ ws ++ w ∷ [] →
+    Makes (in_array (map tree_of ws)) (tree_of w) (token_read k) (Ok (step.More (level.Array items)))
+array_comma ws w items k comma same levels = leads_as _ _ (ap token_read (sym comma))
+    (ap (λ (x : List Tree). in_array x ∷ levels) (sym (ap (map tree_of) same ∙ map-append tree_of ws (w ∷ [])))) refl
+    (leads-comma levels (map tree_of ws) (tree_of w))
 
-pub array_end : (ws : List Value) (w : Value) (levels : List Around) (items : Vec Value Global) (k : Read) →
-    k ≡ read.EndArray → items.items ≡ ws ++ w ∷ [] → Leads (in_array (map tree_of ws) ∷ levels)
-    (behind (tree_of w)) (token_read k) levels (behind (tree_of (value.Array items)))
-array_end ws w levels items k end same = leads_as _ _ (ap token_read (sym end)) refl
+pub array_end : (ws : List Value) (w : Value) (items : Vec Value Global) (k : Read) → k ≡ read.EndArray →
+    items.items ≡ ws ++ w ∷ [] →
+    Makes (in_array (map tree_of ws)) (tree_of w) (token_read k) (Ok (step.End (value.Array items)))
+array_end ws w items k end same levels = leads_as _ _ (ap token_read (sym end)) refl
     (sym (ap behind (tree_of-Array items ∙
     ap (λ x. trees.array (trees_from x)) (ap (map tree_of) same ∙ map-append tree_of ws (w ∷ [])))))
     (leads-end levels (map tree_of ws) (tree_of w))
 
-pub value_comma : (ps : List (Value × Value)) (key w : Value) (ls more : List Level)
-    (pairs : Vec (Value × Value) Global) (k : Read) → k ≡ read.Comma → pairs.items ≡ ps ++ (key, w) ∷ [] →
-    more ≡ ls ++ level.Keys pairs ∷ [] →
-    Leads (in_values (map pair_trees ps) (tree_of key) ∷ map around_of (reverse ls)) (behind (tree_of w)) (token_read k)
-    (map around_of (reverse more)) item
-value_comma ps key w ls more pairs k comma same pushed = leads_as _ _ (ap token_read (sym comma))
-    (sym (entered ls more (level.Keys pairs) pushed ∙
-    ap (λ (x : List (Tree × Tree)). in_keys x ∷ map around_of (reverse ls))
-    (ap (map pair_trees) same ∙ map-append pair_trees ps ((key, w) ∷ [])))) refl
-    (leads-next-key (map around_of (reverse ls)) (map pair_trees ps) (tree_of key) (tree_of w))
+pub array_other : (ws : List Tree) (w : Tree) (p : ℕ) (k : Read) → k ≢ read.Comma → k ≢ read.EndArray →
+    Makes (in_array ws) w (token_read k) (Err (At p ArrayEnd))
+array_other ws w p read.Comma f g = absurd (f refl)
+array_other ws w p read.EndArray f g = absurd (g refl)
+array_other ws w p k f g = λ levels limit l t r v at (m, i, (vs, z, b, more)).
+    other-behind-item m (token_read k) t r z vs (λ e. cc e) (λ e. cc e) at b
 
-pub map_end : (ps : List (Value × Value)) (key w : Value) (levels : List Around)
-    (pairs : Vec (Value × Value) Global) (k : Read) → k ≡ read.EndMap → pairs.items ≡ ps ++ (key, w) ∷ [] →
-    Leads (in_values (map pair_trees ps) (tree_of key) ∷ levels) (behind (tree_of w)) (token_read k) levels
-    (behind (tree_of (value.Map pairs)))
-map_end ps key w levels pairs k end same = leads_as _ _ (ap token_read (sym end)) refl
+pub key_colon : (ps : List (Value × Value)) (w : Value) (pairs : Vec (Value × Value) Global) (k : Read) →
+    k ≡ read.Colon → pairs.items ≡ ps →
+    Makes (in_keys (map pair_trees ps)) (tree_of w) (token_read k) (Ok (step.More (level.Values pairs w)))
+key_colon ps w pairs k e same levels = leads_as _ _ (ap token_read (sym e))
+    (ap (λ (x : List (Value × Value)). in_values (map pair_trees x) (tree_of w) ∷ levels) (sym same)) refl
+    (leads-value levels (map pair_trees ps) (tree_of w))
+
+pub key_other : (qs : List (Tree × Tree)) (w : Tree) (p : ℕ) (k : Read) → k ≢ read.Colon →
+    Makes (in_keys qs) w (token_read k) (Err (At p Colon))
+key_other qs w p read.Colon f = absurd (f refl)
+key_other qs w p k f = λ levels limit l t r v at (m, i, (y, s, u, ps, z, is, d, b, more)).
+    absurd (cc (one-token t (token_read k) tokens.colon r s at is).0)
+
+pub value_comma : (ps : List (Value × Value)) (key w : Value) (pairs : Vec (Value × Value) Global) (k : Read) →
+    k ≡ read.Comma → pairs.items ≡ ps ++ (key, w) ∷ [] →
+    Makes (in_values (map pair_trees ps) (tree_of key)) (tree_of w) (token_read k) (Ok (step.More (level.Keys pairs)))
+value_comma ps key w pairs k comma same levels = leads_as _ _ (ap token_read (sym comma))
+    (ap (λ (x : List (Tree × Tree)). in_keys x ∷ levels)
+    (sym (ap (map pair_trees) same ∙ map-append pair_trees ps ((key, w) ∷ [])))) refl
+    (leads-next-key levels (map pair_trees ps) (tree_of key) (tree_of w))
+
+pub map_end : (ps : List (Value × Value)) (key w : Value) (pairs : Vec (Value × Value) Global) (k : Read) →
+    k ≡ read.EndMap → pairs.items ≡ ps ++ (key, w) ∷ [] →
+    Makes (in_values (map pair_trees ps) (tree_of key)) (tree_of w) (token_read k) (Ok (step.End (value.Map pairs)))
+map_end ps key w pairs k end same levels = leads_as _ _ (ap token_read (sym end)) refl
     (sym (ap behind (tree_of-Map pairs ∙ ap (λ x. trees.map (tree_pairs_from x))
     (ap (map pair_trees) same ∙ map-append pair_trees ps ((key, w) ∷ [])))))
     (leads-map-end levels (map pair_trees ps) (tree_of key) (tree_of w))
 
-pub content_end : (n : ℕ) (w : Value) (content : Box Value Global) (levels : List Around) (k : Read) →
-    k ≡ read.EndTag → content.value ≡ w →
-    Leads (in_tag n ∷ levels) (behind (tree_of w)) (token_read k) levels (behind (tree_of (value.Tag n content)))
-content_end n w content levels k end same = leads_as _ _ (ap token_read (sym end)) refl
+pub value_other : (qs : List (Tree × Tree)) (key w : Tree) (p : ℕ) (k : Read) → k ≢ read.Comma → k ≢ read.EndMap →
+    Makes (in_values qs key) w (token_read k) (Err (At p MapEnd))
+value_other qs key w p read.Comma f g = absurd (f refl)
+value_other qs key w p read.EndMap f g = absurd (g refl)
+value_other qs key w p k f g = λ levels limit l t r v at (m, i, (ps, z, b, more)).
+    other-behind-value m (token_read k) t r z ps (λ e. cc e) (λ e. cc e) at b
+
+pub content_end : (n : ℕ) (w : Value) (content : Box Value Global) (k : Read) → k ≡ read.EndTag → content.value ≡ w →
+    Makes (in_tag n) (tree_of w) (token_read k) (Ok (step.End (value.Tag n content)))
+content_end n w content k end same levels = leads_as _ _ (ap token_read (sym end)) refl
     (sym (ap behind (tree_of-Tag n content ∙ ap (λ x. trees.tag n (tree_of x)) same)))
     (leads-tag-end levels n (tree_of w))
+
+pub content_other : (n : ℕ) (w : Tree) (p : ℕ) (k : Read) → k ≢ read.EndTag →
+    Makes (in_tag n) w (token_read k) (Err (At p TagEnd))
+content_other n w p read.EndTag f = absurd (f refl)
+content_other n w p k f = λ levels limit l t r v at (m, i, (s, is, more)).
+    absurd (cc (one-token t (token_read k) tokens.end_tag r s at is).0)
+
+-- ---- behind an item of the innermost level, which was taken off
+
+pub more_due : (limit : ℕ) (ls rest more : List Level) (level next : Level) (w : Tree) (k : Token) →
+    ls ≡ rest ++ level ∷ [] → more ≡ rest ++ next ∷ [] → Makes (around_of level) w k (Ok (step.More next)) →
+    Takes limit ls (behind w) k more (Ok due.Item)
+more_due limit ls rest more level next w k popped pushed h = (
+  rw (entered rest ls level popped, entered rest more next pushed) (h (map around_of (reverse rest))),
+  rw (popped, pushed, length-append rest (level ∷ []), length-append rest (next ∷ [])) (λ fits. fits),
+)
+
+pub level_ended : (limit : ℕ) (ls rest : List Level) (level : Level) (v : Value) (w : Tree) (k : Token) →
+    ls ≡ rest ++ level ∷ [] → Makes (around_of level) w k (Ok (step.End v)) →
+    Takes limit ls (behind w) k rest (Ok (due.Behind v))
+level_ended limit ls rest level v w k popped h = (
+  rw (entered rest ls level popped) (h (map around_of (reverse rest))),
+  rw (popped, length-append rest (level ∷ [])) (λ fits. omega (arith, fits)),
+)
+
+pub misplaced_behind : (limit : ℕ) (ls rest : List Level) (level : Level) (w : Tree) (k : Token) (e : NotationError) →
+    ls ≡ rest ++ level ∷ [] → Makes (around_of level) w k (Err e) →
+    IsMisplaced (map around_of (reverse ls)) (behind w) k limit e
+misplaced_behind limit ls rest level w k e popped h =
+    rw (entered rest ls level popped) (h (map around_of (reverse rest)) limit)
 
 -- ---- how many are unfinished
 
@@ -149,39 +204,27 @@ map_entered : (ls begun : List Level) (pairs : Vec (Value × Value) Global) → 
 map_entered ls begun pairs none pushed = entered ls begun (level.Keys pairs) pushed ∙
     ap (λ (x : List (Value × Value)). in_keys (map pair_trees x) ∷ map around_of (reverse ls)) none
 
-pub first_taken : (ls begun : List Level) (items : Vec Value Global) (k : Read) (more : List Around)
+pub first_taken : (limit : ℕ) (ls begun more : List Level) (items : Vec Value Global) (k : Read)
     (r : Result Due NotationError) → k ≢ read.EndArray → items.items ≡ [] → begun ≡ ls ++ level.Array items ∷ [] →
-    IfOk r (λ next. Leads (map around_of (reverse begun)) item (token_read k) more (await_of next)) →
-    IfOk r (λ next. Leads (map around_of (reverse ls)) array_part (token_read k) more (await_of next))
-first_taken ls begun items k more (Err e) other none pushed h = tt
-first_taken ls begun items k more (Ok next) other none pushed h =
-    first_leads (map around_of (reverse ls)) more (token_read k) (await_of next) (not_array_end k other)
-    (subst (λ o. Leads o item (token_read k) more (await_of next)) (array_entered ls begun items none pushed) h)
-
-pub first_misplaced : (ls begun : List Level) (items : Vec Value Global) (k : Read) (limit : ℕ)
-    (r : Result Due NotationError) → k ≢ read.EndArray → items.items ≡ [] → begun ≡ ls ++ level.Array items ∷ [] →
-    IfErr r (IsMisplaced (map around_of (reverse begun)) item (token_read k) limit) →
-    IfErr r (IsMisplaced (map around_of (reverse ls)) array_part (token_read k) limit)
-first_misplaced ls begun items k limit (Ok next) other none pushed h = tt
-first_misplaced ls begun items k limit (Err e) other none pushed h = λ l t r v at c.
+    Takes limit begun item (token_read k) more r → Takes limit ls array_part (token_read k) more r
+first_taken limit ls begun more items k (Ok next) other none pushed (leads, room) = (
+  first_leads (map around_of (reverse ls)) (map around_of (reverse more)) (token_read k) (await_of next)
+      (not_array_end k other) (rw (array_entered ls begun items none pushed) at leads),
+  λ fits. room (rw (pushed, length-append ls (level.Array items ∷ [])) (omega (arith, fits))),
+)
+first_taken limit ls begun more items k (Err e) other none pushed h = λ l t r v at c.
     h l t r v at (subst (λ o. Completes l o item t v) (sym (array_entered ls begun items none pushed))
     (first-item l (map around_of (reverse ls)) (token_read k) t r v (not_array_end k other) at c))
 
-pub key_taken : (ls begun : List Level) (pairs : Vec (Value × Value) Global) (k : Read) (more : List Around)
+pub key_taken : (limit : ℕ) (ls begun more : List Level) (pairs : Vec (Value × Value) Global) (k : Read)
     (r : Result Due NotationError) → k ≢ read.EndMap → pairs.items ≡ [] → begun ≡ ls ++ level.Keys pairs ∷ [] →
-    IfOk r (λ next. Leads (map around_of (reverse begun)) item (token_read k) more (await_of next)) →
-    IfOk r (λ next. Leads (map around_of (reverse ls)) map_part (token_read k) more (await_of next))
-key_taken ls begun pairs k more (Err e) other none pushed h = tt
-key_taken ls begun pairs k more (Ok next) other none pushed h =
-    key_leads (map around_of (reverse ls)) more (token_read k) (await_of next) (not_map_end k other)
-    (subst (λ o. Leads o item (token_read k) more (await_of next)) (map_entered ls begun pairs none pushed) h)
-
-pub key_misplaced : (ls begun : List Level) (pairs : Vec (Value × Value) Global) (k : Read) (limit : ℕ)
-    (r : Result Due NotationError) → k ≢ read.EndMap → pairs.items ≡ [] → begun ≡ ls ++ level.Keys pairs ∷ [] →
-    IfErr r (IsMisplaced (map around_of (reverse begun)) item (token_read k) limit) →
-    IfErr r (IsMisplaced (map around_of (reverse ls)) map_part (token_read k) limit)
-key_misplaced ls begun pairs k limit (Ok next) other none pushed h = tt
-key_misplaced ls begun pairs k limit (Err e) other none pushed h = λ l t r v at c.
+    Takes limit begun item (token_read k) more r → Takes limit ls map_part (token_read k) more r
+key_taken limit ls begun more pairs k (Ok next) other none pushed (leads, room) = (
+  key_leads (map around_of (reverse ls)) (map around_of (reverse more)) (token_read k) (await_of next)
+      (not_map_end k other) (rw (map_entered ls begun pairs none pushed) at leads),
+  λ fits. room (rw (pushed, length-append ls (level.Keys pairs ∷ [])) (omega (arith, fits))),
+)
+key_taken limit ls begun more pairs k (Err e) other none pushed h = λ l t r v at c.
     h l t r v at (subst (λ o. Completes l o item t v) (sym (map_entered ls begun pairs none pushed))
     (first-key l (map around_of (reverse ls)) (token_read k) t r v (not_map_end k other) at c))
 
@@ -192,12 +235,6 @@ pub too_deep : (ls : List Level) (k : Read) (limit : ℕ) (place : ℕ) → ente
 too_deep ls k limit place entered full = λ l t r v at c.
     let h = enters-deeper l (map around_of (reverse ls)) (token_read k) t r v entered at c in
     let count = open_count ls in omega (arith, h, full, count)
-
--- an answer of which more is known, where less is asked
-pub room_from : {A C : Type 0} (B : Due → Type 0) (r : Result Due NotationError) → IfOk r (λ next. A → B next) →
-    (C → A) → IfOk r (λ next. C → B next)
-room_from B (Ok next) h f = λ c. h (f c)
-room_from B (Err e) h f = tt
 
 -- room behind a token, said of what is unfinished
 pub room_next : (limit most : ℕ) (ls more : List Level) (due next : Await) → limit ≡ most →

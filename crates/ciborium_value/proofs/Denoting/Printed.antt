@@ -9,18 +9,18 @@ use Rattle.std.specs.{Fmt.signed_decimal, List.{flat_map, repeat}, Str.Parse.{Al
 use Rattle.std.specs.Str.Parse.{digits_value}
 use Rattle.hex.specs.Hex.{encode_lower, encode_with, lower_digits}
 use Rattle.ciborium_value.proofs.Denoting.{OneTree.one_tree_is_denoted, Texts.{plain_byte, unit_character, utf8_token}}
-use Rattle.ciborium_value.specs.Denotes.{Begins, BeginsItems, BeginsPairs, DenotesWithin, IsSeparated, IsToken, alone}
-use Rattle.ciborium_value.specs.Denotes.{depth, depth_of_items, depth_of_pairs, item, listed, mapped, no_item, no_pair}
-use Rattle.ciborium_value.specs.{Denotes.{pair, tagged}, Notation.{comma as comma_text, escape, escaped, last_break}}
-use Rattle.ciborium_value.specs.Notation.{line_break, needs_escape, notation_on, notations_on, one_level_more}
-use Rattle.ciborium_value.specs.{Notation.{pair_notations_on, styled_notation}, ProperTrees.AreProperTreePairs}
-use Rattle.ciborium_value.specs.{ProperTrees.{AreProperTrees, IsProperTree}, Tokens.{Token, begin_array, begin_map}}
-use Rattle.ciborium_value.specs.Tokens.{begin_tag, begins_float, behind, behind_blanks, colon, comma, digit_of}
-use Rattle.ciborium_value.specs.Tokens.{digits_behind, end_array, end_map, end_tag, hex_at, is_white, leaf, prepended}
-use Rattle.ciborium_value.specs.Tokens.{text_at, token_at, unsigned_at, whole_at, digits_at, is_high, minus_token}
-use Rattle.ciborium_value.specs.Tokens.{number_token, one_digit_more, plus_token, text_token, token_of, unit_in}
-use Rattle.ciborium_value.specs.Tree.{Tree, TreePairs, Trees, tree_pairs_count, trees_count}
-use Rattle.ciborium_value.specs.laws.NotationLaws.{PrintedAlikeIsEqual, PrintedIsDenoted}
+use Rattle.ciborium_value.specs.{Counts.{tree_pairs_count, trees_count}, Denotes.{Begins, BeginsItems, BeginsPairs}}
+use Rattle.ciborium_value.specs.Denotes.{DenotesWithin, IsSeparated, IsToken, alone, depth, depth_of_items}
+use Rattle.ciborium_value.specs.Denotes.{depth_of_pairs, item, listed, mapped, no_item, no_pair, pair, tagged}
+use Rattle.ciborium_value.specs.Notation.{comma as comma_text, escape, escaped, last_break, line_break, needs_escape}
+use Rattle.ciborium_value.specs.Notation.{notation_on, notations_on, one_level_more, pair_notations_on, styled_notation}
+use Rattle.ciborium_value.specs.{ProperTrees.{AreProperTreePairs, AreProperTrees, IsProperTree}, Tokens.Token}
+use Rattle.ciborium_value.specs.Tokens.{begin_array, begin_map, begin_tag, begins_float, behind, behind_blanks, colon}
+use Rattle.ciborium_value.specs.Tokens.{comma, digit_of, digits_behind, end_array, end_map, end_tag, hex_at, is_white}
+use Rattle.ciborium_value.specs.Tokens.{leaf, prepended, text_at, token_at, unsigned_at, whole_at, digits_at, is_high}
+use Rattle.ciborium_value.specs.Tokens.{minus_token, number_token, one_digit_more, plus_token, text_token, token_of}
+use Rattle.ciborium_value.specs.{Tokens.unit_in, Tree.{Tree, TreePairs, Trees}, laws.NotationLaws.PrintedAlikeIsEqual}
+use Rattle.ciborium_value.specs.laws.NotationLaws.{PrintedIsDenoted}
 use Rattle.ciborium_ll.specs.Integer.{IsInRange}
 use Rattle.ciborium_value.specs.Tree as trees
 

@@ -256,6 +256,14 @@ leads-end levels ws w = record {
     whole : trees.array (trees_before ws (trees.tree w trees.no_trees)) ≡ trees.array (trees_from (ws ++ w ∷ []))
     whole = ap trees.array (sym (trees-behind ws w trees.no_trees) ∙ trees-whole (ws ++ w ∷ []))
 
+pub leads-value : (levels : List Around) (qs : List (Tree × Tree)) (w : Tree) →
+    Leads (in_keys qs ∷ levels) (behind w) colon (in_values qs w ∷ levels) item
+leads-value levels qs w = record {
+  on = λ l t r x at (m, i, (y, s, u, ps, z, is, d, b, c)).
+      (m, i, y, u, subst (λ q. Begins m q y u) (sym (one-token t colon colon r s at is).1) d, (ps, z, b, c));
+  back = λ l t r x _ at (m, i, y, u, d, (ps, z, b, c)). (m, i, (y, r, u, ps, z, at, d, b, c));
+}
+
 pub leads-next-key : (levels : List Around) (qs : List (Tree × Tree)) (k w : Tree) →
     Leads (in_values qs k ∷ levels) (behind w) comma (in_keys (qs ++ (k, w) ∷ []) ∷ levels) item
 leads-next-key levels qs k w = record {

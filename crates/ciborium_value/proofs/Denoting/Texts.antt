@@ -7,7 +7,8 @@ use Rattle.std.proofs.{lemmas.Str.{IsUtf8-from_is_utf8, is_utf8-from_IsUtf8}, le
 use Rattle.std.specs.{Char.{InScalarRange, OutOfScalarRange}, Str.is_utf8}
 use Rattle.ciborium_value.specs.{Notation.{IsPlain, needs_escape}, Tokens.{digit_of, digits_at, digits_behind, is_high}}
 use Rattle.ciborium_value.specs.Tokens.{is_low, leaf, low_at, low_unit_at, paired, prepended, text_at, text_token}
-use Rattle.ciborium_value.specs.{Tokens.{unit_at, unit_in, unit_of}, inner.ReadTokens.IsNoNumber}
+use Rattle.ciborium_value.specs.Tokens.{Token, mark_of, token_at, unit_at, unit_in, unit_of}
+use Rattle.ciborium_value.specs.{inner.ReadTokens.IsNoNumber}
 use Rattle.ciborium_value.specs.Tree as trees
 
 -- ---- units
@@ -188,3 +189,8 @@ front_of (b ∷ t) some = refl
 -- a text by its first byte and what follows that
 pub begins : (b : ℕ) (t : List ℕ) → 1 ≤ length t → get_or t 0 0 ≡ b → t ≡ b ∷ take (length t - 1) (drop 1 t)
 begins b t some e = front_of t some ∙ ap (λ x. x ∷ drop 1 t) e ∙ ap (λ r. b ∷ r) (sym (whole_rest 1 t))
+
+-- ---- marks
+
+pub mark_token : (b : ℕ) (t : List ℕ) (k : Token) → mark_of b ≡ Some k → token_at (b ∷ t) ≡ Some (k, t)
+mark_token b t k e = search (rules, e)

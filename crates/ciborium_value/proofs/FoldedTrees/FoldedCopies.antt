@@ -9,11 +9,12 @@ use Rattle.ciborium_value.specs.Given.{gives, refuses, of_meaning, outcome, outc
 use Rattle.ciborium_value.specs.{Given.{given_items, given_tree_pairs}, Meaning.{tag_meaning, trees_more}}
 use Rattle.ciborium_value.specs.{Meaning.{tree_pairs_more, simple_meaning}, Sources.{Fault, of_kind, of_nesting}}
 use Rattle.ciborium_value.specs.{Sources.{of_syntax, of_memory, of_device, of_end, of_length, IsFaultOf}, Tree.Tree}
-use Rattle.ciborium_value.specs.{Tree.{Trees, TreePairs}, View.{tree_of, trees_of, tree_pairs_of, trees_from}}
-use Rattle.ciborium_value.specs.{View.tree_pairs_from, declared.{deserialized.folding.Coming.Coming, tree.Value.Value}}
-use Rattle.ciborium_value.specs.inner.FoldedCopies.{where_folded, copied, pairs_in_turn, nodes_of, IsUnfolded}
-use Rattle.ciborium_value.specs.inner.{FoldedCopies.{path_trees, coming_trees, all_coming}, Frames.{TreeFrame, Placed}}
-use Rattle.ciborium_value.specs.{inner.Frames.{done, more, placed}, lemmas.GivenOutcomes.{pair_first, tree_first}}
+use Rattle.ciborium_value.specs.{Tree.{Trees, TreePairs}, ValueLists.{trees_of, tree_pairs_of}, View.tree_of}
+use Rattle.ciborium_value.specs.{View.{trees_from, tree_pairs_from}, declared.deserialized.folding.Coming.Coming}
+use Rattle.ciborium_value.specs.{declared.tree.Value.Value, inner.FoldedCopies.{where_folded, copied, pairs_in_turn}}
+use Rattle.ciborium_value.specs.inner.FoldedCopies.{nodes_of, IsUnfolded, path_trees, coming_trees, all_coming}
+use Rattle.ciborium_value.specs.{inner.Frames.{TreeFrame, Placed, done, more, placed}, lemmas.GivenOutcomes.pair_first}
+use Rattle.ciborium_value.specs.lemmas.GivenOutcomes.{tree_first}
 use Rattle.ciborium_ll.specs.declared.kind.Kind.{Kind}
 use Rattle.ciborium_value.specs.inner.Frames as frames
 use Rattle.ciborium_value.specs.Tree as trees

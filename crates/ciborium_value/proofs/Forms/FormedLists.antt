@@ -1,9 +1,9 @@
 -- Lists of values that are their own forms.
 use Rattle.std.proofs.Common.{◌≡◌, ℕ, suc, List, take, true, false, Bool}
 use Rattle.std.proofs.Common.{IsTrue, ◌↔◌, sym, ◌∙◌}
-use Rattle.ciborium_value.specs.{inner.OwnForms.{IsFormed, AreFormed, PairsAreFormed}, View.{tree_of, trees_of}}
-use Rattle.ciborium_value.specs.{View.tree_pairs_of, declared.key_order.KeyOrder.KeyOrder, declared.tree.Value.Value}
-use Rattle.ciborium_value.proofs.Trees.Elements.{At, here, behind}
+use Rattle.ciborium_value.{proofs.Trees.Elements.{At, here, behind}, specs.ValueLists.{trees_of, tree_pairs_of}}
+use Rattle.ciborium_value.specs.{View.tree_of, declared.{key_order.KeyOrder.KeyOrder, tree.Value.Value}}
+use Rattle.ciborium_value.specs.inner.OwnForms.{IsFormed, AreFormed, PairsAreFormed}
 
 -- ---- tests
 

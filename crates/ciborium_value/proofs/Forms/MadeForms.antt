@@ -8,8 +8,8 @@ use Rattle.ciborium_value.specs.DeterministicForms.{deterministic_forms, pair_fo
 use Rattle.ciborium_value.specs.{DeterministicForms.{one_pair_more, tag_form}, Folded.tree_folding_bytes, Given.Outcome}
 use Rattle.ciborium_value.specs.{Given.{gives, refuses, then_take, outcome_map, of_meaning}, Meaning.bignum_meaning}
 use Rattle.ciborium_value.specs.{SameContents.{IsAlike, AreAlike, PairsAreAlike}, Tree.{Tree, Trees, TreePairs}}
-use Rattle.ciborium_value.specs.{View.{tree_of, trees_of, tree_pairs_of}, declared.key_order.KeyOrder.KeyOrder}
-use Rattle.ciborium_value.specs.declared.tree.Value.{Value}
+use Rattle.ciborium_value.specs.{ValueLists.{trees_of, tree_pairs_of}, View.tree_of}
+use Rattle.ciborium_value.specs.declared.{key_order.KeyOrder.KeyOrder, tree.Value.Value}
 use Rattle.ciborium_ll.specs.declared.kind.Kind.{Kind}
 use Rattle.ciborium_value.specs.SameContents as same
 use Rattle.ciborium_value.specs.Tree as trees

@@ -2,17 +2,17 @@
 use Rattle.std.proofs.Common.{◌≡◌, ℕ, ◌≤◌, suc, cond, Bool, true, false, leb, List, length, Option, Some, None, refl}
 use Rattle.std.proofs.Common.{ap, ◌∙◌, negsuc, pos, subst}
 use Rattle.ciborium_ll.specs.{Bytes.greatest_offset, ProperItems.IsProperBytes}
+use Rattle.ciborium_value.proofs.Forms.{BignumShapes.short_where_folding, ReorderedPairs.{AreReordered, as_they_are}}
+use Rattle.ciborium_value.proofs.Forms.ReorderedPairs.{behind, neighbours, then_again, sorted-reorders}
+use Rattle.ciborium_value.{proofs.GoodItems.ProperMeanings.proper_bignum, specs.Counts.{trees_count, tree_pairs_count}}
 use Rattle.ciborium_value.specs.DeterministicForms.{sorted_pairs, tag_form, deterministic_form, deterministic_forms}
-use Rattle.ciborium_value.specs.{DeterministicForms.pair_forms, Folded.{short_bytes, tree_folding_bytes}}
-use Rattle.ciborium_value.specs.{laws.FormLaws.FormIsProper, Meaning.bignum_meaning, ProperTrees.IsProperTree}
-use Rattle.ciborium_value.specs.{ProperTrees.{AreProperTrees, AreProperTreePairs}, Given.{gives, then_take}, Tree.Tree}
-use Rattle.ciborium_value.specs.Tree.{integer, bytes, text, boolean, null, tag, array, map, Trees, no_trees, tree}
-use Rattle.ciborium_value.specs.Tree.{trees_count, TreePairs, no_tree_pairs, tree_pair, tree_pairs_count}
-use Rattle.ciborium_value.specs.{declared.key_order.KeyOrder.KeyOrder, lemmas.GivenOutcomes.{one_given, mapped_gives}}
-use Rattle.ciborium_value.specs.lemmas.GivenOutcomes.{then_gives, more_gives, pair_gives, meaning_given}
-use Rattle.ciborium_value.proofs.{Forms.BignumShapes.short_where_folding, GoodItems.ProperMeanings.proper_bignum}
-use Rattle.ciborium_value.proofs.Forms.ReorderedPairs.{AreReordered, as_they_are, behind, neighbours, then_again}
-use Rattle.ciborium_value.proofs.Forms.ReorderedPairs.{sorted-reorders}
+use Rattle.ciborium_value.specs.{DeterministicForms.pair_forms, Folded.{short_bytes, tree_folding_bytes}, Given.gives}
+use Rattle.ciborium_value.specs.{Given.then_take, Meaning.bignum_meaning, ProperTrees.{IsProperTree, AreProperTrees}}
+use Rattle.ciborium_value.specs.{ProperTrees.AreProperTreePairs, Tree.{Tree, integer, bytes, text, boolean, null, tag}}
+use Rattle.ciborium_value.specs.Tree.{array, map, Trees, no_trees, tree, TreePairs, no_tree_pairs, tree_pair}
+use Rattle.ciborium_value.specs.{declared.key_order.KeyOrder.KeyOrder, laws.FormLaws.FormIsProper}
+use Rattle.ciborium_value.specs.lemmas.GivenOutcomes.{one_given, mapped_gives, then_gives, more_gives, pair_gives}
+use Rattle.ciborium_value.specs.lemmas.GivenOutcomes.{meaning_given}
 use Rattle.ciborium_ll.specs.declared.kind.Kind.TheVariants as kinds
 
 -- ---- bytes on which a tag folds

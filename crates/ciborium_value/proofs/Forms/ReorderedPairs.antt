@@ -3,15 +3,15 @@ use Rattle.std.proofs.Common.{◌≡◌, ℕ, zero, suc, ◌+◌, ◌<◌, List,
 use Rattle.std.proofs.Common.{subst, arith, Ordering, Less, Equal, Greater, is_lt, false, Bool}
 use Rattle.std.proofs.lemmas.List.Sorted.{IsPermutation-keeps, ranks_by}
 use Rattle.std.specs.{Cmp.IsStrictWeakOrder, List.swap, List.Sorted.{IsPermutation, IsSortedBy}}
-use Rattle.ciborium_value.specs.{Canonical.key_order, Deterministic.{AreRising, keys_of}, DeterministicForms.inserted}
-use Rattle.ciborium_value.specs.{DeterministicForms.sorted_pairs, SameContents.{IsAlike, PairsAreAlike, no_pairs}}
-use Rattle.ciborium_value.specs.{SameContents.{more_pairs, exchanged, one_after_another}, Given.{gives, then_take}}
-use Rattle.ciborium_value.specs.{Tree.{Tree, TreePairs, no_tree_pairs, tree_pair}, View.{tree_of, tree_pairs_of}}
-use Rattle.ciborium_value.specs.{declared.key_order.KeyOrder.KeyOrder, declared.tree.Value.Value}
-use Rattle.ciborium_value.specs.lemmas.GivenOutcomes.{one_given, refused_or_given, mapped_gives, then_gives}
 use Rattle.ciborium_value.proofs.Forms.SortedPairs.{NeverFall, sorted-exchanged, inserted-Less, inserted-Equal}
 use Rattle.ciborium_value.proofs.Forms.SortedPairs.{inserted-Greater, less_where_greater}
-use Rattle.ciborium_value.proofs.Orders.TotalOrders.{key_order_total}
+use Rattle.ciborium_value.{proofs.Orders.TotalOrders.key_order_total, specs.Canonical.key_order}
+use Rattle.ciborium_value.specs.{Deterministic.{AreRising, keys_of}, DeterministicForms.{inserted, sorted_pairs}}
+use Rattle.ciborium_value.specs.{Given.{gives, then_take}, SameContents.{IsAlike, PairsAreAlike, no_pairs, more_pairs}}
+use Rattle.ciborium_value.specs.{SameContents.{exchanged, one_after_another}, Tree.{Tree, TreePairs, no_tree_pairs}}
+use Rattle.ciborium_value.specs.{Tree.tree_pair, ValueLists.tree_pairs_of, View.tree_of}
+use Rattle.ciborium_value.specs.declared.{key_order.KeyOrder.KeyOrder, tree.Value.Value}
+use Rattle.ciborium_value.specs.lemmas.GivenOutcomes.{one_given, refused_or_given, mapped_gives, then_gives}
 use Rattle.ciborium_value.specs.SameContents as same
 
 -- each pair and the same one of the others, in any order

@@ -22,6 +22,7 @@ use Rattle.ciborium_value.proofs.GoodItems.{Spelled.{folds-front, folds-some, no
 use Rattle.ciborium_value.proofs.GoodItems.Steps.{simple-has, read-head, read-counted, read-opened, ended-has}
 use Rattle.ciborium_value.proofs.GoodItems.Steps.{opens-read, tag-at, string-good, pieces-run, pieces-break}
 use Rattle.ciborium_value.proofs.Writing.Written.{written_spells, IsProperItem-item_of, items_count-items_of}
+use Rattle.ciborium_value.{proofs.Writing.Written.pairs_count-pairs_of, specs.Counts.{trees_count, tree_pairs_count}}
 use Rattle.ciborium_value.specs.{Deterministic.AreRising, DeterministicTrees.IsDeterministicTree, Encoding.encoding}
 use Rattle.ciborium_value.specs.{Encoding.{item_of, items_of, pairs_of, items_bytes, pairs_bytes}, Folded.folded}
 use Rattle.ciborium_value.specs.Meaning.{meaning, items_meaning, pairs_meaning, simple_meaning, bignum_meaning}
@@ -30,11 +31,10 @@ use Rattle.ciborium_value.specs.{Nesting.{pairs_nesting, Limit, IsWithin, IsOneL
 use Rattle.ciborium_value.specs.Refuses.{HasGoodHead, Due, items, keys, values, next_due, due_after, keys_among}
 use Rattle.ciborium_value.specs.{Refuses.{keys_in, BeginsContainer, AreReadAs, IsInside, IsTagAt}, Spelling.Spelling}
 use Rattle.ciborium_value.specs.Spelling.{any, deterministic, IsReadAs, spelling_fault, IsUnwanted, AreInOrder}
-use Rattle.ciborium_value.specs.{Tree.{Tree, Trees, TreePairs, trees_count, tree_pairs_count}, View.trees_from}
-use Rattle.ciborium_value.specs.{WrittenTrees.written_tree, declared.key_order.KeyOrder.KeyOrder}
-use Rattle.ciborium_value.specs.inner.ReadItems.{string_tree, IsComplete, pairs_in, container_of}
+use Rattle.ciborium_value.specs.{Tree.{Tree, Trees, TreePairs}, View.trees_from, WrittenTrees.written_tree}
+use Rattle.ciborium_value.specs.{declared.key_order.KeyOrder.KeyOrder, inner.ReadItems.{string_tree, IsComplete}}
+use Rattle.ciborium_value.specs.inner.ReadItems.{pairs_in, container_of}
 use Rattle.ciborium_value.specs.lemmas.ItemsOfTrees.{tree_is_written_as_itself}
-use Rattle.ciborium_value.proofs.Writing.Written.{pairs_count-pairs_of}
 use Rattle.ciborium_ll.specs.Item as item
 use Rattle.ciborium_value.specs.Tree as trees
 

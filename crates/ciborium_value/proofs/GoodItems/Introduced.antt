@@ -11,15 +11,15 @@ use Rattle.ciborium_value.proofs.GoodItems.Parts.{within-zero, raise, due-more, 
 use Rattle.ciborium_value.proofs.GoodItems.Parts.{counted-pairs, keys-paired, keys-value, read-more, items-read}
 use Rattle.ciborium_value.proofs.GoodItems.Parts.{pairs-read, trees-written, pairs-written, ArePaired}
 use Rattle.ciborium_value.proofs.GoodItems.Spelled.{folds-none, folding-string, folding-over}
-use Rattle.ciborium_value.specs.{Deterministic.{HasRisingKeys, AreRising}, Encoding.{encoding, items_of, pairs_of}}
-use Rattle.ciborium_value.specs.Meaning.{meaning, simple_meaning, bignum_meaning, tag_meaning, is_bignum_tag}
-use Rattle.ciborium_value.specs.{Meaning.folding_bytes, Nesting.{nesting, tag_nesting, Limit, IsWithin, IsOneLess}}
-use Rattle.ciborium_value.specs.Refuses.{HasGoodHead, Due, items, keys, values, next_due, due_after, keys_among}
-use Rattle.ciborium_value.specs.Refuses.{keys_in, AreReadAs, BeginsContainer, IsInside, IsTagAt, IsFoldingAt}
-use Rattle.ciborium_value.specs.Spelling.{Spelling, any, deterministic, IsReadAs, spelling_fault, IsUnwanted}
-use Rattle.ciborium_value.specs.{Spelling.{AreInOrder, IsSpelledSo}, Tree.{Tree, tree_pairs_count}, View.trees_from}
-use Rattle.ciborium_value.specs.{declared.key_order.KeyOrder.KeyOrder, inner.ReadItems.{ReadsItem, string_tree}}
-use Rattle.ciborium_value.specs.inner.ReadItems.{IsComplete, pairs_in, container_of}
+use Rattle.ciborium_value.specs.{Counts.tree_pairs_count, Deterministic.{HasRisingKeys, AreRising}, Encoding.encoding}
+use Rattle.ciborium_value.specs.{Encoding.{items_of, pairs_of}, Meaning.{meaning, simple_meaning, bignum_meaning}}
+use Rattle.ciborium_value.specs.{Meaning.{tag_meaning, is_bignum_tag, folding_bytes}, Nesting.{nesting, tag_nesting}}
+use Rattle.ciborium_value.specs.{Nesting.{Limit, IsWithin, IsOneLess}, Refuses.{HasGoodHead, Due, items, keys, values}}
+use Rattle.ciborium_value.specs.Refuses.{next_due, due_after, keys_among, keys_in, AreReadAs, BeginsContainer, IsInside}
+use Rattle.ciborium_value.specs.{Refuses.{IsTagAt, IsFoldingAt}, Spelling.{Spelling, any, deterministic, IsReadAs}}
+use Rattle.ciborium_value.specs.{Spelling.{spelling_fault, IsUnwanted, AreInOrder, IsSpelledSo}, Tree.Tree}
+use Rattle.ciborium_value.specs.{View.trees_from, declared.key_order.KeyOrder.KeyOrder, inner.ReadItems.ReadsItem}
+use Rattle.ciborium_value.specs.inner.ReadItems.{string_tree, IsComplete, pairs_in, container_of}
 use Rattle.ciborium_ll.specs.Item as item
 use Rattle.ciborium_value.specs.Tree as trees
 

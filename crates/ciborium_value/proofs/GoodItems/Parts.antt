@@ -5,16 +5,16 @@ use Rattle.std.{proofs.Common.{append-nil, true, ◌&&◌}, specs.declared.cmp.O
 use Rattle.ciborium_ll.specs.{Bytes.greatest_offset, Item.{Items, no_items, item, Pairs, no_pairs, pair, items_count}}
 use Rattle.ciborium_ll.specs.{Item.pairs_count, Spells.{SpellsItems, SpellsPairs}}
 use Rattle.ciborium_value.proofs.GoodItems.{Accepted.accepted, Reader.{Answer, levels, is_less, rising, in_order}}
-use Rattle.ciborium_value.specs.{Canonical.key_order, Deterministic.{AreRising, HaveRisingKeys, PairsHaveRisingKeys}}
-use Rattle.ciborium_value.specs.{Deterministic.keys_of, Encoding.{encoding, items_of, pairs_of, items_bytes}}
-use Rattle.ciborium_value.specs.{Encoding.pairs_bytes, Folded.{folded, trees_folded, tree_pairs_folded}}
-use Rattle.ciborium_value.specs.Meaning.{meaning, items_meaning, pairs_meaning, trees_more, tree_pairs_more}
-use Rattle.ciborium_value.specs.Nesting.{items_nesting, pairs_nesting, Limit, IsWithin, IsOneLess}
-use Rattle.ciborium_value.specs.{ProperTrees.{AreProperTrees, AreProperTreePairs}, Refuses.{Due, items, keys, values}}
-use Rattle.ciborium_value.specs.{Refuses.{next_due, due_after, keys_among, keys_in, AreReadAs}, Spelling.Spelling}
-use Rattle.ciborium_value.specs.{Spelling.{any, deterministic, IsReadAs, AreInOrder}, Tree.{Tree, Trees, no_trees}}
-use Rattle.ciborium_value.specs.Tree.{tree, TreePairs, no_tree_pairs, tree_pair, trees_count, tree_pairs_count}
-use Rattle.ciborium_value.specs.{View.trees_from, declared.key_order.KeyOrder.KeyOrder, inner.ReadItems.pairs_in}
+use Rattle.ciborium_value.specs.{Canonical.key_order, Counts.{trees_count, tree_pairs_count}, Deterministic.AreRising}
+use Rattle.ciborium_value.specs.{Deterministic.{HaveRisingKeys, PairsHaveRisingKeys, keys_of}, Encoding.encoding}
+use Rattle.ciborium_value.specs.{Encoding.{items_of, pairs_of, items_bytes, pairs_bytes}, Folded.{folded, trees_folded}}
+use Rattle.ciborium_value.specs.{Folded.tree_pairs_folded, Meaning.{meaning, items_meaning, pairs_meaning, trees_more}}
+use Rattle.ciborium_value.specs.{Meaning.tree_pairs_more, Nesting.{items_nesting, pairs_nesting, Limit, IsWithin}}
+use Rattle.ciborium_value.specs.{Nesting.IsOneLess, ProperTrees.{AreProperTrees, AreProperTreePairs}, Refuses.Due}
+use Rattle.ciborium_value.specs.Refuses.{items, keys, values, next_due, due_after, keys_among, keys_in, AreReadAs}
+use Rattle.ciborium_value.specs.{Spelling.{Spelling, any, deterministic, IsReadAs, AreInOrder}, Tree.{Tree, Trees}}
+use Rattle.ciborium_value.specs.{Tree.{no_trees, tree, TreePairs, no_tree_pairs, tree_pair}, View.trees_from}
+use Rattle.ciborium_value.specs.{declared.key_order.KeyOrder.KeyOrder, inner.ReadItems.pairs_in}
 use Rattle.ciborium_value.specs.lemmas.{Descriptions.both, ReadsBackParts.{within-left, within-right}}
 
 -- ---- limits

@@ -8,13 +8,13 @@ use Rattle.ciborium_ll.specs.{Head.{eight_bytes, IsHead}, Item.{Item, unsigned, 
 use Rattle.ciborium_ll.specs.Item.{simple, float, Items, no_items, item, items_count, Pairs, no_pairs, pair}
 use Rattle.ciborium_ll.specs.{Item.pairs_count, ProperItems.{IsArgument, IsProperBytes}, Spells.{AreChunks, joined}}
 use Rattle.ciborium_ll.specs.Spells.{IsString, IsContainer, Spells, SpellsItems, SpellsPairs}
-use Rattle.ciborium_value.specs.Meaning.{meaning, items_meaning, pairs_meaning, trees_more, tree_pairs_more}
-use Rattle.ciborium_value.specs.Meaning.{simple_meaning, big_endian, is_bignum_tag, bignum_meaning, unsigned_bignum}
-use Rattle.ciborium_value.specs.Meaning.{negative_bignum, without_zeros, folding_bytes, short_string, tag_meaning}
-use Rattle.ciborium_value.specs.{ProperTrees.{IsProperTree, AreProperTrees, AreProperTreePairs}, Tree.{Tree, Trees}}
-use Rattle.ciborium_value.specs.Tree.{TreePairs, trees_count, tree_pairs_count}
+use Rattle.ciborium_value.proofs.GoodItems.{Bounded.{enclosed-shorter, string-longer}, Spelled.spells-pos}
+use Rattle.ciborium_value.specs.{Counts.{trees_count, tree_pairs_count}, Meaning.{meaning, items_meaning}}
+use Rattle.ciborium_value.specs.Meaning.{pairs_meaning, trees_more, tree_pairs_more, simple_meaning, big_endian}
+use Rattle.ciborium_value.specs.Meaning.{is_bignum_tag, bignum_meaning, unsigned_bignum, negative_bignum, without_zeros}
+use Rattle.ciborium_value.specs.{Meaning.{folding_bytes, short_string, tag_meaning}, ProperTrees.IsProperTree}
+use Rattle.ciborium_value.specs.{ProperTrees.{AreProperTrees, AreProperTreePairs}, Tree.{Tree, Trees, TreePairs}}
 use Rattle.ciborium_value.specs.lemmas.ReadsBackBignums.{length-without_zeros}
-use Rattle.ciborium_value.proofs.{GoodItems.Bounded.{enclosed-shorter, string-longer}, GoodItems.Spelled.spells-pos}
 use Rattle.ciborium_value.specs.Tree as trees
 
 -- ---- proper, where there is one

@@ -12,8 +12,8 @@ use Rattle.ciborium_value.proofs.Orders.HeadsInOrder.{fronts_decide, heads_decid
 use Rattle.ciborium_value.proofs.Orders.TreeEncodings.{encoding-is, argument_of-Array, argument_of-Map}
 use Rattle.ciborium_value.proofs.Trees.{Elements.{At, one_more}, Views.{tree_of-Integer, tree_of-Bytes, tree_of-Text}}
 use Rattle.ciborium_value.{proofs.Trees.Views.{tree_of-Bool, tree_of-Null}, specs.Encoding.{encoding, items_of}}
-use Rattle.ciborium_value.specs.{Encoding.{pairs_of, items_bytes, pairs_bytes}, Tree.Tree, View.{tree_of, trees_from}}
-use Rattle.ciborium_value.specs.{View.{tree_pairs_from, pair_trees}, declared.tree.Value.{Value, the_lemmas}}
+use Rattle.ciborium_value.specs.{Encoding.{pairs_of, items_bytes, pairs_bytes}, Tree.Tree, ValueLists.pair_trees}
+use Rattle.ciborium_value.specs.{View.{tree_of, trees_from, tree_pairs_from}, declared.tree.Value.{Value, the_lemmas}}
 use Rattle.ciborium_value.specs.declared.tree.Value.{TheOpen.Value-F, TheViews.{out-Value, roll-Value}}
 use Rattle.ciborium_value.specs.inner.{EncodedLists.{encodings, pair_encodings}, SideBySide.Decides}
 use Rattle.ciborium_value.specs.inner.TreeHeads.{tree_major, argument_of, content_bytes, head_order}

@@ -1,10 +1,10 @@
 -- Counts of nodes along lists, and of visits.
 use Rattle.std.proofs.Common.{◌≡◌, ℕ, suc, ◌+◌, ◌*◌, ◌^◌, ◌<◌, ◌≤◌, List, take, true, false, refl, sym, ap, ◌∙◌, arith}
 use Rattle.std.{proofs.Common.{Ordering, Equal}, specs.Ordering.is_ne}
-use Rattle.ciborium_value.specs.{Counts.{node_count, trees_node_count, tree_pairs_node_count}, Tree.Tree, View.tree_of}
-use Rattle.ciborium_value.specs.{View.{trees_of, tree_pairs_of}, declared.tree.Value.Value, Visits.AddsVisits}
-use Rattle.ciborium_value.specs.Visits.{AddsAtMost, both_node_count, saturated}
-use Rattle.ciborium_value.proofs.Trees.Elements.{At, here, behind}
+use Rattle.ciborium_value.{proofs.Trees.Elements.{At, here, behind}, specs.Counts.{node_count, trees_node_count}}
+use Rattle.ciborium_value.specs.{Counts.tree_pairs_node_count, Tree.Tree, ValueLists.{trees_of, tree_pairs_of}}
+use Rattle.ciborium_value.specs.{View.tree_of, Visits.{AddsVisits, AddsAtMost, both_node_count, saturated}}
+use Rattle.ciborium_value.specs.declared.tree.Value.{Value}
 
 -- ---- nodes
 

@@ -9,7 +9,8 @@ use Rattle.ciborium_value.specs.Sources.{IsFaultOf, IsOutsideFault, TakesAhead, 
 use Rattle.ciborium_value.specs.Sources.{TakesTo, TakesItem, OwesLess, OwesNothing, TakesOnly}
 use Rattle.ciborium_value.specs.{Sources.TakesOneItem, lemmas.GivenOutcomes.and_take, Given.{Outcome, Steps, Given}}
 use Rattle.ciborium_value.specs.Given.{deeper_if, gives, mapped, nests, outcome, outcome_map, refuses, take_each}
-use Rattle.ciborium_value.specs.{Given.{given_value, then_take}, GivenParts.{given_list, no_part_given}, Tree.Tree}
+use Rattle.ciborium_value.specs.{Given.{give, given_value, then_take}, Tree.Tree}
+use Rattle.ciborium_value.specs.GivenParts.{given_list, given_then, no_part_given}
 
 -- ---- who is to blame
 
@@ -95,6 +96,22 @@ passes_on {StandsBefore = StandsBefore} {cause = cause} {old = old} {new = new} 
       less = tt;
       no_more = no_more;
     }
+
+fault_made : {A B : Type 0} (make : A → B) (end : ℕ) (f : Fault) (o : Outcome A) → IsFaultOf end f o →
+    IsFaultOf end f (then_take o (λ v. gives (make v)))
+fault_made make end (of_kind k) o h = ap (λ x. then_take x (λ v. gives (make v))) h
+fault_made make end of_nesting o h = ap (λ x. then_take x (λ v. gives (make v))) h
+fault_made make end _ o h = h
+
+-- where an item is refused, so is what is made of what it gives
+pub made_refused : {S A B V W E : Type 0} {StandsBefore : S → Limit → Ahead → Type 0}
+    {IsUnread : S → List ℕ → Type 0} {HasTaken : S → S → Type 0} {left : S → ℕ} {cause : S → E → Fault} {old new : S}
+    {taken : Given A} {content : V → A} {made : W → B} (make : A → B) (r : Result W E) (e : E) →
+    IsErrAnd r (λ y. y ≡ e) →
+    TakesOneItem StandsBefore IsUnread HasTaken left cause old new taken content (Err e) →
+    TakesOneItem StandsBefore IsUnread HasTaken left cause old new (given_then taken (λ c. give (make c))) made r
+made_refused {taken = taken} make r e h t = passes_on r e h
+    (λ l i f s. fault_made make (end_of f) _ (outcome l (taken i)) (t.refused l i f s)) t.only t.no_more
 
 -- parts of a container are left, which come so, and of which k makes the outcome
 pub record IsInside {S Q X C : Type 0} (StandsBefore : S → Limit → Ahead → Type 0)

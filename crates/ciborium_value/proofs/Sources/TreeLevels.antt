@@ -3,12 +3,12 @@ use Rattle.std.proofs.Common.{◌≡◌, ℕ, Bool, true, false, List, [], ◌�
 use Rattle.std.proofs.{Common.{sym, ap, ◌∙◌, subst, ◌==◌}, lemmas.Str.{IsUtf8-from_is_utf8, is_utf8-from_IsUtf8}}
 use Rattle.std.specs.{Str.{is_utf8, IsUtf8}, Borrow.Bor}
 use Rattle.ciborium_ll.specs.Item.{Item}
+use Rattle.ciborium_value.{proofs.Trees.Views.{tree_of-Bytes, tree_of-Map}, specs.Ahead.{Rest, entry, past}}
 use Rattle.ciborium_value.specs.{Encoding.{item_of, pairs_of}, Given.{gives, refuses, given_name, bare_name, lone_pair}}
-use Rattle.ciborium_value.specs.{Given.{given_variant, bare_variant, outcome, settled, untagged}, Ahead.{Rest, entry}}
-use Rattle.ciborium_value.specs.{Ahead.past, inner.TreeSources.{IsTreeAhead, IsDueValue, IsPending, pending_due}}
-use Rattle.ciborium_value.specs.{TreeAnswers.value_item, declared.deserialized.TreeSource.TreeSource, View.tree_of}
-use Rattle.ciborium_value.specs.{View.tree_pairs_of, declared.tree.Value.Value}
-use Rattle.ciborium_value.proofs.Trees.Views.{tree_of-Bytes, tree_of-Map}
+use Rattle.ciborium_value.specs.Given.{given_variant, bare_variant, outcome, settled, untagged}
+use Rattle.ciborium_value.specs.{TreeAnswers.value_item, ValueLists.tree_pairs_of, View.tree_of}
+use Rattle.ciborium_value.specs.declared.{deserialized.TreeSource.TreeSource, tree.Value.Value}
+use Rattle.ciborium_value.specs.inner.TreeSources.{IsTreeAhead, IsDueValue, IsPending, pending_due}
 use Rattle.ciborium_ll.specs.declared.kind.Kind.TheVariants as kinds
 use Rattle.ciborium_value.specs.declared.tree.Value as value
 

@@ -11,7 +11,7 @@ use Rattle.ciborium_value.specs.{Counts.{tree_pairs_node_count, tree_pairs_paylo
 use Rattle.ciborium_value.specs.{Encoding.pairs_of, Given.{Outcome, Given, gives, outcome, outcome_map, unpack}}
 use Rattle.ciborium_value.specs.Given.{unpack_pairs, given_seq, given_pairs, bare_seq, bare_pairs, untagged}
 use Rattle.ciborium_value.specs.{Given.{lone_character, bare_bytes, given_bytes, given_byte, take_each}, Nesting.Limit}
-use Rattle.ciborium_value.specs.{Tree.Tree, TreeAnswers.value_item, View.{tree_of, trees_of, tree_pairs_of}}
+use Rattle.ciborium_value.specs.{Tree.Tree, TreeAnswers.value_item, ValueLists.{trees_of, tree_pairs_of}, View.tree_of}
 use Rattle.ciborium_value.specs.{declared.tree.Value.Value, inner.TreeSources.{IsDueValue, pair_items, value_weight}}
 use Rattle.ciborium_value.specs.inner.TreeSources.{pending_due, pending_tree_weight, due_weight}
 use Rattle.ciborium_value.specs.Tree as trees

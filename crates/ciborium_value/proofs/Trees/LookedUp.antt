@@ -3,7 +3,7 @@ use Rattle.std.proofs.Common.{◌≡◌, ◌∙◌, ℕ, zero, suc, ◌<◌, ◌
 use Rattle.std.proofs.Common.{Some, None, option_map, Bor, true, if◌then◌else◌, refl, sym, ap, arith, take-append-drop}
 use Rattle.std.{proofs.{Common.drop-cons, lemmas.List.get_or_default}, specs.{Option.option_or, Slice.IsItemAt}}
 use Rattle.ciborium_value.specs.{Labels.{Label, is_label}, Lookups.{last_with, nth_tree, tree_label}, Tree.Tree}
-use Rattle.ciborium_value.specs.{View.{tree_of, trees_of, tree_pairs_of}, declared.tree.Value.Value}
+use Rattle.ciborium_value.specs.{ValueLists.{trees_of, tree_pairs_of}, View.tree_of, declared.tree.Value.Value}
 
 -- the item at an index
 pub nth_within : (i : ℕ) (vs : List Value) (v : Value) → i < length vs → v ≡ get_or vs i v →

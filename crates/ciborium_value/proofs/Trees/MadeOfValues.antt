@@ -2,9 +2,8 @@
 -- one shape.
 use Rattle.std.proofs.Common.{◌≡◌, ℕ, zero, suc, ◌+◌, ◌<◌, Bool, true, false, ◌&&◌, List, [], ◌∷◌, ◌++◌, length, map}
 use Rattle.std.proofs.{Common.{take, get_or, sym, ap, ◌∙◌, add-one, arith}, lemmas.List.map-append}
-use Rattle.ciborium_value.proofs.Trees.Elements.{at, one_more}
-use Rattle.ciborium_value.specs.{Tree.{Tree, Trees}, View.{tree_of, trees_of}, declared.tree.Value.Value}
-use Rattle.ciborium_value.specs.lemmas.Descriptions.{both}
+use Rattle.ciborium_value.{proofs.Trees.Elements.{at, one_more}, specs.{Tree.{Tree, Trees}, ValueLists.trees_of}}
+use Rattle.ciborium_value.specs.{View.tree_of, declared.tree.Value.Value, lemmas.Descriptions.both}
 use Rattle.ciborium_ll.proofs.UsableHeads.{and_false}
 use Rattle.std.specs.Cmp.Derive.{both_true}
 use Rattle.ciborium_value.specs.Tree as trees

@@ -8,11 +8,10 @@ use Rattle.std.specs.{Fmt.{IsFlush, WritesInCalls, InlineText.{AppendsIfIntact, 
 use Rattle.std.specs.{List.{concat, flat_map}, declared.fmt.{Formatter.Formatter, InlineText.InlineText}}
 use Rattle.hex.specs.Hex.{encode_lower, encode_with, lower_digits}
 use Rattle.ciborium_value.proofs.Trees.{Elements.{At, here, behind, one_more}, Views.trees_count-trees_of}
-use Rattle.ciborium_value.proofs.Trees.Views.{tree_pairs_count-tree_pairs_of}
-use Rattle.ciborium_value.specs.Notation.{IsPlain, comma, one_level_more, escape, escaped, last_break, line_break}
-use Rattle.ciborium_value.specs.{Notation.{needs_escape, notation_on, notations_on, pair_notations_on}, Tree.Tree}
-use Rattle.ciborium_value.specs.{Tree.{array, map, tag}, View.{tree_of, trees_of, tree_pairs_of}}
-use Rattle.ciborium_value.specs.declared.tree.Value.{Value}
+use Rattle.ciborium_value.{proofs.Trees.Views.tree_pairs_count-tree_pairs_of, specs.Notation.{IsPlain, comma}}
+use Rattle.ciborium_value.specs.Notation.{one_level_more, escape, escaped, last_break, line_break, needs_escape}
+use Rattle.ciborium_value.specs.{Notation.{notation_on, notations_on, pair_notations_on}, Tree.{Tree, array, map, tag}}
+use Rattle.ciborium_value.specs.{ValueLists.{trees_of, tree_pairs_of}, View.tree_of, declared.tree.Value.Value}
 
 -- ---- one write behind another
 
@@ -150,24 +149,16 @@ pub notation_on-tag : (lines : Option ℕ) (n : ℕ) (v : Tree) →
 notation_on-tag lines n v = append_assoc (decimal n ++ codes "(") (notation_on lines v) (codes ")") ∙
     append_assoc (decimal n) (codes "(") (notation_on lines v ++ codes ")")
 
-pub notation_on-array : (lines inner : Option ℕ) (vs : List Value) (count : ℕ) → inner ≡ one_level_more lines →
-    count ≡ length vs
-    → ((codes "[" ++ notations_on inner [] (trees_of vs)) ++ last_break lines count) ++ codes "]" ≡ notation_on lines
-    (array (trees_of vs))
-notation_on-array lines inner vs count e long =
-    ap (λ l. ((codes "[" ++ notations_on l [] (trees_of vs)) ++ last_break lines count) ++ codes "]") e
-    ∙ append_assoc (codes "[" ++ notations_on (one_level_more lines) [] (trees_of vs)) (last_break lines count)
-    (codes "]")
-    ∙ ap (λ n. codes "[" ++ (notations_on (one_level_more lines) [] (trees_of vs) ++ (last_break lines n ++ codes "]")))
-    (long ∙ sym (trees_count-trees_of vs))
+pub notation_on-array : (lines : Option ℕ) {inner : Option ℕ} (vs : List Value) {count : ℕ} →
+    inner ≡ one_level_more lines → count ≡ length vs
+    → (codes "[" ++ notations_on inner [] (trees_of vs)) ++ (last_break lines count ++ codes "]")
+    ≡ notation_on lines (array (trees_of vs))
+notation_on-array lines vs e long = rw (e, long, sym (trees_count-trees_of vs)) (append_assoc (codes "[")
+    (notations_on (one_level_more lines) [] (trees_of vs)) _)
 
-pub notation_on-map : (lines inner : Option ℕ) (ps : List (Value × Value)) (count : ℕ) → inner ≡ one_level_more lines →
-    count ≡ length ps
-    → ((codes "{" ++ pair_notations_on inner [] (tree_pairs_of ps)) ++ last_break lines count) ++ codes "}" ≡
-    notation_on lines (map (tree_pairs_of ps))
-notation_on-map lines inner ps count e long =
-    ap (λ l. ((codes "{" ++ pair_notations_on l [] (tree_pairs_of ps)) ++ last_break lines count) ++ codes "}") e
-    ∙ append_assoc (codes "{" ++ pair_notations_on (one_level_more lines) [] (tree_pairs_of ps))
-    (last_break lines count) (codes "}")
-    ∙ ap (λ n. codes "{" ++ (pair_notations_on (one_level_more lines) [] (tree_pairs_of ps) ++
-    (last_break lines n ++ codes "}"))) (long ∙ sym (tree_pairs_count-tree_pairs_of ps))
+pub notation_on-map : (lines : Option ℕ) {inner : Option ℕ} (ps : List (Value × Value)) {count : ℕ} →
+    inner ≡ one_level_more lines → count ≡ length ps
+    → (codes "{" ++ pair_notations_on inner [] (tree_pairs_of ps)) ++ (last_break lines count ++ codes "}")
+    ≡ notation_on lines (map (tree_pairs_of ps))
+notation_on-map lines ps e long = rw (e, long, sym (tree_pairs_count-tree_pairs_of ps)) (append_assoc (codes "{")
+    (pair_notations_on (one_level_more lines) [] (tree_pairs_of ps)) _)

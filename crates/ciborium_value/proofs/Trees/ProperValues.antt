@@ -2,9 +2,9 @@
 use Rattle.std.proofs.Common.{◌≡◌, ℕ, suc, ◌^◌, ◌<◌, List, length, take, String, string_bytes}
 use Rattle.std.proofs.{Common.{Vec, Global, sym, ap, ◌∙◌, subst, arith}, lemmas.Str.IsUtf8-string_bytes}
 use Rattle.ciborium_ll.specs.{Bytes.AreBytes, ProperItems.IsProperBytes}
-use Rattle.ciborium_value.specs.{ProperTrees.{AreProperTrees, AreProperTreePairs, IsProperTree}, View.tree_of}
-use Rattle.ciborium_value.specs.{View.{trees_of, tree_pairs_of}, declared.tree.Value.Value}
-use Rattle.ciborium_value.proofs.{Trees.Views.{tree_of-Bytes, tree_of-Text}, Trees.Elements.{At, here, behind}}
+use Rattle.ciborium_value.proofs.Trees.{Elements.{At, here, behind}, Views.{tree_of-Bytes, tree_of-Text}}
+use Rattle.ciborium_value.specs.{ProperTrees.{AreProperTrees, AreProperTreePairs, IsProperTree}, ValueLists.trees_of}
+use Rattle.ciborium_value.specs.{ValueLists.tree_pairs_of, View.tree_of, declared.tree.Value.Value}
 use Rattle.ciborium_value.specs.declared.tree.Value as value
 
 -- ---- lists

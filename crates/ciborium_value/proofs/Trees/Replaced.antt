@@ -5,8 +5,8 @@ use Rattle.std.proofs.lemmas.{List.{drop-set-lt, get_or-set_same, length-set}, S
 use Rattle.std.specs.{Option.option_or, Prelude.{◌≢◌, ◌&&◌, Bool, false, IsTrue, is_none}}
 use Rattle.ciborium_value.{proofs.Trees.LookedUp.{last_found, nth_within}, specs.Labels.{Label, named, numbered, other}}
 use Rattle.ciborium_value.specs.{Labels.is_label, Lookups.{last_with, nth_tree, replaced_last, replaced_nth}}
-use Rattle.ciborium_value.specs.{Lookups.tree_label, Tree.{Tree, tree, tree_pair}, View.{tree_of, trees_of}}
-use Rattle.ciborium_value.specs.{View.tree_pairs_of, declared.tree.Value.Value}
+use Rattle.ciborium_value.specs.{Lookups.tree_label, Tree.{Tree, tree, tree_pair}, ValueLists.{trees_of, tree_pairs_of}}
+use Rattle.ciborium_value.specs.{View.tree_of, declared.tree.Value.Value}
 
 -- a pair of the label has the new value, if none behind it has that label
 pub tree_pairs_of-set : (l : Label) (w : Value) (ps : List (Value × Value)) (i : ℕ) (p : Value × Value) →

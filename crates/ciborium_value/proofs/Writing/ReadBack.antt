@@ -4,7 +4,9 @@ use Rattle.std.proofs.Common.{option_map, inl, IsUtf8, length, refl, sym, ◌∙
 use Rattle.ciborium_ll.specs.{Bytes.{AreBytes, greatest_offset}, Item.{Item, bytes, array, map, tag, simple, float}}
 use Rattle.ciborium_ll.specs.Item.{Items, no_items, item, items_count, Pairs, no_pairs, pair, pairs_count}
 use Rattle.ciborium_ll.specs.Spells.{IsContainer, IsString}
-use Rattle.ciborium_value.specs.Encoding.{item_of, items_of, pairs_of, enclosed, items_bytes, pairs_bytes, string_bytes}
+use Rattle.ciborium_value.proofs.Writing.Written.{string_written, parts_enclosed, simple_written, spells_item}
+use Rattle.ciborium_value.{proofs.Writing.Written.{items_count-items_of, pairs_count-pairs_of}, specs.Encoding.item_of}
+use Rattle.ciborium_value.specs.Encoding.{items_of, pairs_of, enclosed, items_bytes, pairs_bytes, written_string}
 use Rattle.ciborium_value.specs.Folded.{folded, trees_folded, tree_pairs_folded, short_bytes, tree_folding_bytes}
 use Rattle.ciborium_value.specs.Meaning.{meaning, items_meaning, pairs_meaning, simple_meaning, short_string}
 use Rattle.ciborium_value.specs.Meaning.{is_bignum_tag, tag_meaning, trees_more, tree_pairs_more}
@@ -12,8 +14,6 @@ use Rattle.ciborium_value.specs.{ProperTrees.{IsProperTree, AreProperTrees, AreP
 use Rattle.ciborium_value.specs.{Tree.TreePairs, WrittenItems.{IsAnnounced, IsWritten, AreWritten, PairsAreWritten}}
 use Rattle.ciborium_value.specs.WrittenItems.{WrittenSpells, WrittenTreeFolds, WrittenTreeIsProper}
 use Rattle.ciborium_value.specs.WrittenTrees.{simple_tree, written_pairs, written_tree, written_trees}
-use Rattle.ciborium_value.proofs.Writing.Written.{string_written, parts_enclosed, simple_written, spells_item}
-use Rattle.ciborium_value.proofs.Writing.Written.{items_count-items_of, pairs_count-pairs_of}
 use Rattle.ciborium_value.specs.Tree as trees
 
 -- ---- it spells the item
@@ -24,7 +24,7 @@ enclosed_as_announced false major count r fits = parts_enclosed false major coun
 enclosed_as_announced true major count r fits = refl
 
 string_as_written : (o : Bool) (major : ℕ) (IsAllowed : List ℕ → Type 0) (b : List ℕ) → o ≡ false → IsAllowed b →
-    length b ≤ greatest_offset → IsString o major IsAllowed (string_bytes o major b) b
+    length b ≤ greatest_offset → IsString o major IsAllowed (written_string o major b) b
 string_as_written false major IsAllowed b closed h fits = string_written false major IsAllowed b h fits
 string_as_written true major IsAllowed b closed h fits = cc
 

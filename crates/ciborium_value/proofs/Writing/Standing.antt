@@ -4,7 +4,7 @@ use Rattle.std.proofs.Common.{length, ◌<◌, Option, Some, None, refl, sym, �
 use Rattle.std.{proofs.Common.arith, specs.Borrow.GName}
 use Rattle.ciborium_ll.specs.{Head.{shortest_head, open_byte, break_byte}, Item.{Item, Items, Pairs, items_count}}
 use Rattle.ciborium_ll.specs.Item.{pairs_count}
-use Rattle.ciborium_value.specs.Encoding.{written_bytes, items_bytes, pairs_bytes, enclosed, string_bytes}
+use Rattle.ciborium_value.specs.Encoding.{written_bytes, items_bytes, pairs_bytes, enclosed, written_string}
 use Rattle.ciborium_value.specs.Places.{Shape, sequence, dictionary, items_from, pairs_from, container, begin_bytes}
 use Rattle.ciborium_value.specs.Places.{end_bytes, is_open, Place, top, within, tagged, added, ended, IsFull, bytes_at}
 use Rattle.ciborium_value.specs.Places.{writer_at, IsBeginning, IsProperBeginning, Out, IsOutOf, IsOutAt, IsOutBetween}
@@ -142,7 +142,7 @@ enclosed_some : (open_ : Bool) (major count : ℕ) (r : List ℕ) → 0 < length
 enclosed_some false major count r = head_some major count r
 enclosed_some true major count r = omega arith
 
-string_some : (open_ : Bool) (major : ℕ) (b : List ℕ) → 0 < length (string_bytes open_ major b)
+string_some : (open_ : Bool) (major : ℕ) (b : List ℕ) → 0 < length (written_string open_ major b)
 string_some false major b = head_some major (length b) b
 string_some true major b = omega arith
 

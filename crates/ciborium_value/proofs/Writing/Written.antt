@@ -8,16 +8,16 @@ use Rattle.ciborium_ll.specs.Item.{no_items, item, items_count, Pairs, no_pairs,
 use Rattle.ciborium_ll.specs.ProperItems.{IsArgument, IsProperItem, AreProperItems, AreProperPairs}
 use Rattle.ciborium_ll.specs.Spells.{IsDefiniteString, IsString, IsContainer, Spells, SpellsItems, SpellsPairs}
 use Rattle.ciborium_ll.proofs.ShortestHead.{shortest_is_head}
-use Rattle.ciborium_value.specs.Encoding.{item_of, items_of, pairs_of, enclosed, string_bytes, float_bytes}
-use Rattle.ciborium_value.specs.{Encoding.{written_bytes, items_bytes, pairs_bytes}, laws.FoldingLaws.EncodingIsGood}
-use Rattle.ciborium_value.specs.{ProperTrees.{IsProperTree, AreProperTrees, AreProperTreePairs}, Tree.{Tree, Trees}}
-use Rattle.ciborium_value.specs.Tree.{TreePairs, trees_count, tree_pairs_count}
+use Rattle.ciborium_value.specs.{Counts.{trees_count, tree_pairs_count}, Encoding.{item_of, items_of, pairs_of}}
+use Rattle.ciborium_value.specs.Encoding.{enclosed, written_string, float_bytes, written_bytes, items_bytes}
+use Rattle.ciborium_value.specs.{Encoding.pairs_bytes, ProperTrees.{IsProperTree, AreProperTrees, AreProperTreePairs}}
+use Rattle.ciborium_value.specs.{Tree.{Tree, Trees, TreePairs}, laws.FoldingLaws.EncodingIsGood}
 use Rattle.ciborium_value.specs.Tree as trees
 
 -- ---- strings, containers, simple values and floats
 
 pub string_written : (open_ : Bool) (major : ℕ) (IsAllowed : List ℕ → Type 0) (b : List ℕ) →
-    IsAllowed b → length b ≤ greatest_offset → IsString open_ major IsAllowed (string_bytes open_ major b) b
+    IsAllowed b → length b ≤ greatest_offset → IsString open_ major IsAllowed (written_string open_ major b) b
 string_written false major IsAllowed b h fits = (
   shortest_head major (length b),
   shortest_is_head major (length b) (omega arith),

@@ -4,7 +4,8 @@ use Rattle.ciborium_ll.specs.Item.{Item}
 use Rattle.ciborium_value.{proofs.Trees.Views.{tree_of-Tag, tree_of-Array, tree_of-Map}, specs.Encoding.item_of}
 use Rattle.ciborium_value.specs.{Encoding.{items_of, pairs_of}, Places.{sequence, dictionary, items_from, pairs_from}}
 use Rattle.ciborium_value.specs.Sinks.{and_then, all_named, contained, container_of, in_turn, named_value, tag_of}
-use Rattle.ciborium_value.specs.{Tree.Tree, View.{tree_of, trees_from, tree_pairs_of}, declared.tree.Value.Value}
+use Rattle.ciborium_value.specs.{Tree.Tree, ValueLists.tree_pairs_of, View.{tree_of, trees_from}}
+use Rattle.ciborium_value.specs.declared.tree.Value.{Value}
 use Rattle.ciborium_ll.specs.Item as item
 use Rattle.ciborium_value.specs.Tree as trees
 use Rattle.ciborium_value.specs.declared.tree.Value as value

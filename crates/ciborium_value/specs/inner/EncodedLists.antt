@@ -1,7 +1,7 @@
 -- The encodings of lists of values, one behind the other (RFC 8949, section 4.1).
 use Rattle.std.specs.Prelude.{ℕ, List}
-use Rattle.ciborium_value.specs.{Encoding.{items_of, pairs_of, items_bytes, pairs_bytes}, View.trees_of}
-use Rattle.ciborium_value.specs.{View.tree_pairs_of, declared.tree.Value.Value}
+use Rattle.ciborium_value.specs.{Encoding.{items_of, pairs_of, items_bytes, pairs_bytes}, ValueLists.trees_of}
+use Rattle.ciborium_value.specs.{ValueLists.tree_pairs_of, declared.tree.Value.Value}
 
 -- the encoding of each value, in order
 abbrev pub encodings : List Value → List ℕ

@@ -1,15 +1,17 @@
 -- What reading diagnostic notation keeps between two tokens, and what it promises of them.
 use Rattle.std.specs.Prelude.{◌≡◌, ℕ, suc, ◌^◌, ◌+◌, ◌≤◌, ◌<◌, List, [], ◌∷◌, length, Option, Some, None, ◌==◌}
-use Rattle.std.specs.Prelude.{if◌then◌else◌, true, Bool, false, map, reverse}
+use Rattle.std.specs.Prelude.{if◌then◌else◌, true, Bool, false, map, reverse, Result, Ok, Err}
 use Rattle.ciborium_value.specs.Denotes.{Begins, BeginsItems, BeginsPairs, DenotesWithin, IsToken, MayRefuse}
 use Rattle.ciborium_value.specs.{Notation.needs_escape, Tokens.{Token, behind_blanks}, Tree.{Tree, Trees, TreePairs}}
-use Rattle.ciborium_value.specs.{View.{pair_trees, tree_of}, declared.from_notation.byte_strings.Group.Group}
+use Rattle.ciborium_value.specs.{ValueLists.pair_trees, View.tree_of, declared.from_notation.byte_strings.Group.Group}
 use Rattle.ciborium_value.specs.declared.from_notation.{error.NotationError.NotationError, levels.Due.Due}
 use Rattle.ciborium_value.specs.declared.from_notation.{levels.{Level.Level, Levels.Levels}, tokens.Token.Token as Read}
+use Rattle.ciborium_value.specs.declared.from_notation.{levels.Step.Step}
 use Rattle.ciborium_value.specs.Tokens as tokens
 use Rattle.ciborium_value.specs.Tree as trees
 use Rattle.ciborium_value.specs.declared.from_notation.levels.Due.TheVariants as due
 use Rattle.ciborium_value.specs.declared.from_notation.levels.Level.TheVariants as level
+use Rattle.ciborium_value.specs.declared.from_notation.levels.Step.TheVariants as step
 use Rattle.ciborium_value.specs.declared.from_notation.tokens.Token.TheVariants as read
 
 -- there is no number, or one of 2^128 at least
@@ -147,6 +149,22 @@ pub record Leads (levels : List Around) (due : Await) (k : Token) (more : List A
 abbrev pub IsMisplaced : List Around → Await → Token → ℕ → NotationError → Type 0
 IsMisplaced levels due k limit e = (l : ℕ) (t r : List ℕ) (v : Tree) → IsToken t k r →
     Completes l levels due t v → MayRefuse limit e l
+
+-- what a token does where this is due in these levels: it leads to others, of which no more are
+-- unfinished than may be, or it is misplaced
+abbrev pub Takes : ℕ → List Level → Await → Token → List Level → Result Due NotationError → Type 0
+Takes limit ls due k more (Ok next) =
+    Leads (map around_of (reverse ls)) due k (map around_of (reverse more)) (await_of next) ×
+    (IsRoom limit (length ls) due → IsRoom limit (length more) (await_of next))
+Takes limit ls due k more (Err e) = IsMisplaced (map around_of (reverse ls)) due k limit e
+
+-- what a token makes of a level behind an item in it that means w, whatever is around
+abbrev pub Makes : Around → Tree → Token → Result Step NotationError → Type 0
+Makes level w k (Ok (step.More next)) =
+    (levels : List Around) → Leads (level ∷ levels) (behind w) k (around_of next ∷ levels) item
+Makes level w k (Ok (step.End v)) =
+    (levels : List Around) → Leads (level ∷ levels) (behind w) k levels (behind (tree_of v))
+Makes level w k (Err e) = (levels : List Around) (limit : ℕ) → IsMisplaced (level ∷ levels) (behind w) k limit e
 
 -- this is due in these levels where t is left of a text that denotes just what is completed here
 pub record IsReached (text : List ℕ) (limit : ℕ) (levels : List Around) (due : Await)

@@ -1,8 +1,8 @@
 -- What a stack of frames shows.
 use Rattle.std.specs.Prelude.{ℕ, Bool, false, true, List, [], ◌∷◌, map, reverse, Option, Some, None}
-use Rattle.ciborium_value.specs.{inner.Frames.{TreeFrame, Filled, Placed}, Tree.Tree, View.{tree_of, pair_trees}}
-use Rattle.ciborium_value.specs.{declared.tree.Value.Value, declared.stack.Frame.Frame}
-use Rattle.ciborium_value.specs.{declared.stack.NewFrame.NewFrame, declared.stack.Stack.Stack}
+use Rattle.ciborium_value.specs.{Tree.Tree, ValueLists.pair_trees, View.tree_of, declared.stack.Frame.Frame}
+use Rattle.ciborium_value.specs.declared.{stack.{NewFrame.NewFrame, Stack.Stack}, tree.Value.Value}
+use Rattle.ciborium_value.specs.inner.Frames.{TreeFrame, Filled, Placed}
 use Rattle.ciborium_value.specs.inner.Frames as frames
 use Rattle.ciborium_value.specs.declared.stack.Frame.TheVariants as frame
 use Rattle.ciborium_value.specs.declared.stack.NewFrame.TheVariants as new_frames

@@ -1,9 +1,9 @@
 -- The head of a tree's encoding, and what stands behind it (RFC 8949, section 3).
 use Rattle.std.specs.{Prelude.{ℕ, pos, negsuc, List, [], length, true, false}, declared.cmp.Ordering.Ordering}
 use Rattle.std.specs.Ordering.{nat_cmp, then_cmp, on}
-use Rattle.ciborium_value.specs.{Encoding.{encoding, items_of, pairs_of, items_bytes, pairs_bytes}, Tree.Tree}
-use Rattle.ciborium_value.specs.Tree.{integer, bytes, text, boolean, null, tag, array, map, trees_count}
-use Rattle.ciborium_value.specs.Tree.{tree_pairs_count}
+use Rattle.ciborium_value.specs.{Counts.{trees_count, tree_pairs_count}, Encoding.{encoding, items_of, pairs_of}}
+use Rattle.ciborium_value.specs.{Encoding.{items_bytes, pairs_bytes}, Tree.{Tree, integer, bytes, text, boolean, null}}
+use Rattle.ciborium_value.specs.Tree.{tag, array, map}
 
 -- the major type (section 3.1)
 abbrev pub tree_major : Tree → ℕ

@@ -4,7 +4,7 @@ use Rattle.ciborium_ll.specs.Item.{Item, simple, unsigned}
 use Rattle.ciborium_value.specs.Ahead.{Ahead, Rest, item, after, bottom, parts, pairs, entry, level_due}
 use Rattle.ciborium_value.specs.Counts.{node_count, payload_size, trees_node_count, trees_payload_size}
 use Rattle.ciborium_value.specs.{Counts.{tree_pairs_node_count, tree_pairs_payload_size}, Nesting.Limit}
-use Rattle.ciborium_value.specs.{TreeAnswers.value_item, View.{tree_of, trees_of, tree_pairs_of}}
+use Rattle.ciborium_value.specs.{TreeAnswers.value_item, ValueLists.{trees_of, tree_pairs_of}, View.tree_of}
 use Rattle.ciborium_value.specs.declared.deserialized.{Left.Left, Pending.Pending, TreeLevel.TreeLevel, TreeSeq.TreeSeq}
 use Rattle.ciborium_value.specs.declared.{deserialized.TreeSource.TreeSource, tree.Value.Value}
 use Rattle.ciborium_value.specs.declared.deserialized.Pending.TheVariants as pending

@@ -1,12 +1,12 @@
 -- The derived order of `Value` is that of the trees: a lemma, since a ghost line of `Key` names it.
 use Rattle.std.proofs.Common.{◌≡◌, List, [], ◌∷◌, rules, refl, ◌∙◌, subst, Equal, Ordering, map}
 use Rattle.std.specs.{Cmp.Lexicographic.slice_cmp, Ordering.ordering_then}
-use Rattle.ciborium_value.specs.{Derived.value_cmp, Order.{tree_cmp, trees_cmp, tree_pairs_cmp}, View.tree_of}
-use Rattle.ciborium_value.specs.{View.{trees_of, tree_pairs_of}, contracts.tree.ValueOrd.TheImpl.{the_step, Laws.local}}
-use Rattle.ciborium_value.specs.{contracts.tree.ValueOrd.TheImpl.Laws.unfolded, declared.tree.Value.{Value, the_lemmas}}
-use Rattle.ciborium_value.specs.declared.tree.Value.TheBlock.{the_members, the_depth, the_family, member-Value}
-use Rattle.ciborium_value.specs.declared.tree.Value.{TheFolds.{map-Value, ind-Value}, TheOpen.Value-F}
-use Rattle.ciborium_value.specs.declared.tree.Value.TheViews.{out-Value, roll-Value}
+use Rattle.ciborium_value.specs.{Derived.value_cmp, Order.{tree_cmp, trees_cmp, tree_pairs_cmp}, ValueLists.trees_of}
+use Rattle.ciborium_value.specs.{ValueLists.tree_pairs_of, View.tree_of, contracts.tree.ValueOrd.TheImpl.the_step}
+use Rattle.ciborium_value.specs.{contracts.tree.ValueOrd.TheImpl.Laws.{local, unfolded}, declared.tree.Value.Value}
+use Rattle.ciborium_value.specs.declared.tree.Value.{the_lemmas, TheBlock.{the_members, the_depth, the_family}}
+use Rattle.ciborium_value.specs.declared.tree.Value.{TheBlock.member-Value, TheFolds.{map-Value, ind-Value}}
+use Rattle.ciborium_value.specs.declared.tree.Value.{TheOpen.Value-F, TheViews.{out-Value, roll-Value}}
 use denote.Hole.Compared.{compared_is}
 
 cmp_unfolded : (v w : Value) → value_cmp v w ≡ unfolded v w

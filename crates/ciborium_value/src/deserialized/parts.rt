@@ -13,7 +13,7 @@ ghost use Rattle.ciborium_value.specs.Given.{given_bytes, given_character, given
 ghost use Rattle.ciborium_value.specs.Given.{given_name, given_text, given_unit};
 ghost use Rattle.ciborium_value.specs.inner.TreeSources.{value_weight};
 ghost use Rattle.ciborium_value.specs.TreeAnswers.{IsErrorOf, tree_fault, value_item};
-ghost use Rattle.ciborium_value.specs.View.{tree_pairs_of};
+ghost use Rattle.ciborium_value.specs.ValueLists.{tree_pairs_of};
 ghost use Rattle.ciborium_ll.specs.declared.kind.Kind.TheVariants as kinds;
 
 use crate::bignum::find_magnitude;

@@ -11,6 +11,7 @@ ghost use Rattle.ciborium_value.specs.Denotes.{Memory};
 use super::blanks::is_white;
 use super::error::{NotationError, NotationFault};
 use super::numbers::digit_of;
+use super::tokens::skip_word;
 use std::alloc::Global;
 
 /// The bytes of the hex digits up to an apostrophe, two digits each, and what follows it.
@@ -148,10 +149,12 @@ fn end_base64(group: Group, text: &[u8]) -> Option<&[u8]>
     if group.count == 1 || group.bits > 0 {
         return None;
     }
-    match (group.count, text) {
-        (_, [b'\'', behind @ ..]) => Some(behind),
-        (2, [b'=', b'=', b'\'', behind @ ..]) => Some(behind),
-        (3, [b'=', b'\'', behind @ ..]) => Some(behind),
+    if let Some(behind) = skip_word(text, b"'") {
+        return Some(behind);
+    }
+    match group.count {
+        2 => skip_word(text, b"=='"),
+        3 => skip_word(text, b"='"),
         _ => None,
     }
 }

@@ -1,17 +1,15 @@
 //! The arrays, maps and tags that are unfinished while a text is read, and what each token does to
 //! them.
 
-ghost use Rattle.std.specs.Prelude.{◌≡◌, ◌<◌, ◌∷◌, [], IfErr, IfOk, List, Some, length, map};
-ghost use Rattle.std.specs.Prelude.{nat_le, ℕ};
+ghost use Rattle.std.specs.Prelude.{◌≡◌, [], IfErr, IfOk, List, Some, length, map, nat_le, ℕ};
 ghost use Rattle.ciborium_value.specs.Tokens.{behind_blanks};
 ghost use Rattle.ciborium_value.specs.Tree.{Tree};
-ghost use Rattle.ciborium_value.specs.View.{pair_trees, tree_of};
-ghost use Rattle.ciborium_value.specs.inner.ReadTokens.{Completes, IsMisplaced, IsRoom, Leads};
-ghost use Rattle.ciborium_value.specs.inner.ReadTokens.{array_part};
-ghost use Rattle.ciborium_value.specs.inner.ReadTokens.{await_of, behind, in_array, in_keys};
-ghost use Rattle.ciborium_value.specs.inner.ReadTokens.{in_tag};
-ghost use Rattle.ciborium_value.specs.inner.ReadTokens.{in_values, item, map_part, around_in};
-ghost use Rattle.ciborium_value.specs.inner.ReadTokens.{token_read};
+ghost use Rattle.ciborium_value.specs.ValueLists.{pair_trees};
+ghost use Rattle.ciborium_value.specs.View.{tree_of};
+ghost use Rattle.ciborium_value.specs.inner.ReadTokens.{Completes, Makes, Takes, around_in};
+ghost use Rattle.ciborium_value.specs.inner.ReadTokens.{around_of, array_part, await_of, behind};
+ghost use Rattle.ciborium_value.specs.inner.ReadTokens.{in_array, in_keys, in_tag, in_values, item};
+ghost use Rattle.ciborium_value.specs.inner.ReadTokens.{map_part, token_read};
 
 use super::error::{NotationError, NotationFault};
 use super::tokens::Token;
@@ -42,6 +40,15 @@ pub enum Due {
     Behind(Value),
 }
 
+/// What a token behind an item makes of the innermost level.
+#[derive(Drop)]
+enum Step {
+    /// One more item is due in it.
+    More(Level),
+    /// It has ended, as this item.
+    End(Value),
+}
+
 /// The levels around a place in a text, the innermost at the top.
 #[derive(Drop)]
 pub struct Levels {
@@ -50,7 +57,6 @@ pub struct Levels {
     alloc: Global,
 }
 
-#[tactic(auto, using(crate::proofs::Denoting::BegunLevels::around_last))]
 impl Levels {
     /// None is unfinished, and so many may be.
     pub fn new(alloc: Global, limit: usize) -> Levels
@@ -90,42 +96,23 @@ impl Levels {
     ///
     /// Why it may not stand there, and `Memory`.
     pub fn take(&mut self, due: Due, token: Token, place: usize) -> Result<Due, NotationError>
-        ensures taken { IfOk result (λ next. Leads (around_in self.old) (await_of due) (token_read
-            token)
-            (around_in self.new) (await_of next)) }
-        ensures refused { IfErr result
-            (IsMisplaced (around_in self.old) (await_of due) (token_read token) self.old.limit) }
+        ensures taken { Takes self.old.limit self.old.levels.items (await_of due)
+            (token_read token) self.new.levels.items result }
         ensures limit { self.new.limit ≡ self.old.limit }
-        ensures room { IfOk result (λ next.
-            IsRoom self.old.limit (length self.old.levels.items) (await_of due) →
-            IsRoom self.old.limit (length self.new.levels.items) (await_of next)) }
     {
         match due {
             Due::Item => self.take_item(token, place),
             Due::ArrayPart => self.take_array_part(token, place),
             Due::MapPart => self.take_map_part(token, place),
-            Due::Behind(value) => match self.levels.pop() {
-                None => Err(NotationError::At(place, NotationFault::End)),
-                Some(Level::Array(items)) => self.take_behind_item(items, value, token, place),
-                Some(Level::Keys(pairs)) => self.take_behind_key(pairs, value, token, place),
-                Some(Level::Values(pairs, key)) => {
-                    self.take_behind_value(pairs, key, value, token, place)
-                }
-                Some(Level::Tag(tag)) => self.take_behind_content(tag, value, token, place),
-            },
+            Due::Behind(value) => self.take_behind(value, &token, place),
         }
     }
 
     // Takes the first token of an item.
     fn take_item(&mut self, token: Token, place: usize) -> Result<Due, NotationError>
-        ensures taken { IfOk result (λ next. Leads (around_in self.old) item (token_read token)
-            (around_in self.new) (await_of next)) }
-        ensures refused { IfErr result
-            (IsMisplaced (around_in self.old) item (token_read token) self.old.limit) }
+        ensures taken { Takes self.old.limit self.old.levels.items item (token_read token)
+            self.new.levels.items result }
         ensures limit { self.new.limit ≡ self.old.limit }
-        ensures room { IfOk result (λ next.
-            IsRoom self.old.limit (length self.old.levels.items) item →
-            IsRoom self.old.limit (length self.new.levels.items) (await_of next)) }
     {
         if token.enters_level() && self.is_full() {
             return Err(NotationError::At(place, NotationFault::TooDeep));
@@ -151,15 +138,9 @@ impl Levels {
 
     // Takes the first token of the first item of an array, or its end.
     fn take_array_part(&mut self, token: Token, place: usize) -> Result<Due, NotationError>
-        ensures taken { IfOk result
-            (λ next. Leads (around_in self.old) array_part (token_read token)
-            (around_in self.new) (await_of next)) }
-        ensures refused { IfErr result
-            (IsMisplaced (around_in self.old) array_part (token_read token) self.old.limit) }
+        ensures taken { Takes self.old.limit self.old.levels.items array_part (token_read token)
+            self.new.levels.items result }
         ensures limit { self.new.limit ≡ self.old.limit }
-        ensures room { IfOk result (λ next.
-            IsRoom self.old.limit (length self.old.levels.items) array_part →
-            IsRoom self.old.limit (length self.new.levels.items) (await_of next)) }
     {
         let items = Vec::new(self.alloc);
         if let Token::EndArray = token {
@@ -171,14 +152,9 @@ impl Levels {
 
     // Takes the first token of the first key of a map, or its end.
     fn take_map_part(&mut self, token: Token, place: usize) -> Result<Due, NotationError>
-        ensures taken { IfOk result (λ next. Leads (around_in self.old) map_part (token_read token)
-            (around_in self.new) (await_of next)) }
-        ensures refused { IfErr result
-            (IsMisplaced (around_in self.old) map_part (token_read token) self.old.limit) }
+        ensures taken { Takes self.old.limit self.old.levels.items map_part (token_read token)
+            self.new.levels.items result }
         ensures limit { self.new.limit ≡ self.old.limit }
-        ensures room { IfOk result (λ next.
-            IsRoom self.old.limit (length self.old.levels.items) map_part →
-            IsRoom self.old.limit (length self.new.levels.items) (await_of next)) }
     {
         let pairs = Vec::new(self.alloc);
         if let Token::EndMap = token {
@@ -188,122 +164,127 @@ impl Levels {
         self.take_item(token, place)
     }
 
-    // Takes what follows an item of the innermost array, which was taken off.
-    fn take_behind_item(
+    // Takes what follows an item.
+    fn take_behind(
         &mut self,
-        mut items: Vec<Value>,
         value: Value,
-        token: Token,
+        token: &Token,
         place: usize,
     ) -> Result<Due, NotationError>
-        ensures taken { IfOk result (λ next. Leads (in_array (map tree_of items.items) ∷ around_in
-            self.old)
-            (behind (tree_of value)) (token_read token) (around_in self.new) (await_of next)) }
-        ensures refused { IfErr result (IsMisplaced (in_array (map tree_of items.items) ∷ around_in
-            self.old)
-            (behind (tree_of value)) (token_read token) self.old.limit) }
+        ensures taken { Takes self.old.limit self.old.levels.items (behind (tree_of value))
+            (token_read token.now) self.new.levels.items result }
         ensures limit { self.new.limit ≡ self.old.limit }
-        ensures room { IfOk result (λ next. length self.old.levels.items < self.old.limit →
-            IsRoom self.old.limit (length self.new.levels.items) (await_of next)) }
     {
-        match token {
-            Token::Comma => {
-                items.push(value)?;
-                self.levels.push(Level::Array(items))?;
+        let Some(level) = self.levels.pop() else {
+            return Err(NotationError::At(place, NotationFault::End));
+        };
+        let step = match step_behind(self.alloc, level, value, token, place) {
+            Ok(step) => step,
+            Err(error) => return Err(error),
+        };
+        match step {
+            Step::More(level) => {
+                self.levels.push(level)?;
                 Ok(Due::Item)
             }
-            Token::EndArray => {
-                items.push(value)?;
-                Ok(Due::Behind(Value::Array(items)))
-            }
-            _ => Err(NotationError::At(place, NotationFault::ArrayEnd)),
+            Step::End(value) => Ok(Due::Behind(value)),
         }
     }
+}
 
-    // Takes what follows a key of the innermost map, which was taken off.
-    fn take_behind_key(
-        &mut self,
-        pairs: Vec<(Value, Value)>,
-        value: Value,
-        token: Token,
-        place: usize,
-    ) -> Result<Due, NotationError>
-        ensures taken { IfOk result (λ next. Leads (in_keys (map pair_trees pairs.items) ∷ around_in
-            self.old)
-            (behind (tree_of value)) (token_read token) (around_in self.new) (await_of next)) }
-        ensures refused { IfErr result
-            (IsMisplaced (in_keys (map pair_trees pairs.items) ∷ around_in
-            self.old)
-            (behind (tree_of value)) (token_read token) self.old.limit) }
-        ensures limit { self.new.limit ≡ self.old.limit }
-        ensures room { IfOk result (λ next. length self.old.levels.items < self.old.limit →
-            IsRoom self.old.limit (length self.new.levels.items) (await_of next)) }
-    {
-        match token {
-            Token::Colon => {
-                self.levels.push(Level::Values(pairs, value))?;
-                Ok(Due::Item)
-            }
-            _ => Err(NotationError::At(place, NotationFault::Colon)),
-        }
+// What a token makes of a level behind an item in it.
+fn step_behind(
+    alloc: Global,
+    level: Level,
+    value: Value,
+    token: &Token,
+    place: usize,
+) -> Result<Step, NotationError>
+    ensures { Makes (around_of level) (tree_of value) (token_read token.now) result }
+{
+    match level {
+        Level::Array(items) => step_behind_item(items, value, token, place),
+        Level::Keys(pairs) => step_behind_key(pairs, value, token, place),
+        Level::Values(pairs, key) => step_behind_value(pairs, (key, value), token, place),
+        Level::Tag(tag) => step_behind_content(alloc, tag, value, token, place),
     }
+}
 
-    // Takes what follows a value of the innermost map, which was taken off.
-    fn take_behind_value(
-        &mut self,
-        mut pairs: Vec<(Value, Value)>,
-        key: Value,
-        value: Value,
-        token: Token,
-        place: usize,
-    ) -> Result<Due, NotationError>
-        ensures taken { IfOk result (λ next. Leads (in_values (map pair_trees pairs.items) (tree_of
-            key) ∷ around_in self.old)
-            (behind (tree_of value)) (token_read token) (around_in self.new) (await_of next)) }
-        ensures refused { IfErr result (IsMisplaced (in_values (map pair_trees pairs.items)
-            (tree_of key) ∷ around_in self.old)
-            (behind (tree_of value)) (token_read token) self.old.limit) }
-        ensures limit { self.new.limit ≡ self.old.limit }
-        ensures room { IfOk result (λ next. length self.old.levels.items < self.old.limit →
-            IsRoom self.old.limit (length self.new.levels.items) (await_of next)) }
-    {
-        match token {
-            Token::Comma => {
-                pairs.push((key, value))?;
-                self.levels.push(Level::Keys(pairs))?;
-                Ok(Due::Item)
-            }
-            Token::EndMap => {
-                pairs.push((key, value))?;
-                Ok(Due::Behind(Value::Map(pairs)))
-            }
-            _ => Err(NotationError::At(place, NotationFault::MapEnd)),
+// The same of an array.
+fn step_behind_item(
+    mut items: Vec<Value>,
+    value: Value,
+    token: &Token,
+    place: usize,
+) -> Result<Step, NotationError>
+    ensures { Makes (in_array (map tree_of items.items)) (tree_of value) (token_read token.now)
+        result }
+{
+    match token {
+        Token::Comma => {
+            items.push(value)?;
+            Ok(Step::More(Level::Array(items)))
         }
+        Token::EndArray => {
+            items.push(value)?;
+            Ok(Step::End(Value::Array(items)))
+        }
+        _ => Err(NotationError::At(place, NotationFault::ArrayEnd)),
     }
+}
 
-    // Takes what follows the content of the innermost tag, which was taken off.
-    fn take_behind_content(
-        &mut self,
-        tag: u64,
-        value: Value,
-        token: Token,
-        place: usize,
-    ) -> Result<Due, NotationError>
-        ensures taken { IfOk result (λ next. Leads (in_tag tag ∷ around_in self.old)
-            (behind (tree_of value)) (token_read token) (around_in self.new) (await_of next)) }
-        ensures refused { IfErr result (IsMisplaced (in_tag tag ∷ around_in self.old)
-            (behind (tree_of value)) (token_read token) self.old.limit) }
-        ensures limit { self.new.limit ≡ self.old.limit }
-        ensures room { IfOk result (λ next. length self.old.levels.items < self.old.limit →
-            IsRoom self.old.limit (length self.new.levels.items) (await_of next)) }
-    {
-        match token {
-            Token::EndTag => {
-                let content = Box::new(self.alloc, value)?;
-                Ok(Due::Behind(Value::Tag(tag, content)))
-            }
-            _ => Err(NotationError::At(place, NotationFault::TagEnd)),
+// The same behind a key of a map.
+fn step_behind_key(
+    pairs: Vec<(Value, Value)>,
+    value: Value,
+    token: &Token,
+    place: usize,
+) -> Result<Step, NotationError>
+    ensures { Makes (in_keys (map pair_trees pairs.items)) (tree_of value) (token_read token.now)
+        result }
+{
+    match token {
+        Token::Colon => Ok(Step::More(Level::Values(pairs, value))),
+        _ => Err(NotationError::At(place, NotationFault::Colon)),
+    }
+}
+
+// The same behind a pair of a map.
+fn step_behind_value(
+    mut pairs: Vec<(Value, Value)>,
+    pair: (Value, Value),
+    token: &Token,
+    place: usize,
+) -> Result<Step, NotationError>
+    ensures { Makes (in_values (map pair_trees pairs.items) (tree_of pair.0)) (tree_of pair.1)
+        (token_read token.now) result }
+{
+    match token {
+        Token::Comma => {
+            pairs.push(pair)?;
+            Ok(Step::More(Level::Keys(pairs)))
         }
+        Token::EndMap => {
+            pairs.push(pair)?;
+            Ok(Step::End(Value::Map(pairs)))
+        }
+        _ => Err(NotationError::At(place, NotationFault::MapEnd)),
+    }
+}
+
+// The same of a tag.
+fn step_behind_content(
+    alloc: Global,
+    tag: u64,
+    value: Value,
+    token: &Token,
+    place: usize,
+) -> Result<Step, NotationError>
+    ensures { Makes (in_tag tag) (tree_of value) (token_read token.now) result }
+{
+    match token {
+        Token::EndTag => Ok(Step::End(Value::Tag(tag, Box::new(alloc, value)?))),
+        _ => Err(NotationError::At(place, NotationFault::TagEnd)),
     }
 }
 

@@ -4,7 +4,7 @@ ghost use Rattle.std.specs.Prelude.{◌≡◌, ◌≢◌, ◌<◌, ◌≤◌, �
 ghost use Rattle.std.specs.Prelude.{MatchOption};
 ghost use Rattle.std.specs.Prelude.{None, OnOk, Some, encode_utf8, length, string_bytes};
 ghost use Rattle.ciborium_value.specs.Tokens.{escape_at, is_high, is_low, leaf, low_at};
-ghost use Rattle.ciborium_value.specs.Tokens.{low_unit_at};
+ghost use Rattle.ciborium_value.specs.Tokens.{low_unit_at, one_digit_more};
 ghost use Rattle.ciborium_value.specs.Tokens.{prepended, text_at};
 ghost use Rattle.ciborium_value.specs.Tokens.{text_token, unit_at, unit_in};
 ghost use Rattle.ciborium_value.specs.Tree as trees;
@@ -183,9 +183,17 @@ fn read_unit(text: &[u8]) -> Option<(u32, &[u8])>
     let [a, b, c, d, behind @ ..] = text else {
         return None;
     };
-    let high = u32::from(digit_of(*a, 16)?) * 16 + u32::from(digit_of(*b, 16)?);
-    let low = u32::from(digit_of(*c, 16)?) * 16 + u32::from(digit_of(*d, 16)?);
+    let high = two_digits(*a, *b)?;
+    let low = two_digits(*c, *d)?;
     Some((high * 256 + low, behind))
+}
+
+// The number of two hex digits.
+fn two_digits(high: u8, low: u8) -> Option<u32>
+    ensures { MatchOption result (one_digit_more (one_digit_more (Some 0) high) low ≡ None)
+        (λ n. (one_digit_more (one_digit_more (Some 0) high) low ≡ Some n) × (n < 256)) }
+{
+    Some(u32::from(digit_of(high, 16)?) * 16 + u32::from(digit_of(low, 16)?))
 }
 
 // Whether a unit is the first of a surrogate pair.

@@ -2,8 +2,8 @@
 
 ghost use Rattle.std.specs.Prelude.{◌≡◌, ◌≢◌, ◌≤◌, ◌<◌, ◌+◌, ◌^◌, IfErr, IfOk, IfSome};
 ghost use Rattle.std.specs.Prelude.{MatchOption, None, Some, length};
-ghost use Rattle.ciborium_value.specs.Tokens.{behind, leaf, letter_token, minus_token, negated};
-ghost use Rattle.ciborium_value.specs.Tokens.{number_token, plus_token, token_at};
+ghost use Rattle.ciborium_value.specs.Tokens.{behind, leaf, letter_token, mark_of, minus_token};
+ghost use Rattle.ciborium_value.specs.Tokens.{negated, number_token, plus_token, token_at};
 ghost use Rattle.ciborium_value.specs.Tokens.{whole_at, word_token};
 ghost use Rattle.ciborium_value.specs.Number.{number_tree};
 ghost use Rattle.ciborium_value.specs.View.{tree_of};
@@ -57,20 +57,35 @@ pub fn read_token(alloc: Global, text: &[u8]) -> Result<(Token, &[u8]), Notation
     ensures refused { IfErr result (λ e. e ≢ Memory → token_at text.now ≡ None) }
     ensures shorter { IfOk result (λ p. length p.1.now < length text.now) }
 {
-    match text {
-        [b'"', behind @ ..] => {
-            let (text, behind) = read_text(alloc, behind)?;
-            Ok((Token::Leaf(Value::Text(text)), behind))
-        }
-        [b'-' | b'0'..=b'9', ..] => read_number(alloc, text),
-        [b'[', behind @ ..] => Ok((Token::BeginArray, behind)),
-        [b']', behind @ ..] => Ok((Token::EndArray, behind)),
-        [b'{', behind @ ..] => Ok((Token::BeginMap, behind)),
-        [b'}', behind @ ..] => Ok((Token::EndMap, behind)),
-        [b')', behind @ ..] => Ok((Token::EndTag, behind)),
-        [b',', behind @ ..] => Ok((Token::Comma, behind)),
-        [b':', behind @ ..] => Ok((Token::Colon, behind)),
-        _ => read_letters(alloc, text),
+    let [first, behind @ ..] = text else {
+        return Err(NotationError::At(0, NotationFault::Item));
+    };
+    if *first == b'"' {
+        let (text, behind) = read_text(alloc, behind)?;
+        return Ok((Token::Leaf(Value::Text(text)), behind));
+    }
+    if let b'-' | b'0'..=b'9' = *first {
+        return read_number(alloc, text);
+    }
+    match mark_of(*first) {
+        Some(mark) => Ok((mark, behind)),
+        None => read_letters(alloc, text),
+    }
+}
+
+// A bracket, a parenthesis, a comma or a colon.
+fn mark_of(byte: u8) -> Option<Token>
+    ensures { MatchOption result (mark_of byte ≡ None) (λ k. mark_of byte ≡ Some (token_read k)) }
+{
+    match byte {
+        b'[' => Some(Token::BeginArray),
+        b']' => Some(Token::EndArray),
+        b'{' => Some(Token::BeginMap),
+        b'}' => Some(Token::EndMap),
+        b')' => Some(Token::EndTag),
+        b',' => Some(Token::Comma),
+        b':' => Some(Token::Colon),
+        _ => None,
     }
 }
 
@@ -80,11 +95,11 @@ fn read_letters(alloc: Global, text: &[u8]) -> Result<(Token, &[u8]), NotationEr
     ensures refused { IfErr result (λ e. e ≢ Memory → letter_token text.now ≡ None) }
     ensures shorter { IfOk result (λ p. length p.1.now < length text.now) }
 {
-    if let [b'h', b'\'', behind @ ..] = text {
+    if let Some(behind) = skip_word(text, b"h'") {
         let (bytes, behind) = read_hex(alloc, behind)?;
         return Ok((Token::Leaf(Value::Bytes(bytes)), behind));
     }
-    if let [b'b', b'6', b'4', b'\'', behind @ ..] = text {
+    if let Some(behind) = skip_word(text, b"b64'") {
         let (bytes, behind) = read_base64(alloc, behind)?;
         return Ok((Token::Leaf(Value::Bytes(bytes)), behind));
     }
@@ -115,8 +130,8 @@ fn read_word(text: &[u8]) -> Option<(Value, &[u8])>
     }
 }
 
-// What follows a word at the front.
-fn skip_word<'t>(text: &'t [u8], word: &[u8]) -> Option<&'t [u8]>
+/// What follows a word at the front.
+pub fn skip_word<'t>(text: &'t [u8], word: &[u8]) -> Option<&'t [u8]>
     ensures rest { MatchOption result (behind word.now text.now ≡ None)
         (λ rest. behind word.now text.now ≡ Some rest.now) }
     ensures length { IfSome result (λ rest.
@@ -153,9 +168,9 @@ fn read_number(alloc: Global, text: &[u8]) -> Result<(Token, &[u8]), NotationErr
     ensures refused { IfErr result (λ e. e ≢ Memory → number_token text.now ≡ None) }
     ensures shorter { IfOk result (λ p. length p.1.now < length text.now) }
 {
-    match text {
-        [b'-', digits @ ..] => read_negative(alloc, digits),
-        _ => read_positive(alloc, text),
+    match skip_word(text, b"-") {
+        Some(digits) => read_negative(alloc, digits),
+        None => read_positive(alloc, text),
     }
 }
 

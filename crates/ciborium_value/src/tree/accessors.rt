@@ -14,7 +14,8 @@ ghost use Rattle.ciborium_value.specs.TreeVariants.{IsIntegerTree, IsMapTree, Is
 ghost use Rattle.ciborium_value.specs.TreeVariants.{IsTextTree};
 ghost use Rattle.ciborium_value.specs.Variants.{IsArray, IsBool, IsBytes, IsInteger, IsMap};
 ghost use Rattle.ciborium_value.specs.Variants.{IsTag, IsTagOf, IsText, IsTextOf};
-ghost use Rattle.ciborium_value.specs.View.{tree_of, tree_pairs_of, trees_of};
+ghost use Rattle.ciborium_value.specs.ValueLists.{tree_pairs_of, trees_of};
+ghost use Rattle.ciborium_value.specs.View.{tree_of};
 ghost use Rattle.ciborium_value.specs.contracts.tree.Value.{the_row};
 ghost use Rattle.ciborium_value.specs.declared.tree.Value as value;
 

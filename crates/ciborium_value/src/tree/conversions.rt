@@ -5,7 +5,8 @@ ghost use Rattle.ciborium_value.specs.Encoding.{item_of};
 ghost use Rattle.ciborium_value.specs.Number.{number_tree, shortest_bytes};
 ghost use Rattle.ciborium_value.specs.Sinks.{number_item};
 ghost use Rattle.ciborium_value.specs.Tree as trees;
-ghost use Rattle.ciborium_value.specs.View.{tree_of, tree_pairs_of, trees_of};
+ghost use Rattle.ciborium_value.specs.ValueLists.{tree_pairs_of, trees_of};
+ghost use Rattle.ciborium_value.specs.View.{tree_of};
 ghost use Rattle.ciborium_value.specs.declared.tree.Value as value;
 
 use crate::bignum::{tag_over, without_leading_zeros};

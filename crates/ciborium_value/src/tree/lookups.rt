@@ -8,7 +8,8 @@ ghost use Rattle.ciborium_value.specs.Labels.{Label, is_label};
 ghost use Rattle.ciborium_value.specs.Lookups.{last_with, parts_of, replaced_at, replaced_under};
 ghost use Rattle.ciborium_value.specs.Lookups.{signed_of, tree_at, tree_label, tree_under};
 ghost use Rattle.ciborium_value.specs.Lookups.{unsigned_of};
-ghost use Rattle.ciborium_value.specs.View.{tree_of, tree_pairs_of};
+ghost use Rattle.ciborium_value.specs.ValueLists.{tree_pairs_of};
+ghost use Rattle.ciborium_value.specs.View.{tree_of};
 
 use crate::labels::SoughtLabel;
 use crate::tree::Value;

@@ -1,3 +1,4 @@
+use Rattle.std.proofs.lemmas.Grind.{common_steps}
 use Rattle.std.proofs.Common.{◌++◌, List, ℕ, ap, arith, ◌∙◌}
 use Rattle.cbor.proofs.{DumpedHeads.less-unread, ExactLevels.chunk-read, ExactNotation.{all-chunks, no-chunks}}
 use Rattle.cbor.proofs.ExactNotation.{one-more-chunk}
@@ -39,3 +40,12 @@ push_string-requires c = record {
   string = (chunk-read c.args.string c.chunks.heads c.next_head.new.heads c.in_ok-head.head c.requires.due.0
       (c.chunks.invariant.1 c.requires.due.0 c.requires.due.1) c.in_default.not-Break c.in_ok-head.ensures.read).0;
 }
+
+pub chunks-smaller : goal.chunks-smaller
+chunks-smaller c = grind (arith, common_steps)
+
+pub unreachable-requires : goal.unreachable-requires
+unreachable-requires c = grind (arith, common_steps)
+
+pub returns-in-Break-clause-left : goal.returns-in-Break-clause-left
+returns-in-Break-clause-left c = grind (arith, common_steps)

@@ -1,3 +1,4 @@
+use Rattle.std.proofs.{Common.arith, lemmas.Grind.common_steps}
 use Rattle.std.proofs.Common.{[], Some}
 use Rattle.cbor.specs.declared.reading.Spelling.TheVariants.{Deterministic}
 use Rattle.cbor.proofs.{ReadBytes.named-anyway, StreamedItems.what-is-left}
@@ -11,3 +12,6 @@ returns-in_ok-refusal-in-Err g c b e =
     let read = c.in-Err.ensures in
     let left = what-is-left _ _ b read.taken.0 e read.taken.1 in
     c.in_ok-refusal-in-Err.ensures (Deterministic c.args.order) b left.0 c.args.limit left.1 (read.refused b e)
+
+pub returns-in-Ok : goal.returns-in-Ok
+returns-in-Ok g c = grind (arith, common_steps)

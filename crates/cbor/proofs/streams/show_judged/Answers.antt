@@ -1,18 +1,18 @@
-use Rattle.std.proofs.Common.{[], append-nil, inr, refl, sym}
-use Rattle.ciborium_value.specs.View.{tree_of}
-use Rattle.cbor.specs.{Forms.formless_text, Streams.refused_line}
+use Rattle.std.proofs.Common.{◌++◌, append_assoc}
+use Rattle.cbor.specs.Lines.{text_line}
 use Rattle.cbor.proofs.streams.show_judged.Goals as goal
 
-pub returns-in-Err-make_shown : goal.returns-in-Err-make_shown
-returns-in-Err-make_shown g c s w limit is e =
-    let kind = c.in-Err-make_shown.kind in
-    let item = rw c.in-Ok.is at is in
-    let none = c.in-Err-make_shown.ensures.formless in (
-      refused_line c.args.place.now c.args.number (formless_text kind),
-      (
-        formless_text kind,
-        inr (tree_of c.in-Ok.value, [], kind, (s, item, sym (append-nil s)), none, refl),
-        refl,
-      ),
-      c.in_ok-show_formless-in-Ok.ensures w e,
-    )
+pub returns-then-branch : goal.returns-then-branch
+returns-then-branch g c s w limit is e = (
+  text_line c.write_judged.new.line.items,
+  rw c.if-branch.true at (c.in_ok-write_judged.ensures c.args.place.now s limit is),
+  c.in_ok-put_line.ensures w e,
+)
+
+pub returns : goal.returns
+returns g c s w limit is e = (
+  c.args.place.now ++ text_line c.write_judged.new.line.items,
+  rw c.if-branch.false at (c.in_ok-write_judged.ensures c.args.place.now s limit is),
+  rw (append_assoc w c.args.place.now _) at (c.in_ok-put_line-2.ensures (w ++ c.args.place.now)
+      (c.in_ok-put_text.ensures w e)),
+)

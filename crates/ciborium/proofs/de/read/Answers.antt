@@ -1,6 +1,6 @@
 -- The bytes begin at offset 0.
 use Rattle.std.specs.declared.io.Error.{Error}
-use Rattle.ciborium_value.specs.{View.read_as, Spelling.any}
+use Rattle.ciborium_value.specs.{Spelling.any, View.result_map}
 use Rattle.ciborium.proofs.{Readers.HandedReaders.some-map, Readers.KnownReaders.whole-of}
 use Rattle.ciborium.proofs.de.read.Goals as goal
 
@@ -12,5 +12,5 @@ returns-clause-reads g c = record {
   taken = c.read_at.ensures.reads.taken;
   value = some-map g.T.Deserialize.reading.whole c.read_at.ensures.reads.value
       (λ tree taken. whole-of {E = Error} any c.args.limit (g.A.Access.remaining c.args.reader.now) _
-      (read_as (λ v. tree (g.T.Deserialize.reading.content v)) c.read_at.result) taken);
+      (result_map (λ v. tree (g.T.Deserialize.reading.content v)) c.read_at.result) taken);
 }

@@ -45,24 +45,23 @@ impl<'a, R, A: Access<R>> ByteSource<'a, R, A> {
     pub(crate) fn read_byte_items(
         &mut self,
         alloc: Global,
-        seq: ByteSeq,
+        seq: &mut ByteSeq,
     ) -> Result<Vec<u8>, BareReadError>
         ensures only { TakesOnly (HasTakenSince A.remaining) self.old self.new }
         ensures no_more { OnErr result
-            (weight_left self.new ≤ weight_left self.old + seq_left seq) }
-        ensures ok { IfOk result (λ v. ReadsRest A.remaining self.old self.new seq
+            (weight_left self.new ≤ weight_left self.old + seq_left seq.old) }
+        ensures ok { IfOk result (λ v. ReadsRest A.remaining self.old self.new seq.old
             (take_each given_byte) v.items) }
-        ensures refused { IfErr result (λ e. RefusesRest A.remaining self.old seq
+        ensures refused { IfErr result (λ e. RefusesRest A.remaining self.old seq.old
             (take_each given_byte) (fault_at A.can_fail A.remaining self.new e)) }
         ensures took { OnOk result (TakesTo (IsUnread A.remaining) self.old self.new
-            (λ c z. (b : List ℕ) → SeqOwes seq sequence b c → HasItem b z)) }
+            (λ c z. (b : List ℕ) → SeqOwes seq.old sequence b c → HasItem b z)) }
         ensures fewer { OnOk result
-            (weight_left self.new ≤ weight_left self.old + seq_left seq) }
+            (weight_left self.new ≤ weight_left self.old + seq_left seq.old) }
     {
-        let mut left = seq;
         let mut bytes = Vec::new(alloc);
         'items: loop {
-            let goes_on = self.next(&mut left)?;
+            let goes_on = self.next(seq)?;
             if !goes_on {
                 return Ok(bytes);
             }

@@ -2,14 +2,11 @@
 
 ghost use Rattle.std.specs.Prelude.{◌≡◌, ◌≢◌, ◌+◌, ◌-◌, ◌≤◌, IfErr, IfOk};
 ghost use Rattle.std.specs.Prelude.{None, OnErr, OnOk, Some};
-ghost use Rattle.ciborium_ll.specs.Decoding.{HasSameReader};
 ghost use Rattle.ciborium_ll.specs.declared.strings.StringType.{StringType};
-ghost use Rattle.ciborium_value.specs.Sources.{TakesOnly};
-ghost use Rattle.ciborium.specs.inner.ByteSources.{HasBytes};
-ghost use Rattle.ciborium.specs.inner.ByteSources.{HasTaken, IsUnread};
+ghost use Rattle.ciborium.specs.inner.ByteSources.{KeepsSource, HasBytes};
+ghost use Rattle.ciborium.specs.inner.ByteSources.{IsUnread};
 ghost use Rattle.ciborium.specs.inner.ByteSources.{bytes_weight, end_at};
 ghost use Rattle.ciborium.specs.inner.ByteSources.{parts_left, seq_left};
-ghost use Rattle.ciborium.specs.inner.ByteSources.{weight_left};
 ghost use Rattle.ciborium.specs.inner.ByteSources.{fault_at};
 ghost use Rattle.ciborium.specs.inner.StringContents.{DeniesContent, TakesContent};
 
@@ -65,12 +62,8 @@ impl<'a, R, A: Access<R>> ByteSource<'a, R, A> {
         offset: usize,
     ) -> Result<ByteSeq, BareReadError>
         requires { self.old.pending ≡ None }
-        ensures same_reader { HasSameReader self.old.decoder self.new.decoder }
-        ensures only { TakesOnly (HasTaken A.remaining) self.old.decoder self.new.decoder }
-        ensures no_more { OnErr result (weight_left self.new ≤ weight_left self.old) }
-        ensures levels { self.new.levels ≡ self.old.levels }
+        ensures keeps { KeepsSource A.remaining self.old self.new }
         ensures back { IfOk result (λ q. q.levels ≡ self.old.levels) }
-        ensures pending { self.new.pending ≡ None }
         ensures fewer { IfOk result
             (λ q. bytes_weight self.new + seq_left q ≤ bytes_weight self.old) }
         ensures ok { IfOk result (λ q. HasBytes q.left (TakesContent (IsUnread A.remaining self.old)

@@ -1,9 +1,8 @@
 //! The next head, as it comes or behind tags.
 
-ghost use Rattle.std.specs.Prelude.{◌≡◌, ◌+◌, ◌≤◌, IfErr, IfOk, None, OnErr, false};
-ghost use Rattle.ciborium_ll.specs.Decoding.{HasSameReader};
-ghost use Rattle.ciborium_value.specs.Sources.{IsGrantedFault, TakesOnly};
-ghost use Rattle.ciborium.specs.inner.ByteSources.{CountsHead, HasTaken, IsUnread, bytes_weight};
+ghost use Rattle.std.specs.Prelude.{◌+◌, ◌≤◌, IfErr, IfOk, None, false};
+ghost use Rattle.ciborium_value.specs.Sources.{IsGrantedFault};
+ghost use Rattle.ciborium.specs.inner.ByteSources.{KeepsSource, CountsHead, IsUnread, bytes_weight};
 ghost use Rattle.ciborium.specs.inner.ByteSources.{end_at, head_weight, weight_left, ReadsBareHead};
 ghost use Rattle.ciborium.specs.inner.ByteSources.{fault_at};
 ghost use Rattle.ciborium.specs.inner.FrontItems.{DeniesHead, DeniesItem, TakesHead};
@@ -27,11 +26,7 @@ impl<'a, R, A: Access<R>> ByteSource<'a, R, A> {
     /// The next head, and its offset.
     #[inline(always)]
     pub(crate) fn next_head(&mut self) -> Result<(Header, usize), BareReadError>
-        ensures same_reader { HasSameReader self.old.decoder self.new.decoder }
-        ensures only { TakesOnly (HasTaken A.remaining) self.old.decoder self.new.decoder }
-        ensures no_more { OnErr result (weight_left self.new ≤ weight_left self.old) }
-        ensures levels { self.new.levels ≡ self.old.levels }
-        ensures pending { self.new.pending ≡ None }
+        ensures keeps { KeepsSource A.remaining self.old self.new }
         ensures fewer { IfOk result
             (λ h. bytes_weight self.new + head_weight h.0 ≤ weight_left self.old) }
         ensures head { IfOk result

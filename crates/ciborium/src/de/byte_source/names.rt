@@ -1,16 +1,13 @@
 //! Names.
 
-ghost use Rattle.std.specs.Prelude.{◌≡◌, ◌≤◌, IfErr, IfOk, IfSome, None, OnErr, OnOk, Some};
+ghost use Rattle.std.specs.Prelude.{◌≡◌, ◌≤◌, IfErr, IfOk, IfSome, None, Some};
 ghost use Rattle.std.specs.Prelude.{IsUtf8, MatchOption, string_bytes};
-ghost use Rattle.ciborium_ll.specs.Decoding.{HasSameReader};
 ghost use Rattle.ciborium_ll.specs.declared.strings.StringType.{StringType};
-ghost use Rattle.ciborium_value.specs.Sources.{TakesOnly};
 ghost use Rattle.ciborium_value.specs.Labels.{name_place, placed};
 ghost use Rattle.ciborium_value.specs.Given.{given_name};
 ghost use Rattle.ciborium_value.specs.declared.labels.LabelType.TheVariants.{Name};
-ghost use Rattle.ciborium.specs.inner.ByteSources.{AnswersItem, HasTaken, IsUnread, PassesItem};
-ghost use Rattle.ciborium.specs.inner.ByteSources.{bytes_weight, end_at, fault_at, head_label_type};
-ghost use Rattle.ciborium.specs.inner.ByteSources.{weight_left};
+ghost use Rattle.ciborium.specs.inner.ByteSources.{KeepsSource, AnswersItem, IsUnread, PassesItem};
+ghost use Rattle.ciborium.specs.inner.ByteSources.{end_at, fault_at, head_label_type};
 ghost use Rattle.ciborium.specs.inner.StringContents.{DeniesContent, TakesPlace};
 
 use crate::de::byte_source::ByteSource;
@@ -90,10 +87,7 @@ impl<'a, R, A: Access<R>> ByteSource<'a, R, A> {
     {
         let (header, offset) = self.bare_head(false)?;
         match header {
-            Header::Text(len) => {
-                let name = self.text_content(alloc, len)?;
-                Ok(name)
-            }
+            Header::Text(len) => self.text_content(alloc, len),
             Header::Bytes(len) => {
                 let bytes = self.bytes_content(alloc, len)?;
                 match String::from_utf8(bytes) {
@@ -116,12 +110,7 @@ impl<'a, R, A: Access<R>> ByteSource<'a, R, A> {
     ) -> Result<N::Place, BareReadError>
         requires pending { self.old.pending ≡ None }
         requires short { n ≤ 64 }
-        ensures same_reader { HasSameReader self.old.decoder self.new.decoder }
-        ensures only { TakesOnly (HasTaken A.remaining) self.old.decoder self.new.decoder }
-        ensures no_more { OnErr result (weight_left self.new ≤ weight_left self.old) }
-        ensures levels { self.new.levels ≡ self.old.levels }
-        ensures pending { self.new.pending ≡ None }
-        ensures fewer { OnOk result (bytes_weight self.new ≤ bytes_weight self.old) }
+        ensures keeps { KeepsSource A.remaining self.old self.new }
         ensures ok { IfOk result (λ place. TakesPlace (IsUnread A.remaining self.old)
             (IsUnread A.remaining self.new) StringType.Text (Some n)
             (name_place (N.place_of names.now))
@@ -149,12 +138,7 @@ impl<'a, R, A: Access<R>> ByteSource<'a, R, A> {
     ) -> Result<N::Place, BareReadError>
         requires pending { self.old.pending ≡ None }
         requires short { n ≤ 64 }
-        ensures same_reader { HasSameReader self.old.decoder self.new.decoder }
-        ensures only { TakesOnly (HasTaken A.remaining) self.old.decoder self.new.decoder }
-        ensures no_more { OnErr result (weight_left self.new ≤ weight_left self.old) }
-        ensures levels { self.new.levels ≡ self.old.levels }
-        ensures pending { self.new.pending ≡ None }
-        ensures fewer { OnOk result (bytes_weight self.new ≤ bytes_weight self.old) }
+        ensures keeps { KeepsSource A.remaining self.old self.new }
         ensures ok { IfOk result (λ place. TakesPlace (IsUnread A.remaining self.old)
             (IsUnread A.remaining self.new) StringType.Text (Some n)
             (name_place (N.place_of names.now))
@@ -181,12 +165,7 @@ impl<'a, R, A: Access<R>> ByteSource<'a, R, A> {
         names: &N,
     ) -> Result<N::Place, BareReadError>
         requires { self.old.pending ≡ None }
-        ensures same_reader { HasSameReader self.old.decoder self.new.decoder }
-        ensures only { TakesOnly (HasTaken A.remaining) self.old.decoder self.new.decoder }
-        ensures no_more { OnErr result (weight_left self.new ≤ weight_left self.old) }
-        ensures levels { self.new.levels ≡ self.old.levels }
-        ensures pending { self.new.pending ≡ None }
-        ensures fewer { OnOk result (bytes_weight self.new ≤ bytes_weight self.old) }
+        ensures keeps { KeepsSource A.remaining self.old self.new }
         ensures ok { IfOk result (λ place. TakesPlace (IsUnread A.remaining self.old)
             (IsUnread A.remaining self.new) StringType.Text len (name_place (N.place_of names.now))
             place) }
@@ -195,8 +174,7 @@ impl<'a, R, A: Access<R>> ByteSource<'a, R, A> {
             StringType.Text len (fault_at A.can_fail A.remaining self.new e)) }
     {
         if let Some(n) = short_len(len) {
-            let place = self.short_place(n, offset, names)?;
-            return Ok(place);
+            return self.short_place(n, offset, names);
         }
         let name = self.text_content(alloc, len)?;
         Ok(names.find_name(&name))
@@ -214,10 +192,7 @@ impl<'a, R, A: Access<R>> ByteSource<'a, R, A> {
     {
         let (header, offset) = self.bare_head(false)?;
         match header {
-            Header::Text(len) => {
-                let place = self.text_place(alloc, len, offset, labels)?;
-                Ok(place)
-            }
+            Header::Text(len) => self.text_place(alloc, len, offset, labels),
             Header::Bytes(len) => {
                 let bytes = self.bytes_content(alloc, len)?;
                 match str::from_utf8(&bytes) {
@@ -242,10 +217,7 @@ impl<'a, R, A: Access<R>> ByteSource<'a, R, A> {
             (placed (N.place_of labels.now) kind) (λ v. v) result }
     {
         match kind {
-            LabelType::Name => {
-                let place = self.named_place(alloc, labels)?;
-                Ok(place)
-            }
+            LabelType::Name => self.named_place(alloc, labels),
             LabelType::Number => {
                 let ((negative, n), _) = self.read_integer()?;
                 Ok(labels.find_number(negative, n))

@@ -1,15 +1,13 @@
 //! Numbers: integers, and bignums that are read byte by byte.
 
-ghost use Rattle.std.specs.Prelude.{◌≡◌, ◌==◌, ◌∷◌, ◌<◌, ◌≤◌, IfErr, IfOk, None, OnErr, OnOk, Some};
+ghost use Rattle.std.specs.Prelude.{◌≡◌, ◌==◌, ◌∷◌, ◌<◌, IfErr, IfOk, None, Some};
 ghost use Rattle.std.specs.Prelude.{[], false, true, ℕ};
-ghost use Rattle.ciborium_ll.specs.Decoding.{HasSameReader};
 ghost use Rattle.ciborium_ll.specs.declared.strings.StringType.{StringType};
 ghost use Rattle.ciborium_ll.specs.declared.header.Header.TheVariants as heads;
-ghost use Rattle.ciborium_value.specs.Sources.{IsGrantedFault, TakesOnly};
+ghost use Rattle.ciborium_value.specs.Sources.{IsGrantedFault};
 ghost use Rattle.ciborium_value.specs.Given.{given_bignum, given_integer};
-ghost use Rattle.ciborium.specs.inner.ByteSources.{HasTaken, IsUnread, bytes_weight, end_at};
+ghost use Rattle.ciborium.specs.inner.ByteSources.{IsUnread, end_at};
 ghost use Rattle.ciborium.specs.inner.ByteSources.{AnswersItem, KeepsSource, PassesItem};
-ghost use Rattle.ciborium.specs.inner.ByteSources.{weight_left};
 ghost use Rattle.ciborium.specs.inner.ByteSources.{fault_at};
 ghost use Rattle.ciborium.specs.inner.StringContents.{DeniesContent, DeniesJust, TakesDigits};
 ghost use Rattle.ciborium.specs.inner.StringContents.{TakesNumber, one_digit_more};
@@ -65,12 +63,7 @@ impl<'a, R, A: Access<R>> ByteSource<'a, R, A> {
         start: Option<u128>,
     ) -> Result<Option<u128>, BareReadError>
         requires { self.old.pending ≡ None }
-        ensures same_reader { HasSameReader self.old.decoder self.new.decoder }
-        ensures only { TakesOnly (HasTaken A.remaining) self.old.decoder self.new.decoder }
-        ensures no_more { OnErr result (weight_left self.new ≤ weight_left self.old) }
-        ensures levels { self.new.levels ≡ self.old.levels }
-        ensures pending { self.new.pending ≡ None }
-        ensures fewer { OnOk result (bytes_weight self.new ≤ bytes_weight self.old) }
+        ensures keeps { KeepsSource A.remaining self.old self.new }
         ensures ok { IfOk result (λ number. TakesDigits (IsUnread A.remaining self.old)
             (IsUnread A.remaining self.new) len start number) }
         ensures outside { IfErr result
@@ -95,12 +88,7 @@ impl<'a, R, A: Access<R>> ByteSource<'a, R, A> {
     // 128 bits do not hold it.
     fn read_number(&mut self, len: Option<usize>) -> Result<Option<u128>, BareReadError>
         requires { self.old.pending ≡ None }
-        ensures same_reader { HasSameReader self.old.decoder self.new.decoder }
-        ensures only { TakesOnly (HasTaken A.remaining) self.old.decoder self.new.decoder }
-        ensures no_more { OnErr result (weight_left self.new ≤ weight_left self.old) }
-        ensures levels { self.new.levels ≡ self.old.levels }
-        ensures pending { self.new.pending ≡ None }
-        ensures fewer { OnOk result (bytes_weight self.new ≤ bytes_weight self.old) }
+        ensures keeps { KeepsSource A.remaining self.old self.new }
         ensures ok { IfOk result (λ number. TakesNumber (IsUnread A.remaining self.old)
             (IsUnread A.remaining self.new) len number) }
         ensures denied { IfErr result
@@ -110,10 +98,7 @@ impl<'a, R, A: Access<R>> ByteSource<'a, R, A> {
             (λ e. IsGrantedFault (fault_at A.can_fail A.remaining self.new e) false) }
     {
         match len {
-            Some(n) => {
-                let number = self.read_digits(n, Some(0))?;
-                Ok(number)
-            }
+            Some(n) => self.read_digits(n, Some(0)),
             None => {
                 let mut number = Some(0u128);
                 'parts: loop {
@@ -134,9 +119,7 @@ impl<'a, R, A: Access<R>> ByteSource<'a, R, A> {
     // The number under the tag of a bignum, which was taken last and stands at this offset.
     #[inline(never)]
     fn read_bignum(&mut self, tag_offset: usize) -> Result<u128, BareReadError>
-        ensures keeps { KeepsSource A.remaining self.old self.new result }
-        ensures levels { self.new.levels ≡ self.old.levels }
-        ensures fewer { OnOk result (weight_left self.new ≤ weight_left self.old) }
+        ensures keeps { KeepsSource A.remaining self.old self.new }
         ensures answer { AnswersItem A.can_fail A.remaining self.old self.new None
             given_bignum (λ v. v) result }
         ensures memory { IfErr result
@@ -164,9 +147,7 @@ impl<'a, R, A: Access<R>> ByteSource<'a, R, A> {
         tag: u64,
         offset: usize,
     ) -> Result<((bool, u128), usize), BareReadError>
-        ensures keeps { KeepsSource A.remaining self.old self.new result }
-        ensures levels { self.new.levels ≡ self.old.levels }
-        ensures fewer { OnOk result (weight_left self.new ≤ weight_left self.old) }
+        ensures keeps { KeepsSource A.remaining self.old self.new }
         ensures sign { IfOk result (λ v. v.0.0 ≡ (tag == 3)) }
         ensures offset { IfOk result (λ v. v.1 ≡ offset) }
         ensures answer { AnswersItem A.can_fail A.remaining self.old self.new None

@@ -1,14 +1,13 @@
 //! Payloads that are passed over.
 
 ghost use Rattle.std.specs.Prelude.{◌≡◌, ◌+◌, ◌<◌, ◌≤◌, ◌++◌, IfErr, IfNone, IfSome, IsUtf8};
-ghost use Rattle.std.specs.Prelude.{List, MatchBool, None, OnErr, OnOk, Some, drop, false, length};
+ghost use Rattle.std.specs.Prelude.{List, MatchBool, None, OnOk, Some, drop, false, length};
 ghost use Rattle.std.specs.Prelude.{take, ℕ};
 ghost use Rattle.ciborium_ll.specs.Bytes.{AreBytes};
-ghost use Rattle.ciborium_ll.specs.Decoding.{HasSameReader};
 ghost use Rattle.ciborium_ll.specs.declared.header.Header.TheVariants as heads;
-ghost use Rattle.ciborium_value.specs.Sources.{IsGrantedFault, TakesOnly};
-ghost use Rattle.ciborium.specs.inner.ByteSources.{HasTaken, IsUnread, bytes_weight, end_at};
-ghost use Rattle.ciborium.specs.inner.ByteSources.{fault_at, weight_left};
+ghost use Rattle.ciborium_value.specs.Sources.{IsGrantedFault};
+ghost use Rattle.ciborium.specs.inner.ByteSources.{KeepsSource, IsUnread, end_at};
+ghost use Rattle.ciborium.specs.inner.ByteSources.{fault_at};
 ghost use Rattle.ciborium.specs.inner.PassedOver.{DeniesPayload, TakesPayload};
 
 use crate::de::byte_source::ByteSource;
@@ -87,12 +86,7 @@ impl<'a, R, A: Access<R>> ByteSource<'a, R, A> {
     // Passes over the payload of a byte string, of `len` bytes, piece by piece.
     fn skip_pieces(&mut self, len: usize) -> Result<(), BareReadError>
         requires { self.old.pending ≡ None }
-        ensures same_reader { HasSameReader self.old.decoder self.new.decoder }
-        ensures only { TakesOnly (HasTaken A.remaining) self.old.decoder self.new.decoder }
-        ensures no_more { OnErr result (weight_left self.new ≤ weight_left self.old) }
-        ensures levels { self.new.levels ≡ self.old.levels }
-        ensures pending { self.new.pending ≡ None }
-        ensures fewer { OnOk result (bytes_weight self.new ≤ bytes_weight self.old) }
+        ensures keeps { KeepsSource A.remaining self.old self.new }
         ensures ok { OnOk result (TakesPayload (IsUnread A.remaining self.old)
             (IsUnread A.remaining self.new) (heads.Bytes (Some len))) }
         ensures denied { IfErr result
@@ -116,12 +110,7 @@ impl<'a, R, A: Access<R>> ByteSource<'a, R, A> {
     // is no text is taken whole too before it is refused, as where a text is read.
     fn skip_text_pieces(&mut self, len: usize, offset: usize) -> Result<(), BareReadError>
         requires { self.old.pending ≡ None }
-        ensures same_reader { HasSameReader self.old.decoder self.new.decoder }
-        ensures only { TakesOnly (HasTaken A.remaining) self.old.decoder self.new.decoder }
-        ensures no_more { OnErr result (weight_left self.new ≤ weight_left self.old) }
-        ensures levels { self.new.levels ≡ self.old.levels }
-        ensures pending { self.new.pending ≡ None }
-        ensures fewer { OnOk result (bytes_weight self.new ≤ bytes_weight self.old) }
+        ensures keeps { KeepsSource A.remaining self.old self.new }
         ensures ok { OnOk result (TakesPayload (IsUnread A.remaining self.old)
             (IsUnread A.remaining self.new) (heads.Text (Some len))) }
         ensures denied { IfErr result
@@ -157,12 +146,7 @@ impl<'a, R, A: Access<R>> ByteSource<'a, R, A> {
     #[inline(always)]
     fn skip_bytes(&mut self, len: usize) -> Result<(), BareReadError>
         requires { self.old.pending ≡ None }
-        ensures same_reader { HasSameReader self.old.decoder self.new.decoder }
-        ensures only { TakesOnly (HasTaken A.remaining) self.old.decoder self.new.decoder }
-        ensures no_more { OnErr result (weight_left self.new ≤ weight_left self.old) }
-        ensures levels { self.new.levels ≡ self.old.levels }
-        ensures pending { self.new.pending ≡ None }
-        ensures fewer { OnOk result (bytes_weight self.new ≤ bytes_weight self.old) }
+        ensures keeps { KeepsSource A.remaining self.old self.new }
         ensures ok { OnOk result (TakesPayload (IsUnread A.remaining self.old)
             (IsUnread A.remaining self.new) (heads.Bytes (Some len))) }
         ensures denied { IfErr result
@@ -181,12 +165,7 @@ impl<'a, R, A: Access<R>> ByteSource<'a, R, A> {
     #[inline(always)]
     fn skip_text(&mut self, len: usize, offset: usize) -> Result<(), BareReadError>
         requires { self.old.pending ≡ None }
-        ensures same_reader { HasSameReader self.old.decoder self.new.decoder }
-        ensures only { TakesOnly (HasTaken A.remaining) self.old.decoder self.new.decoder }
-        ensures no_more { OnErr result (weight_left self.new ≤ weight_left self.old) }
-        ensures levels { self.new.levels ≡ self.old.levels }
-        ensures pending { self.new.pending ≡ None }
-        ensures fewer { OnOk result (bytes_weight self.new ≤ bytes_weight self.old) }
+        ensures keeps { KeepsSource A.remaining self.old self.new }
         ensures ok { OnOk result (TakesPayload (IsUnread A.remaining self.old)
             (IsUnread A.remaining self.new) (heads.Text (Some len))) }
         ensures denied { IfErr result
@@ -211,12 +190,7 @@ impl<'a, R, A: Access<R>> ByteSource<'a, R, A> {
         offset: usize,
     ) -> Result<(), BareReadError>
         requires { self.old.pending ≡ None }
-        ensures same_reader { HasSameReader self.old.decoder self.new.decoder }
-        ensures only { TakesOnly (HasTaken A.remaining) self.old.decoder self.new.decoder }
-        ensures no_more { OnErr result (weight_left self.new ≤ weight_left self.old) }
-        ensures levels { self.new.levels ≡ self.old.levels }
-        ensures pending { self.new.pending ≡ None }
-        ensures fewer { OnOk result (bytes_weight self.new ≤ bytes_weight self.old) }
+        ensures keeps { KeepsSource A.remaining self.old self.new }
         ensures ok { OnOk result (TakesPayload (IsUnread A.remaining self.old)
             (IsUnread A.remaining self.new) header) }
         ensures denied { IfErr result

@@ -1,14 +1,12 @@
 //! An item that is passed over.
 
-ghost use Rattle.std.specs.Prelude.{◌≡◌, ◌∷◌, ◌⊎◌, ◌<◌, ◌≤◌, IfErr, IfOk, IsFalse, IsTrue};
-ghost use Rattle.std.specs.Prelude.{MatchBool, None, OnErr, OnOk, Some, [], length, true};
-ghost use Rattle.ciborium_ll.specs.Decoding.{HasSameReader};
+ghost use Rattle.std.specs.Prelude.{◌≡◌, ◌∷◌, ◌⊎◌, ◌<◌, ◌≤◌, IfErr, IsFalse, IsTrue};
+ghost use Rattle.std.specs.Prelude.{MatchBool, None, OnOk, Some, [], length, true};
 ghost use Rattle.ciborium_ll.specs.Levels.{behind_head, incomplete};
 ghost use Rattle.ciborium_ll.specs.declared.levels.Level.TheVariants.{Items};
-ghost use Rattle.ciborium_value.specs.Sources.{TakesOnly};
 ghost use Rattle.ciborium_value.specs.Given.{given_skip};
-ghost use Rattle.ciborium.specs.inner.ByteSources.{AnswersItem, HasTaken, IsUnread, PassesItem};
-ghost use Rattle.ciborium.specs.inner.ByteSources.{bytes_weight, end_at, fault_at, weight_left};
+ghost use Rattle.ciborium.specs.inner.ByteSources.{KeepsSource, AnswersItem, IsUnread, PassesItem};
+ghost use Rattle.ciborium.specs.inner.ByteSources.{end_at, fault_at};
 ghost use Rattle.ciborium.specs.inner.PassedOver as passed;
 ghost use Rattle.ciborium.specs.inner.PassedOver.{DeniesBignum, DeniesLevels, PassesHeads};
 ghost use Rattle.ciborium.specs.inner.PassedOver.{TakesBignum, levels_in};
@@ -124,12 +122,7 @@ impl<'a, R, A: Access<R>> ByteSource<'a, R, A> {
     #[inline(never)]
     fn skip_bignum(&mut self, header: Header) -> Result<(), BareReadError>
         requires { self.old.pending ≡ None }
-        ensures same_reader { HasSameReader self.old.decoder self.new.decoder }
-        ensures only { TakesOnly (HasTaken A.remaining) self.old.decoder self.new.decoder }
-        ensures no_more { OnErr result (weight_left self.new ≤ weight_left self.old) }
-        ensures levels { self.new.levels ≡ self.old.levels }
-        ensures pending { OnOk result (self.new.pending ≡ None) }
-        ensures fewer { OnOk result (bytes_weight self.new ≤ bytes_weight self.old) }
+        ensures keeps { KeepsSource A.remaining self.old self.new }
         ensures ok { OnOk result (TakesBignum (IsUnread A.remaining self.old)
             (IsUnread A.remaining self.new) header) }
         ensures denied { IfErr result
@@ -150,12 +143,7 @@ impl<'a, R, A: Access<R>> ByteSource<'a, R, A> {
     #[inline(always)]
     fn skip_head(&mut self, unfinished: &mut Unfinished) -> Result<(), BareReadError>
         requires { incomplete (levels_in unfinished.old) ≡ levels_in unfinished.old }
-        ensures same_reader { HasSameReader self.old.decoder self.new.decoder }
-        ensures only { TakesOnly (HasTaken A.remaining) self.old.decoder self.new.decoder }
-        ensures no_more { OnErr result (weight_left self.new ≤ weight_left self.old) }
-        ensures levels { self.new.levels ≡ self.old.levels }
-        ensures pending { OnOk result (self.new.pending ≡ None) }
-        ensures fewer { OnOk result (weight_left self.new < weight_left self.old) }
+        ensures keeps { PassesItem A.remaining self.old self.new result }
         ensures ok { OnOk result (PassesHeads (IsUnread A.remaining self.old)
             (IsUnread A.remaining self.new) self.old.levels (levels_in unfinished.old)
             (levels_in unfinished.new)) }

@@ -110,10 +110,7 @@ impl<'a, R, A: Access<R>> Source for ByteSource<'a, R, A> {
     fn text(&mut self, alloc: Global) -> Result<String, BareReadError> {
         let (header, offset) = self.bare_head(false)?;
         match header {
-            Header::Text(len) => {
-                let text = self.text_content(alloc, len)?;
-                Ok(text)
-            }
+            Header::Text(len) => self.text_content(alloc, len),
             _ => Err(Error::Semantic(Some(offset), Kind::Text)),
         }
     }
@@ -122,14 +119,10 @@ impl<'a, R, A: Access<R>> Source for ByteSource<'a, R, A> {
     fn bytes(&mut self, alloc: Global) -> Result<Vec<u8>, BareReadError> {
         let (header, offset) = self.bare_head(false)?;
         match header {
-            Header::Bytes(len) => {
-                let bytes = self.bytes_content(alloc, len)?;
-                Ok(bytes)
-            }
+            Header::Bytes(len) => self.bytes_content(alloc, len),
             Header::Array(count) => {
-                let seq = self.enter(count, offset)?;
-                let bytes = self.read_byte_items(alloc, seq)?;
-                Ok(bytes)
+                let mut seq = self.enter(count, offset)?;
+                self.read_byte_items(alloc, &mut seq)
             }
             _ => Err(Error::Semantic(Some(offset), Kind::Bytes)),
         }
@@ -144,16 +137,12 @@ impl<'a, R, A: Access<R>> Source for ByteSource<'a, R, A> {
     fn label<N: Labels>(&mut self, alloc: Global, labels: &N) -> Result<N::Place, BareReadError> {
         let (header, offset) = self.next_head()?;
         match header {
-            Header::Text(len) => {
-                let place = self.text_place(alloc, len, offset, labels)?;
-                Ok(place)
-            }
+            Header::Text(len) => self.text_place(alloc, len, offset, labels),
             Header::Positive(n) => Ok(labels.find_number(false, u128::from(n))),
             Header::Negative(n) => Ok(labels.find_number(true, u128::from(n))),
             _ => {
                 self.pending = Some((header, offset));
-                let place = self.place_of_kind(alloc, label_type(header), labels)?;
-                Ok(place)
+                self.place_of_kind(alloc, label_type(header), labels)
             }
         }
     }
@@ -169,14 +158,13 @@ impl<'a, R, A: Access<R>> Source for ByteSource<'a, R, A> {
     #[inline(always)]
     fn begin_tag(&mut self) -> Result<(Option<u64>, ByteLevel), BareReadError> {
         let (header, offset) = self.next_head()?;
+        if let Header::Break = header {
+            return Err(Error::Semantic(Some(offset), Kind::Break));
+        }
+        let level = self.take_level()?;
         match header {
-            Header::Tag(tag) => {
-                let level = self.take_level()?;
-                Ok((Some(tag), level))
-            }
-            Header::Break => Err(Error::Semantic(Some(offset), Kind::Break)),
+            Header::Tag(tag) => Ok((Some(tag), level)),
             _ => {
-                let level = self.take_level()?;
                 self.pending = Some((header, offset));
                 Ok((None, level))
             }
@@ -283,32 +271,19 @@ impl<'a, R, A: Access<R>> Source for ByteSource<'a, R, A> {
     }
 
     fn value(&mut self, alloc: Global) -> Result<Value, BareReadError> {
-        match self.pending.take() {
-            Some((header, offset)) => match portable_value(header) {
-                Some(value) => Ok(value),
-                None => {
-                    self.decoder.push(header, offset);
-                    let value = read_value::<AnySpelling, R, A>(
-                        alloc,
-                        &mut self.decoder,
-                        self.scratch,
-                        self.levels,
-                        &mut self.failure,
-                    )?;
-                    Ok(value)
-                }
-            },
-            None => {
-                let value = read_value::<AnySpelling, R, A>(
-                    alloc,
-                    &mut self.decoder,
-                    self.scratch,
-                    self.levels,
-                    &mut self.failure,
-                )?;
-                Ok(value)
+        if let Some((header, offset)) = self.pending.take() {
+            if let Some(value) = portable_value(header) {
+                return Ok(value);
             }
+            self.decoder.push(header, offset);
         }
+        read_value::<AnySpelling, R, A>(
+            alloc,
+            &mut self.decoder,
+            self.scratch,
+            self.levels,
+            &mut self.failure,
+        )
     }
 
     #[inline(always)]

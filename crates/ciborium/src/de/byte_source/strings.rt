@@ -1,12 +1,10 @@
 //! Strings.
 
 ghost use Rattle.std.specs.Prelude.{◌≡◌, ◌+◌, ◌≤◌, IfErr, IfNone, IfOk, IfSome, List, None};
-ghost use Rattle.std.specs.Prelude.{OnErr, OnOk, Some, false, length, string_bytes, ℕ};
-ghost use Rattle.ciborium_ll.specs.Decoding.{HasSameReader};
+ghost use Rattle.std.specs.Prelude.{OnOk, Some, false, length, string_bytes, ℕ};
 ghost use Rattle.ciborium_ll.specs.declared.strings.StringType.{StringType};
-ghost use Rattle.ciborium_value.specs.Sources.{IsGrantedFault, TakesOnly};
-ghost use Rattle.ciborium.specs.inner.ByteSources.{HasTaken, IsUnread, bytes_weight, end_at};
-ghost use Rattle.ciborium.specs.inner.ByteSources.{weight_left};
+ghost use Rattle.ciborium_value.specs.Sources.{IsGrantedFault};
+ghost use Rattle.ciborium.specs.inner.ByteSources.{KeepsSource, IsUnread, bytes_weight, end_at};
 ghost use Rattle.ciborium.specs.inner.ByteSources.{fault_at};
 ghost use Rattle.ciborium.specs.inner.StringContents.{DeniesContent, DeniesJust, TakesContent};
 ghost use Rattle.ciborium.specs.inner.StringContents.{TakesJust};
@@ -21,12 +19,7 @@ impl<'a, R, A: Access<R>> ByteSource<'a, R, A> {
     /// Fills the buffer with the next bytes.
     pub(crate) fn fill(&mut self, buffer: &mut [u8]) -> Result<(), BareReadError>
         requires { self.old.pending ≡ None }
-        ensures same_reader { HasSameReader self.old.decoder self.new.decoder }
-        ensures only { TakesOnly (HasTaken A.remaining) self.old.decoder self.new.decoder }
-        ensures no_more { OnErr result (weight_left self.new ≤ weight_left self.old) }
-        ensures levels { self.new.levels ≡ self.old.levels }
-        ensures pending { self.new.pending ≡ None }
-        ensures fewer { OnOk result (bytes_weight self.new ≤ bytes_weight self.old) }
+        ensures keeps { KeepsSource A.remaining self.old self.new }
         ensures ok { OnOk result
             (TakesJust (IsUnread A.remaining self.old) (IsUnread A.remaining self.new) buffer.new) }
         ensures outside { IfErr result
@@ -47,12 +40,7 @@ impl<'a, R, A: Access<R>> ByteSource<'a, R, A> {
         visitor: &V,
     ) -> Result<Option<V::Value>, BareReadError>
         requires { self.old.pending ≡ None }
-        ensures same_reader { HasSameReader self.old.decoder self.new.decoder }
-        ensures only { TakesOnly (HasTaken A.remaining) self.old.decoder self.new.decoder }
-        ensures no_more { OnErr result (weight_left self.new ≤ weight_left self.old) }
-        ensures levels { self.new.levels ≡ self.old.levels }
-        ensures pending { self.new.pending ≡ None }
-        ensures fewer { OnOk result (bytes_weight self.new ≤ bytes_weight self.old) }
+        ensures keeps { KeepsSource A.remaining self.old self.new }
         ensures none { IfOk result (λ o. IfNone o ((y : List ℕ) → IsUnread A.remaining self.old y →
             IsUnread A.remaining self.new y)) }
         ensures some { IfOk result (λ o. IfSome o (λ v. (b : List ℕ) × (length b ≡ n) ×
@@ -81,11 +69,7 @@ impl<'a, R, A: Access<R>> ByteSource<'a, R, A> {
         len: Option<usize>,
     ) -> Result<Vec<u8>, BareReadError>
         requires { self.old.pending ≡ None }
-        ensures same_reader { HasSameReader self.old.decoder self.new.decoder }
-        ensures only { TakesOnly (HasTaken A.remaining) self.old.decoder self.new.decoder }
-        ensures no_more { OnErr result (weight_left self.new ≤ weight_left self.old) }
-        ensures levels { self.new.levels ≡ self.old.levels }
-        ensures pending { self.new.pending ≡ None }
+        ensures keeps { KeepsSource A.remaining self.old self.new }
         ensures fewer { IfOk result
             (λ v. bytes_weight self.new + length v.items ≤ bytes_weight self.old) }
         ensures ok { IfOk result (λ v. TakesContent (IsUnread A.remaining self.old)
@@ -108,12 +92,7 @@ impl<'a, R, A: Access<R>> ByteSource<'a, R, A> {
         len: Option<usize>,
     ) -> Result<String, BareReadError>
         requires { self.old.pending ≡ None }
-        ensures same_reader { HasSameReader self.old.decoder self.new.decoder }
-        ensures only { TakesOnly (HasTaken A.remaining) self.old.decoder self.new.decoder }
-        ensures no_more { OnErr result (weight_left self.new ≤ weight_left self.old) }
-        ensures levels { self.new.levels ≡ self.old.levels }
-        ensures pending { self.new.pending ≡ None }
-        ensures fewer { OnOk result (bytes_weight self.new ≤ bytes_weight self.old) }
+        ensures keeps { KeepsSource A.remaining self.old self.new }
         ensures ok { IfOk result (λ v. TakesContent (IsUnread A.remaining self.old)
             (IsUnread A.remaining self.new) StringType.Text len (string_bytes v)) }
         ensures denied { IfErr result

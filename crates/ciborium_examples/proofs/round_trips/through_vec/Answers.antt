@@ -1,5 +1,5 @@
 use Rattle.std.proofs.Common.{subst, sym, Result, Ok, Err, IfOk}
-use Rattle.ciborium.specs.{ReadsBack.by_bytes, View.read_as, Writes.IsWrittenAs}
+use Rattle.ciborium.specs.{ReadsBack.by_bytes, View.result_map, Writes.IsWrittenAs}
 use Rattle.ciborium_examples.proofs.MemoryAlone.{content, for_memory, of_written}
 use Rattle.ciborium_examples.proofs.round_trips.through_vec.Goals as goal
 
@@ -12,7 +12,7 @@ returns-in-Ok g c =
     let reading = g.T.Deserialize.reading in
     let value = c.args.value.now in
     let answer = of_written (g.T.Serialize.written value) reading.taken (reading.content value)
-    (g.T.ReadsBack.levels value) c.deref.result.now (read_as reading.content c.from_slice.result)
+    (g.T.ReadsBack.levels value) c.deref.result.now (result_map reading.content c.from_slice.result)
     c.written_reads_back.ensures.spells (g.met.T.ReadsBack.reads_back by_bytes tt value c.requires.valid)
     c.requires.levels
     (subst (λ b. IsWrittenAs b (g.T.Serialize.written value)) (sym c.deref.ensures.value) c.in-Ok.ensures.bytes)

@@ -1,5 +1,5 @@
 use Rattle.std.proofs.{Common.{refl, inl, inr, sym, ap, ◌∙◌, rules}, lemmas.Result.err_from_is_err_and}
-use Rattle.ciborium.specs.View.{trees_of}
+use Rattle.ciborium.specs.ValueLists.{trees_of}
 use Rattle.ciborium_examples.specs.NumberTrees.{are_number_trees, is_number_tree, shape_of}
 use Rattle.ciborium_value.proofs.Trees.MadeOfValues.{one_made, one_right, one_wrong}
 use Rattle.ciborium_examples.proofs.tree_types.+grow.Goals as goal

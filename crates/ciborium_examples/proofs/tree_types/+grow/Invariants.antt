@@ -1,5 +1,5 @@
 use Rattle.std.proofs.Common.{◌≡◌, map, take, true}
-use Rattle.ciborium.specs.View.{tree_of, trees_of}
+use Rattle.ciborium.specs.{ValueLists.trees_of, View.tree_of}
 use Rattle.ciborium_examples.specs.NumberTrees.{are_number_trees, shape_of}
 use Rattle.ciborium_examples.proofs.tree_types.+grow.Given as goal
 

@@ -1,7 +1,7 @@
 use Rattle.std.proofs.Common.{◌≡◌, ℕ, ◌+◌, ◌≤◌, true, List, ◌∷◌, length, get_or, take, drop, slice_range}
 use Rattle.std.proofs.Common.{arith, subst, sym, ap, ◌∙◌, take-append-drop}
 use Rattle.ciborium_ll.proofs.{Cursors.are-bytes, HeldBytes.head-bytes, LevelMisfits.ill-more}
-use Rattle.ciborium_ll.specs.{Header.SpellsHeader, Refusal.is_ill_formed}
+use Rattle.ciborium_ll.specs.Header.{SpellsHeader, is_ill_formed}
 use Rattle.ciborium_ll.proofs.item_heads.front_of.Goals as goal
 
 front-is : (n size : ℕ) (held : List ℕ) → size ≡ 1 + n → size ≤ length held →

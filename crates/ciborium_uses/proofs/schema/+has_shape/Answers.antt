@@ -1,6 +1,6 @@
 use Rattle.std.proofs.Common.{◌≡◌, Bool, Global, String, Vec, ap, map, rules, subst, sym, ◌∙◌}
 use Rattle.std.specs.{List.list_all, Prelude.IsTrue}
-use Rattle.ciborium.specs.{Tree.TreePairs, View.{tree_of, tree_pairs_of}}
+use Rattle.ciborium.specs.{Tree.TreePairs, ValueLists.tree_pairs_of, View.tree_of}
 use Rattle.ciborium_value.proofs.Trees.Views.{tree_of-Map}
 use Rattle.ciborium_uses.specs.{Shapes.{field_test, fits, has_field}, declared.schema.Shape.{Shape, the_lemmas}}
 use Rattle.ciborium.specs.Tree as trees

@@ -1,5 +1,5 @@
 use Rattle.std.{proofs.Common.{◌≡◌, drop, map, not}, specs.List.list_all}
-use Rattle.ciborium.specs.View.{tree_pairs_of, trees_of}
+use Rattle.ciborium.specs.ValueLists.{tree_pairs_of, trees_of}
 use Rattle.ciborium_uses.specs.Shapes.{all_trees, field_fits, field_test, fits, has_field}
 use Rattle.ciborium_uses.proofs.schema.+has_shape.Given as goal
 

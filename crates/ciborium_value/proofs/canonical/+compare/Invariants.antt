@@ -1,6 +1,6 @@
 use Rattle.std.proofs.Common.{◌≡◌, ◌+◌, take, map}
-use Rattle.ciborium_value.specs.{Counts.{trees_node_count, tree_pairs_node_count}, View.{tree_of, pair_trees, trees_of}}
-use Rattle.ciborium_value.specs.{View.tree_pairs_of, Visits.AddsVisits}
+use Rattle.ciborium_value.specs.{Counts.{trees_node_count, tree_pairs_node_count}, ValueLists.{pair_trees, trees_of}}
+use Rattle.ciborium_value.specs.{ValueLists.tree_pairs_of, View.tree_of, Visits.AddsVisits}
 use Rattle.ciborium_value.proofs.canonical.+compare.Given as goal
 
 -- the items so far are the same

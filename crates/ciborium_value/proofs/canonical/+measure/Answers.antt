@@ -1,3 +1,4 @@
+use Rattle.std.proofs.lemmas.Grind.{common_steps}
 use Rattle.std.proofs.Common.{length, add-one, refl, sym, ap, ◌∙◌, arith}
 use Rattle.ciborium_value.proofs.Orders.TreeEncodings.{encoded_size-is, encoded_size-head, content_bytes-none}
 use Rattle.ciborium_value.proofs.Orders.TreeEncodings.{content_bytes-Array, content_bytes-Map}
@@ -68,3 +69,9 @@ measure_pairs-loop-pair-preserved t c =
       proper = AreProperTreePairs-more a c.loop-pair.invariant.proper c.measure.ensures.proper
           c.measure-in-loop-pair.ensures.proper;
     })
+
+pub measure_items-returns : goal.measure_items-returns
+measure_items-returns t c = grind (arith, common_steps)
+
+pub measure_pairs-returns : goal.measure_pairs-returns
+measure_pairs-returns t c = grind (arith, common_steps)

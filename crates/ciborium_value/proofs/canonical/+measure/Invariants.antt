@@ -1,7 +1,7 @@
 use Rattle.std.proofs.Common.{◌≡◌, length, take}
 use Rattle.ciborium_value.specs.{Counts.{trees_node_count, tree_pairs_node_count}, ProperTrees.AreProperTrees}
-use Rattle.ciborium_value.specs.{ProperTrees.AreProperTreePairs, View.{trees_of, tree_pairs_of}, Visits.AddsVisits}
-use Rattle.ciborium_value.specs.{Visits.saturated, inner.EncodedLists.{encodings, pair_encodings}}
+use Rattle.ciborium_value.specs.{ProperTrees.AreProperTreePairs, ValueLists.{trees_of, tree_pairs_of}}
+use Rattle.ciborium_value.specs.{Visits.{AddsVisits, saturated}, inner.EncodedLists.{encodings, pair_encodings}}
 use Rattle.ciborium_value.proofs.canonical.+measure.Given as goal
 
 -- the items so far are measured

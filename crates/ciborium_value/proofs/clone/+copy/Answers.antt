@@ -1,5 +1,6 @@
 use Rattle.std.proofs.{Common.{◌≡◌, sym, ap, ◌∙◌}, lemmas.List.Elements.same_from_all_zip}
-use Rattle.ciborium_value.{proofs.Trees.Views.{tree_of-Bytes, tree_of-Map}, specs.View.{tree_of, tree_pairs_of}}
+use Rattle.ciborium_value.{proofs.Trees.Views.{tree_of-Bytes, tree_of-Map}, specs.ValueLists.tree_pairs_of}
+use Rattle.ciborium_value.specs.View.{tree_of}
 use Rattle.ciborium_value.specs.Tree as trees
 use Rattle.ciborium_value.proofs.clone.+copy.Goals as goal
 

@@ -1,5 +1,5 @@
 use Rattle.std.proofs.Common.{◌≡◌, take, map}
-use Rattle.ciborium_value.specs.View.{tree_of, pair_trees}
+use Rattle.ciborium_value.specs.{ValueLists.pair_trees, View.tree_of}
 use Rattle.ciborium_value.proofs.clone.+copy.Given as goal
 
 abbrev pub invariant-copy_values-loop-value : goal.invariant-copy_values-loop-value

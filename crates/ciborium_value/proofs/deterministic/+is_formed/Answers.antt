@@ -1,8 +1,8 @@
 use Rattle.std.proofs.Common.{subst, ap, sym, ◌∙◌, add-one}
-use Rattle.ciborium_value.specs.{Deterministic.{AreRising, keys_of}, inner.OwnForms.IsFormed, View.tree_of}
-use Rattle.ciborium_value.specs.View.{tree_pairs_of}
 use Rattle.ciborium_value.proofs.Forms.FormedLists.{failed, AreFormed-more, formed_at, PairsAreFormed-more}
 use Rattle.ciborium_value.proofs.{Forms.FormedLists.pair_formed_at, Trees.{Elements.at, Views.tree_of-Map}}
+use Rattle.ciborium_value.specs.{Deterministic.{AreRising, keys_of}, ValueLists.tree_pairs_of, View.tree_of}
+use Rattle.ciborium_value.specs.inner.OwnForms.{IsFormed}
 use Rattle.ciborium_value.proofs.deterministic.+is_formed.Goals as goal
 
 pub is_formed-returns-else-keys_rise : goal.is_formed-returns-else-keys_rise

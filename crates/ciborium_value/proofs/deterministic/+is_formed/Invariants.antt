@@ -1,5 +1,5 @@
 use Rattle.std.proofs.Common.{take}
-use Rattle.ciborium_value.specs.{inner.OwnForms.{AreFormed, PairsAreFormed}, View.{trees_of, tree_pairs_of}}
+use Rattle.ciborium_value.specs.{ValueLists.{trees_of, tree_pairs_of}, inner.OwnForms.{AreFormed, PairsAreFormed}}
 use Rattle.ciborium_value.proofs.deterministic.+is_formed.Given as goal
 
 -- the items so far are their own forms

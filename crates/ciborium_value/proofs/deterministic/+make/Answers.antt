@@ -1,14 +1,12 @@
 use Rattle.std.proofs.Common.{◌≡◌, ◌+◌, ◌≤◌, List, ℕ, length, get_or, set, Some, None, rules, refl, ap, ◌∙◌}
 use Rattle.std.proofs.Common.{add-one, arith, inl, inr}
 use Rattle.std.proofs.lemmas.{List.{get_or-set_other, length-set}, Result.{IfOk-weaker, IfErr-weaker}}
-use Rattle.ciborium_value.proofs.Forms.MadeForms.{none_yet, made_next, made_weaker, written}
-use Rattle.ciborium_value.proofs.Forms.MadeForms.{all_made, all_pairs_made, items_alike, pairs_alike, one_refused}
-use Rattle.ciborium_value.proofs.Forms.MadeForms.{one_pair_refused, made_as, alike_as, made-tag, made-bignum}
-use Rattle.ciborium_value.proofs.Forms.MadeForms.{refused-pairs, sorted-map}
+use Rattle.ciborium_value.proofs.Forms.MadeForms.{none_yet, made_next, made_weaker, written, all_made, all_pairs_made}
+use Rattle.ciborium_value.proofs.Forms.MadeForms.{items_alike, pairs_alike, one_refused, one_pair_refused, made_as}
+use Rattle.ciborium_value.proofs.Forms.MadeForms.{alike_as, made-tag, made-bignum, refused-pairs, sorted-map}
 use Rattle.ciborium_value.proofs.Trees.Views.{tree_of-Tag, tree_of-Array, tree_of-Map, tree_of-Integer}
 use Rattle.ciborium_value.specs.{Folded.tree_folding_bytes, Meaning.{bignum_meaning, without_zeros}}
-use Rattle.ciborium_value.specs.View.{tree_of, tree_pairs_of}
-use Rattle.ciborium_value.specs.declared.tree.Value.{the_lemmas}
+use Rattle.ciborium_value.specs.{ValueLists.tree_pairs_of, View.tree_of, declared.tree.Value.the_lemmas}
 use Rattle.ciborium_value.specs.SameContents as same
 use Rattle.ciborium_value.specs.Tree as trees
 use Rattle.ciborium_value.proofs.deterministic.+make.Goals as goal

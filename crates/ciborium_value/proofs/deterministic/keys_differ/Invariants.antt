@@ -1,5 +1,5 @@
 use Rattle.std.proofs.Common.{◌↔◌, length}
-use Rattle.ciborium_value.specs.{Deterministic.keys_of, inner.OwnForms.AreApart, View.tree_pairs_of}
+use Rattle.ciborium_value.specs.{Deterministic.keys_of, ValueLists.tree_pairs_of, inner.OwnForms.AreApart}
 use Rattle.ciborium_value.proofs.deterministic.keys_differ.Given as goal
 
 -- the keys of the pairs that are left differ just where all do

@@ -1,5 +1,5 @@
 use Rattle.std.proofs.Common.{◌↔◌, length}
-use Rattle.ciborium_value.specs.{Deterministic.{AreRising, keys_of}, View.tree_pairs_of}
+use Rattle.ciborium_value.specs.{Deterministic.{AreRising, keys_of}, ValueLists.tree_pairs_of}
 use Rattle.ciborium_value.proofs.deterministic.keys_rise.Given as goal
 
 -- the keys of the pairs that are left rise just where all do

@@ -1,6 +1,6 @@
 use Rattle.std.{proofs.Common.{◌≡◌, [], take}, specs.Fmt.{HasWrittenStyled, IsFlush}}
 use Rattle.ciborium_value.{proofs.Trees.Notations.lead_behind, specs.Notation.{notations_on, pair_notations_on}}
-use Rattle.ciborium_value.specs.View.{trees_of, tree_pairs_of}
+use Rattle.ciborium_value.specs.ValueLists.{trees_of, tree_pairs_of}
 use denote.{Shadow.shadow, Text.Utf8}
 use Rattle.ciborium_value.proofs.notation.+write_value.Given as goal
 

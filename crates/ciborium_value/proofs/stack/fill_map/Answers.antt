@@ -1,7 +1,8 @@
+use Rattle.std.proofs.{Common.arith, lemmas.Grind.common_steps}
 use Rattle.std.proofs.Common.{rules, ◌∙◌, ◌-◌, ap, map, slice_set, zero, suc, Some, None}
 use Rattle.std.specs.Vec.{vec_len, with_item}
-use Rattle.ciborium_value.specs.{View.{pair_trees, tree_of}, inner.Frames.{still, whole}}
-use Rattle.ciborium_value.proofs.{Trees.Stacked.waiting-filled, Trees.Views.tree_of-Map}
+use Rattle.ciborium_value.{proofs.Trees.{Stacked.waiting-filled, Views.tree_of-Map}, specs.ValueLists.pair_trees}
+use Rattle.ciborium_value.specs.{View.tree_of, inner.Frames.{still, whole}}
 use Rattle.ciborium_value.specs.declared.tree.Value.TheViews as value
 use Rattle.ciborium_value.specs.inner.Frames as frames
 use Rattle.ciborium_value.proofs.stack.fill_map.Goals as goal
@@ -24,3 +25,6 @@ returns-in-None c =
     (c.in-Some.pair.now.0, c.args.value))) b None)) c.in-None.is ∙
     waiting-filled c.args.pairs.now.items _ c.in-Some.pair.now c.args.value c.args.behind.now None _
     (search rules) (search rules) c.in-Some.ensures.value c.if-waits.true c.in-None.is
+
+pub returns-else-waits : goal.returns-else-waits
+returns-else-waits c = grind (arith, common_steps)

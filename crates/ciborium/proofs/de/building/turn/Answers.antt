@@ -1,9 +1,32 @@
-use Rattle.std.proofs.{Common.{◌-◌, ◌∙◌, Ok, ap, refl}}
+use Rattle.std.proofs.Common.{◌-◌, ◌∙◌, Bool, Err, IfErr, IfOk, List, MatchOption, None, Ok, OnOk, Option, Result, Some}
+use Rattle.std.proofs.Common.{ap, inl, inr, refl, subst, sym, ℕ}
+use Rattle.ciborium_value.specs.{Spelling.Spelling, Tree.Tree, declared.tree.Value.Value, inner.Frames.TreeFrame}
+use Rattle.ciborium.specs.{Errors.HasEndedBy, declared.de.error.Error.Error, inner.Turns.IsPlacedInOrder}
 use Rattle.ciborium_value.specs.{View.tree_of, inner.Stack.frames_of}
 use Rattle.ciborium.proofs.Turns.Turned.{depth-closed, depth-placed, turn-begun, turn-break, turn-by, turn-ended}
 use Rattle.ciborium.{proofs.Turns.Turned.{turn-refused, turn-whole}}
 use Rattle.ciborium.proofs.Exits.{passed_on}
 use Rattle.ciborium.proofs.de.building.turn.Goals as goal
+
+-- no head is pushed behind a value that is done
+rests-so : {V E P : Type 0} (r : Result (Option V) E) → P → IfOk r (λ o. MatchOption o (Unit {0}) (λ _. P))
+rests-so (Ok None) p = tt
+rests-so (Ok (Some v)) p = p
+rests-so (Err e) p = tt
+
+fewer-so : {V E P : Type 0} (r : Result V E) → P → OnOk r P
+fewer-so (Ok v) p = p
+fewer-so (Err e) p = tt
+
+-- neither error of a value that is placed says that no byte is left
+placed-ends : {E : Type 0} (can_fail : Bool) (left : Option (List ℕ)) (spelling : Spelling) (before : List TreeFrame)
+    (v : Tree) (at : ℕ) (after : List TreeFrame) (r : Result (Option Value) (Error E)) →
+    IsPlacedInOrder spelling before v at after r → IfErr r (HasEndedBy can_fail left)
+placed-ends can_fail left spelling before v at after (Ok o) h = tt
+placed-ends can_fail left spelling before v at after (Err e) (inl memory) =
+    subst (HasEndedBy can_fail left) (sym memory) tt
+placed-ends can_fail left spelling before v at after (Err e) (inr (more, (k, order, is))) =
+    subst (HasEndedBy can_fail left) (sym is) tt
 
 pub returns-in_err-value-clause-turn : goal.returns-in_err-value-clause-turn
 returns-in_err-value-clause-turn g c = rw (passed_on c.from_residual.result _ c.from_residual.ensures.1)
@@ -54,3 +77,24 @@ returns-in_err-value-clause-ended g c =
 pub returns-in-Err-clause-turn : goal.returns-in-Err-clause-turn
 returns-in-Err-clause-turn g c =
     let t = c.in_ok-value.ensures.part in (t.0, t.1, t.2, λ z xs p s. tt, t.4)
+
+pub returns-in-Whole-clause-rests : goal.returns-in-Whole-clause-rests
+returns-in-Whole-clause-rests g c = rests-so c.place.result (rw c.in-Whole.is at c.in_ok-value.ensures.rests)
+
+pub returns-in-Whole-clause-fewer : goal.returns-in-Whole-clause-fewer
+returns-in-Whole-clause-fewer g c = fewer-so c.place.result c.in_ok-value.ensures.fewer
+
+pub returns-in-Whole-clause-ended : goal.returns-in-Whole-clause-ended
+returns-in-Whole-clause-ended g c = placed-ends _ _ g.S.Rules.spelling (frames_of c.args.stack.now)
+    (tree_of c.in-Whole.value) c.offset.result (frames_of c.place.new.stack) c.place.result c.place.ensures
+
+pub returns-in-Some-clause-rests : goal.returns-in-Some-clause-rests
+returns-in-Some-clause-rests g c = rests-so c.place-in-Some.result (rw c.in-Ended.is at c.in_ok-value.ensures.rests)
+
+pub returns-in-Some-clause-fewer : goal.returns-in-Some-clause-fewer
+returns-in-Some-clause-fewer g c = fewer-so c.place-in-Some.result c.in_ok-value.ensures.fewer
+
+pub returns-in-Some-clause-ended : goal.returns-in-Some-clause-ended
+returns-in-Some-clause-ended g c = placed-ends _ _ g.S.Rules.spelling (frames_of c.close.new.self)
+    (tree_of c.in-Some.value) c.offset-in-Some.result (frames_of c.place-in-Some.new.stack) c.place-in-Some.result
+    c.place-in-Some.ensures

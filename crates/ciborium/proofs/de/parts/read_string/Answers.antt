@@ -1,7 +1,7 @@
 use Rattle.std.proofs.Common.{List, ℕ, ◌∙◌, ap, subst, Some, Ok}
 use Rattle.ciborium_ll.specs.Decoding.{TakesBeforeAny}
 use Rattle.ciborium.specs.{inner.StringAnswers.{IsHeldRead, string_kind}, inner.ValuesInBytes.IsAt}
-use Rattle.ciborium.proofs.Readers.WhateverFollows.{StringSo, so-then}
+use Rattle.ciborium.proofs.Readers.WhateverFollows.{PartSo, so-then}
 use Rattle.ciborium.proofs.de.parts.read_string.Goals as goal
 
 pub returns-in-Some-2-clause-content : goal.returns-in-Some-2-clause-content
@@ -18,12 +18,12 @@ returns-in-None-clause-content g c =
     let size = Some c.in-Some.size in
     rw c.in-Some.is (so-then g.A.Access.remaining old c.copy_held.new.decoder new
     (λ d e. (xs : List ℕ) (p : ℕ) → IsAt Some d xs p → IsAt Some e xs p)
-    (λ d e. StringSo kind size old.last d e c.append_string-in-None.result)
-    (λ d e. StringSo kind size old.last d e c.append_string-in-None.result)
+    (λ d e. PartSo kind size old.last d e c.append_string-in-None.result)
+    (λ d e. PartSo kind size old.last d e c.append_string-in-None.result)
     (λ u v w stays reads xs p at. reads xs p (stays xs p at))
     (subst (λ r. TakesBeforeAny g.A.Access.remaining old c.copy_held.new.decoder
     (λ d e. (xs : List ℕ) (p : ℕ) → IsAt Some d xs p → IsHeldRead kind Some e c.in-Some.size old.last xs p r))
     (c.in_ok-value.was ∙ ap Ok c.in-None.is) c.copy_held.ensures.content)
     (subst (λ at. TakesBeforeAny g.A.Access.remaining c.copy_held.new.decoder new
-    (λ d e. StringSo kind size at d e c.append_string-in-None.result))
+    (λ d e. PartSo kind size at d e c.append_string-in-None.result))
     c.copy_held.ensures.last c.append_string-in-None.ensures.content))

@@ -3,7 +3,7 @@ use Rattle.ciborium_ll.proofs.HeadsRead.{behind-bytes, cut-inside-head, cut-insi
 use Rattle.ciborium_ll.proofs.HeadsRead.{ends-in-payload, front-behind, head-read, malformed, misplaced, no-chunk}
 use Rattle.ciborium_ll.proofs.HeadsRead.{no-text, enters-too-many, some-unfinished, too-deep, was-misplaced}
 use Rattle.ciborium_ll.{proofs.HeadsRead.{was-too-deep, whole-read}, specs.{Bytes.AreBytes, Header.SpellsHeader}}
-use Rattle.ciborium_ll.specs.{ItemHeads.levels_of, ItemLengths.Misfits, Levels.IsPayloadOf, Refusal.is_ill_formed}
+use Rattle.ciborium_ll.specs.{Header.is_ill_formed, ItemHeads.levels_of, ItemLengths.Misfits, Levels.IsPayloadOf}
 use Rattle.ciborium_ll.specs.inner.Fronts.{IsCut, IsCutPayload, IsNoChunk, IsNoText, MayBeChunk}
 use Rattle.ciborium_ll.proofs.item_heads.ItemHeads.next.Goals as goal
 

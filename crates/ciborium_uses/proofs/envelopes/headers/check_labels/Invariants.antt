@@ -1,5 +1,5 @@
 use Rattle.std.proofs.Common.{◌≡◌, drop}
-use Rattle.ciborium.specs.View.{trees_of}
+use Rattle.ciborium.specs.ValueLists.{trees_of}
 use Rattle.ciborium_uses.specs.Envelopes.{are_critical, entry_trees}
 use Rattle.ciborium_uses.proofs.envelopes.headers.check_labels.Given as goal
 

@@ -1,5 +1,5 @@
 use Rattle.std.proofs.Common.{ap, rules, sym, ◌∙◌, ◌≡◌, []}
-use Rattle.ciborium.specs.View.{trees_of}
+use Rattle.ciborium.specs.ValueLists.{trees_of}
 use Rattle.ciborium_uses.{proofs.CriticalLabels.crit_of, specs.Envelopes.{are_critical, entry_trees}}
 use Rattle.ciborium_uses.proofs.envelopes.headers.check_named.Goals as goal
 

@@ -1,5 +1,5 @@
 use Rattle.std.proofs.Common.{◌≡◌, map}
-use Rattle.ciborium.specs.View.{pair_trees}
+use Rattle.ciborium.specs.ValueLists.{pair_trees}
 use Rattle.ciborium_uses.specs.Envelopes.{are_apart, entry_trees}
 use Rattle.ciborium_uses.proofs.envelopes.headers.shared_label.Given as goal
 

@@ -1,5 +1,5 @@
 use Rattle.std.proofs.Common.{◌≡◌, drop}
-use Rattle.ciborium.specs.View.{tree_pairs_of}
+use Rattle.ciborium.specs.ValueLists.{tree_pairs_of}
 use Rattle.ciborium_uses.specs.Envelopes.{are_labels}
 use Rattle.ciborium_uses.proofs.envelopes.labels.are_labels.Given as goal
 

@@ -1,5 +1,5 @@
 use Rattle.std.proofs.Common.{◌≡◌, ◌∙◌, IsTrue, ap, rules, subst, sym}
-use Rattle.ciborium.specs.{Given.gives, View.{tree_of, tree_pairs_of}}
+use Rattle.ciborium.specs.{Given.gives, ValueLists.tree_pairs_of, View.tree_of}
 use Rattle.ciborium_uses.proofs.KeptLabels.{folds-to, for-memory, gives-folded, kept}
 use Rattle.ciborium_uses.specs.Envelopes.{are_labels, entries_in, entries_of, is_label_map, once_each}
 use Rattle.ciborium_uses.proofs.envelopes.labels.labels_of.Goals as goal

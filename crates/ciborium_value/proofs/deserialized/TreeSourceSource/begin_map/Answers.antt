@@ -1,10 +1,10 @@
 -- The pairs of the map are ahead.
 use Rattle.std.proofs.Common.{◌≡◌, ◌+◌, sym, ap, ◌∙◌, subst, arith}
-use Rattle.ciborium_value.specs.{Ahead.counted, Given.{given_pairs, untagged}, inner.TreeSources.IsPending}
+use Rattle.ciborium_value.{proofs.Sources.TreeReading.{map_of, begun, pairs_weigh_less}, specs.Ahead.counted}
+use Rattle.ciborium_value.specs.{Counts.{tree_pairs_node_count, tree_pairs_payload_size}, Given.{given_pairs, untagged}}
+use Rattle.ciborium_value.specs.{TreeAnswers.value_item, ValueLists.tree_pairs_of, inner.TreeSources.IsPending}
 use Rattle.ciborium_value.specs.inner.TreeSources.{pair_items, value_weight, pending_tree_weight, pending_due}
-use Rattle.ciborium_value.specs.{inner.TreeSources.{due_weight, left_weight}, TreeAnswers.value_item}
-use Rattle.ciborium_value.specs.{Counts.{tree_pairs_node_count, tree_pairs_payload_size}, View.tree_pairs_of}
-use Rattle.ciborium_value.proofs.Sources.TreeReading.{map_of, begun, pairs_weigh_less}
+use Rattle.ciborium_value.specs.inner.TreeSources.{due_weight, left_weight}
 use Rattle.ciborium_value.specs.declared.deserialized.Left.TheVariants as left
 use Rattle.ciborium_value.proofs.deserialized.TreeSourceSource.begin_map.Goals as goal
 

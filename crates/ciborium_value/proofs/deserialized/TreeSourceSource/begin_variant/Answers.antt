@@ -4,7 +4,7 @@ use Rattle.ciborium_value.proofs.Sources.{Sequences.fault_map, TreeFaults.fault_
 use Rattle.ciborium_value.{proofs.{Sources.TreeReading.pairs_weigh_less, Writing.Progress.exits}, specs.Ahead.end_of}
 use Rattle.ciborium_value.specs.{Counts.{tree_pairs_node_count, tree_pairs_payload_size}, Given.given_variant}
 use Rattle.ciborium_value.specs.{Given.{given_name, untagged, deeper, outcome, outcome_map}, Sources.RefusesAhead}
-use Rattle.ciborium_value.specs.{Sources.IsFaultOf, TreeAnswers.{tree_fault, value_item}, View.tree_pairs_of}
+use Rattle.ciborium_value.specs.{Sources.IsFaultOf, TreeAnswers.{tree_fault, value_item}, ValueLists.tree_pairs_of}
 use Rattle.ciborium_value.specs.inner.TreeSources.{IsTreeAt, IsPending, IsDueValue, value_weight, pending_tree_weight}
 use Rattle.ciborium_value.specs.inner.TreeSources.{due_weight}
 use Rattle.ciborium_value.proofs.deserialized.TreeSourceSource.begin_variant.Goals as goal

@@ -1,8 +1,9 @@
 -- What stands for itself is folded, and a container that is not empty is entered.
-use Rattle.std.proofs.Common.{rules, arith, ap, sym, ◌∙◌, Some}
+use Rattle.std.proofs.{Common.{rules, arith, ap, sym, ◌∙◌, Some}, lemmas.Grind.common_steps}
 use Rattle.ciborium_value.proofs.{FoldedTrees.FoldedCopies.{opens_array, opens_map}, Trees.Views.tree_of-Bool}
 use Rattle.ciborium_value.{proofs.Trees.Views.tree_of-Null, specs.{Folded.folded, Meaning.simple_meaning, View.tree_of}}
-use Rattle.ciborium_value.specs.lemmas.ItemsOfTrees.{boolean-folded}
+use Rattle.ciborium_value.specs.{declared.tree.Value.the_lemmas, lemmas.ItemsOfTrees.boolean-folded}
+use borrow.Author.Tests.{tests}
 use Rattle.ciborium_value.proofs.deserialized.folding.begin.Goals as goal
 
 pub returns-in-Bool-clause-ok : goal.returns-in-Bool-clause-ok
@@ -24,3 +25,9 @@ pub returns-else-is_empty-2-clause-ok : goal.returns-else-is_empty-2-clause-ok
 returns-else-is_empty-2-clause-ok c =
     opens_map c.args.value.now c.in-Map.pairs c.deref-in-Map.result.now _ c.in-Map.is c.deref-in-Map.ensures.value
     (search (rules, arith))
+
+pub returns-then-is_empty-clause-ok : goal.returns-then-is_empty-clause-ok
+returns-then-is_empty-clause-ok c = search (rules, the_lemmas, tests, common_steps)
+
+pub returns-then-is_empty-2-clause-ok : goal.returns-then-is_empty-2-clause-ok
+returns-then-is_empty-2-clause-ok c = search (rules, the_lemmas, tests, common_steps)

@@ -40,3 +40,6 @@ returns-in_err-byte-clause-refused c =
     let h = subst (IsErrorOf c.in_err-byte.field-0.0) (sym all) (refused_byte c.in_err-byte.field-0.0 bytes
     (value_item c.value-item.result) (map value_item (drop (i + 1) vs)) c.in_err-byte.ensures.refused) in
     search (rules, h)
+
+pub returns-clause-ok : goal.returns-clause-ok
+returns-clause-ok c = grind (arith, common_steps)

@@ -1,6 +1,6 @@
 use Rattle.std.proofs.Common.{ap, ◌∙◌, rules}
-use Rattle.ciborium_value.specs.{Places.sequence, Tree.array, View.trees_of}
-use Rattle.ciborium_value.proofs.{Writing.TreeSinkSteps.put_begins, Trees.Views.tree_of-Array}
+use Rattle.ciborium_value.{proofs.{Trees.Views.tree_of-Array, Writing.TreeSinkSteps.put_begins}, specs.Places.sequence}
+use Rattle.ciborium_value.specs.{Tree.array, ValueLists.trees_of}
 use Rattle.ciborium_value.proofs.serialized.TreeSinkSink.begin_array.Goals as goal
 
 -- a container of nothing is whole at once

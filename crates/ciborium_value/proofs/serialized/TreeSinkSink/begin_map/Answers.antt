@@ -1,6 +1,6 @@
 use Rattle.std.proofs.Common.{ap, ◌∙◌, rules}
-use Rattle.ciborium_value.specs.{Places.dictionary, Tree.map, View.tree_pairs_of}
-use Rattle.ciborium_value.proofs.{Writing.TreeSinkSteps.put_begins, Trees.Views.tree_of-Map}
+use Rattle.ciborium_value.{proofs.{Trees.Views.tree_of-Map, Writing.TreeSinkSteps.put_begins}, specs.Places.dictionary}
+use Rattle.ciborium_value.specs.{Tree.map, ValueLists.tree_pairs_of}
 use Rattle.ciborium_value.proofs.serialized.TreeSinkSink.begin_map.Goals as goal
 
 -- a container of nothing is whole at once

@@ -1,6 +1,6 @@
 use Rattle.std.proofs.Common.{ap, sym, ◌∙◌}
-use Rattle.ciborium_value.specs.{Lookups.{tree_at, nth_tree}, View.{tree_of, trees_of}}
-use Rattle.ciborium_value.proofs.{Trees.LookedUp.nth_got, Trees.Views.tree_of-Array}
+use Rattle.ciborium_value.{proofs.Trees.{LookedUp.nth_got, Views.tree_of-Array}, specs.Lookups.{tree_at, nth_tree}}
+use Rattle.ciborium_value.specs.{ValueLists.trees_of, View.tree_of}
 use Rattle.ciborium_value.proofs.tree.Value.at.Goals as goal
 
 pub returns-in-Array : goal.returns-in-Array

@@ -1,5 +1,5 @@
 use Rattle.std.proofs.Common.{◌∙◌, ap, refl}
-use Rattle.ciborium_value.{proofs.Trees.Views.tree_of-Array, specs.View.{tree_of, trees_of}}
+use Rattle.ciborium_value.{proofs.Trees.Views.tree_of-Array, specs.{ValueLists.trees_of, View.tree_of}}
 use Rattle.ciborium_value.proofs.tree.Value.is_array.Goals as goal
 
 pub returns-in-Array-clause-tree : goal.returns-in-Array-clause-tree

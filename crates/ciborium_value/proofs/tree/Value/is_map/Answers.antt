@@ -1,5 +1,5 @@
 use Rattle.std.proofs.Common.{◌∙◌, ap, refl}
-use Rattle.ciborium_value.{proofs.Trees.Views.tree_of-Map, specs.View.{tree_of, tree_pairs_of}}
+use Rattle.ciborium_value.{proofs.Trees.Views.tree_of-Map, specs.{ValueLists.tree_pairs_of, View.tree_of}}
 use Rattle.ciborium_value.proofs.tree.Value.is_map.Goals as goal
 
 pub returns-in-Map-clause-tree : goal.returns-in-Map-clause-tree

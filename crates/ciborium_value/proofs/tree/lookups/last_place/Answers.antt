@@ -1,7 +1,7 @@
 use Rattle.std.proofs.Common.{◌≡◌, ◌∙◌, ◌<◌, ◌-◌, suc, None, length, drop, sym, subst, arith, ap}
 use Rattle.std.proofs.lemmas.List.{get_or_default}
-use Rattle.ciborium_value.specs.{Labels.is_label, Lookups.{last_with, tree_label}, View.{tree_of, tree_pairs_of}}
-use Rattle.ciborium_value.proofs.Trees.LookedUp.{last_found}
+use Rattle.ciborium_value.{proofs.Trees.LookedUp.last_found, specs.{Labels.is_label, Lookups.{last_with, tree_label}}}
+use Rattle.ciborium_value.specs.{ValueLists.tree_pairs_of, View.tree_of}
 use Rattle.ciborium_value.proofs.tree.lookups.last_place.Goals as goal
 
 pub returns-then-is_under : goal.returns-then-is_under

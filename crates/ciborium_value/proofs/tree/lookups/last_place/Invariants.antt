@@ -1,5 +1,5 @@
 use Rattle.std.proofs.Common.{◌≡◌, ◌≤◌, length, drop, None}
-use Rattle.ciborium_value.specs.{Lookups.last_with, View.tree_pairs_of}
+use Rattle.ciborium_value.specs.{Lookups.last_with, ValueLists.tree_pairs_of}
 use Rattle.ciborium_value.proofs.tree.lookups.last_place.Given as goal
 
 -- no pair from here on has the label

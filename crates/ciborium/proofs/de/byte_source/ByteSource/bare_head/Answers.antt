@@ -34,7 +34,7 @@ returns-in_err-bare-in-Tag-clause-denied g c =
     c.args.numbers
     (fault_at g.A.Access.can_fail g.A.Access.remaining c.skip_tags.new.self c.in_err-bare-in-Tag.field-0.0)
     (same-end g.A.Access.remaining c.args.self.now c.next_head.new.self
-    c.in_ok-header.ensures.only) one c.in_err-bare-in-Tag.ensures.denied)
+    c.in_ok-header.ensures.keeps.only) one c.in_err-bare-in-Tag.ensures.denied)
 
 pub returns-in_ok-bare-in-Tag-clause-head : goal.returns-in_ok-bare-in-Tag-clause-head
 returns-in_ok-bare-in-Tag-clause-head g c =

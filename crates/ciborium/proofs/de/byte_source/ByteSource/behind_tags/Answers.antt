@@ -1,6 +1,6 @@
-use Rattle.std.proofs.Common.{refl, ◌∙◌, arith, subst}
+use Rattle.std.proofs.Common.{refl, ◌∙◌, le_refl, le_trans, subst}
 use Rattle.ciborium_value.specs.Sources.{of_kind}
-use Rattle.ciborium.proofs.{Exits.passed_on, Items.{FrontReads.weighs-none, SkippedTags.{skips-none, skips-more}}}
+use Rattle.ciborium.proofs.{Exits.passed_on, Items.SkippedTags.{skips-none, skips-more}}
 use Rattle.ciborium.proofs.Items.{SkippedTags.{denies-item, denies-break}, TakenOnly.same-end}
 use Rattle.ciborium.specs.inner.{ByteSources.{IsUnread, end_at, fault_at}, FrontItems.TakesHead, Skips.IsEndTag}
 use Rattle.ciborium_ll.specs.declared.kind.Kind.TheVariants as kinds
@@ -11,7 +11,7 @@ tags-init g c = record {
   same_reader = refl;
   only = λ first h. h;
   levels = refl;
-  fewer = omega arith;
+  fewer = le_refl _;
   skipped = skips-none (IsUnread g.A.Access.remaining) c.args.self.now c.args.numbers;
 }
 
@@ -33,11 +33,10 @@ returns-in-Break-clause-denied g c =
 
 pub tags-preserved : goal.tags-preserved
 tags-preserved g c = record {
-  same_reader = c.in_ok-header.ensures.same_reader ∙ c.tags.invariant.same_reader;
-  only = λ first h. c.in_ok-header.ensures.only first (c.tags.invariant.only first h);
-  levels = c.in_ok-header.ensures.levels ∙ c.tags.invariant.levels;
-  fewer = let none = weighs-none c.next_head.new.self c.in_ok-header.ensures.pending in
-      omega (arith, c.in_ok-header.ensures.fewer, none, c.tags.invariant.fewer);
+  same_reader = c.in_ok-header.ensures.keeps.same_reader ∙ c.tags.invariant.same_reader;
+  only = λ first h. c.in_ok-header.ensures.keeps.only first (c.tags.invariant.only first h);
+  levels = c.in_ok-header.ensures.keeps.levels ∙ c.tags.invariant.levels;
+  fewer = le_trans c.in_ok-header.ensures.keeps.no_more c.tags.invariant.fewer;
   skipped = skips-more (IsUnread g.A.Access.remaining) c.args.self.now c.tags.self c.next_head.new.self c.args.numbers
       c.in-Tag.tag (subst (IsEndTag c.args.numbers c.in-Tag.tag) c.if-is_end_tag.false c.is_end_tag.ensures)
       c.tags.invariant.skipped

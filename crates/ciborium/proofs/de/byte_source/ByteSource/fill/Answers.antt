@@ -1,26 +1,13 @@
-use Rattle.std.proofs.{Common.{arith, subst, false}}
+use Rattle.std.proofs.{Common.{arith, refl, subst, false}}
 use Rattle.ciborium_ll.specs.Accesses.{left_at_failure}
-use Rattle.ciborium.proofs.{Items.{FrontReads.granted-fill, TakenOnly.takes-only}, Payloads.LoneCharacters.just-taken}
-use Rattle.ciborium.{proofs.Payloads.ReadDigits.{fill-fewer, fill-outside}, specs.inner.ByteSources.IsUnreadBy}
+use Rattle.ciborium.proofs.{Items.{FrontReads.granted-fill, TakenOnly.keeps-taken}, Payloads.LoneCharacters.just-taken}
+use Rattle.ciborium.{proofs.Payloads.ReadDigits.fill-outside, specs.inner.ByteSources.IsUnreadBy}
 use Rattle.ciborium.proofs.Exits.{passed_on}
 use Rattle.ciborium.proofs.de.byte_source.ByteSource.fill.Goals as goal
 
 pub returns-clause-ok : goal.returns-clause-ok
 returns-clause-ok g c = just-taken Unit g.A.Access.remaining c.args.self.now.decoder c.read_exact_keeping.new.self
     c.args.self.now.pending c.read_exact_keeping.new.buffer c.requires c.in_ok-read_exact_keeping.ensures.taken
-
-pub returns-clause-fewer : goal.returns-clause-fewer
-returns-clause-fewer g c = fill-fewer Unit g.A.Access.remaining c.args.self.now.decoder c.read_exact_keeping.new.self
-    c.read_exact_keeping.new.buffer c.in_ok-read_exact_keeping.ensures.taken
-
-pub returns-in_err-read_exact_keeping-clause-only : goal.returns-in_err-read_exact_keeping-clause-only
-returns-in_err-read_exact_keeping-clause-only g c = takes-only g.A.Access.remaining c.args.self.now.decoder
-    c.read_exact_keeping.new.self _ c.in_err-read_exact_keeping.ensures.same_reader
-    c.in_err-read_exact_keeping.ensures.taken
-
-pub returns-clause-only : goal.returns-clause-only
-returns-clause-only g c = takes-only g.A.Access.remaining c.args.self.now.decoder c.read_exact_keeping.new.self _
-    c.in_ok-read_exact_keeping.ensures.same_reader c.in_ok-read_exact_keeping.ensures.taken
 
 pub returns-in_err-read_exact_keeping-clause-outside : goal.returns-in_err-read_exact_keeping-clause-outside
 returns-in_err-read_exact_keeping-clause-outside g c =
@@ -40,3 +27,11 @@ returns-in_err-read_exact_keeping-clause-memory g c =
     (left_at_failure g.A.Access.can_fail (g.A.Access.remaining c.read_exact_keeping.new.self.reader.now))
     c.in_err-read_exact_keeping.field-0.0 taken.0 c.read_exact_keeping.new.buffer c.args.self.now.decoder.counter.count
     false taken.3)
+
+pub returns-clause-keeps : goal.returns-clause-keeps
+returns-clause-keeps g c = keeps-taken g.A.Access.remaining c.args.self.now _ _
+    c.in_ok-read_exact_keeping.ensures.same_reader c.in_ok-read_exact_keeping.ensures.taken refl c.requires
+
+pub returns-in_err-read_exact_keeping-clause-keeps : goal.returns-in_err-read_exact_keeping-clause-keeps
+returns-in_err-read_exact_keeping-clause-keeps g c = keeps-taken g.A.Access.remaining c.args.self.now _ _
+    c.in_err-read_exact_keeping.ensures.same_reader c.in_err-read_exact_keeping.ensures.taken refl c.requires

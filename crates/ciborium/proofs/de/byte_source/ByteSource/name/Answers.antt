@@ -3,7 +3,7 @@ use Rattle.std.specs.Str.{IsUtf8}
 use Rattle.ciborium_ll.specs.declared.strings.StringType.{StringType}
 use Rattle.ciborium_value.specs.{Given.{bare_name, given_name, outcome, settled}, Places.is_open}
 use Rattle.ciborium.proofs.{Containers.NamedVariants.{bytes-name, bytes-no-name, name-other}, Exits.passed_on}
-use Rattle.ciborium.proofs.Items.BareHeads.{head-denied, other-denied, string-denied, string-read}
+use Rattle.ciborium.proofs.Items.BareHeads.{head-denied, other-denied, string-answered, string-denied, string-read}
 use Rattle.ciborium.{proofs.Items.SkippedTags.untagged-under, specs.inner.ByteSources.{IsUnread, end_at, fault_at}}
 use Rattle.ciborium.specs.inner.{Skips.TakesBare, StringContents.string_item}
 use Rattle.ciborium_ll.specs.declared.kind.Kind.TheVariants as kinds
@@ -16,28 +16,24 @@ returns-in_err-header-clause-answer g c =
     (fault_at g.A.Access.can_fail g.A.Access.remaining c.bare_head.new.self c.in_err-header.field-0.0)
     c.in_err-header.ensures.denied)
 
-pub returns-in_err-name-in-Text-clause-answer : goal.returns-in_err-name-in-Text-clause-answer
-returns-in_err-name-in-Text-clause-answer g c =
-    rw (passed_on c.from_residual-in_err-name-in-Text.result _ c.from_residual-in_err-name-in-Text.ensures.1)
-    (string-denied g.A.Access.remaining c.args.self.now given_name c.bare_head.new.self
-    c.in_ok-header.header c.in_ok-header.ensures.head StringType.Text c.in-Text.len c.in-Text.is
-    c.in_ok-header.ensures.reads.only (fault_at g.A.Access.can_fail g.A.Access.remaining c.text_content.new.self
-    c.in_err-name-in-Text.field-0.0) c.in_err-name-in-Text.ensures.denied)
-
 pub returns-in-Text-clause-answer : goal.returns-in-Text-clause-answer
 returns-in-Text-clause-answer g c =
-    let payload = string_bytes c.in_ok-name-in-Text.name in
-    string-read g.A.Access.remaining c.args.self.now given_name c.bare_head.new.self c.in_ok-header.header
-    c.in_ok-header.ensures.head StringType.Text c.in-Text.len c.in-Text.is c.text_content.new.self payload payload
-    c.in_ok-name-in-Text.ensures.ok (λ ts all. ap (λ j. settled (bare_name j))
-    (untagged-under ts (string_item StringType.Text c.in-Text.len payload)))
+    string-answered g.A.Access.remaining c.args.self.now given_name c.bare_head.new.self c.in_ok-header.header
+    c.in_ok-header.ensures.head StringType.Text c.in-Text.len c.in-Text.is g.A.Access.can_fail c.text_content.new.self
+    string_bytes c.text_content.result c.in_ok-header.ensures.reads.kept.only c.text_content.ensures.ok
+    (λ v took. (
+      string_bytes v,
+      took,
+      λ ts all. ap (λ j. settled (bare_name j))
+          (untagged-under ts (string_item StringType.Text c.in-Text.len (string_bytes v))),
+    )) c.text_content.ensures.denied
 
 pub returns-in_err-bytes-in-Bytes-clause-answer : goal.returns-in_err-bytes-in-Bytes-clause-answer
 returns-in_err-bytes-in-Bytes-clause-answer g c =
     rw (passed_on c.from_residual-in_err-bytes-in-Bytes.result _ c.from_residual-in_err-bytes-in-Bytes.ensures.1)
     (string-denied g.A.Access.remaining c.args.self.now given_name c.bare_head.new.self
     c.in_ok-header.header c.in_ok-header.ensures.head StringType.Bytes c.in-Bytes.len c.in-Bytes.is
-    c.in_ok-header.ensures.reads.only (fault_at g.A.Access.can_fail g.A.Access.remaining c.bytes_content.new.self
+    c.in_ok-header.ensures.reads.kept.only (fault_at g.A.Access.can_fail g.A.Access.remaining c.bytes_content.new.self
     c.in_err-bytes-in-Bytes.field-0.0)
     c.in_err-bytes-in-Bytes.ensures.denied)
 

@@ -4,7 +4,7 @@ use Rattle.ciborium_value.{proofs.Sources.Sequences.fault_map, specs.Given.{bare
 use Rattle.ciborium_value.specs.{Given.{outcome, settled}, Labels.{name_place, placed}, Places.is_open, Sources.of_kind}
 use Rattle.ciborium_value.specs.declared.labels.LabelType.TheVariants.{Name}
 use Rattle.ciborium.proofs.{Containers.NamedVariants.{bytes-name, bytes-no-name, name-other}, Exits.passed_on}
-use Rattle.ciborium.proofs.Items.BareHeads.{head-denied, other-denied, string-denied, string-read}
+use Rattle.ciborium.proofs.Items.BareHeads.{head-denied, other-denied, string-answered, string-denied, string-read}
 use Rattle.ciborium.{proofs.Items.SkippedTags.untagged-under, specs.inner.ByteSources.{IsUnread, end_at, fault_at}}
 use Rattle.ciborium.specs.inner.{Skips.TakesBare, StringContents.string_item}
 use Rattle.ciborium_ll.specs.declared.kind.Kind.TheVariants as kinds
@@ -17,24 +17,20 @@ returns-in_err-header-clause-answer g c =
     (fault_at g.A.Access.can_fail g.A.Access.remaining c.bare_head.new.self c.in_err-header.field-0.0)
     c.in_err-header.ensures.denied)
 
-pub returns-in_err-place-in-Text-clause-answer : goal.returns-in_err-place-in-Text-clause-answer
-returns-in_err-place-in-Text-clause-answer g c =
-    rw (passed_on c.from_residual-in_err-place-in-Text.result _ c.from_residual-in_err-place-in-Text.ensures.1)
-    (string-denied g.A.Access.remaining c.args.self.now
-    (placed (g.N.Labels.place_of c.args.labels.now) Name) c.bare_head.new.self
-    c.in_ok-header.header c.in_ok-header.ensures.head StringType.Text c.in-Text.len c.in-Text.is
-    c.in_ok-header.ensures.reads.only (fault_at g.A.Access.can_fail g.A.Access.remaining c.text_place.new.self
-    c.in_err-place-in-Text.field-0.0) c.in_err-place-in-Text.ensures.denied)
-
 pub returns-in-Text-clause-answer : goal.returns-in-Text-clause-answer
 returns-in-Text-clause-answer g c =
     let place = name_place (g.N.Labels.place_of c.args.labels.now) in
-    let (payload, content, is) = c.in_ok-place-in-Text.ensures.ok in
-    string-read g.A.Access.remaining c.args.self.now (placed (g.N.Labels.place_of c.args.labels.now) Name)
+    string-answered g.A.Access.remaining c.args.self.now (placed (g.N.Labels.place_of c.args.labels.now) Name)
     c.bare_head.new.self c.in_ok-header.header c.in_ok-header.ensures.head StringType.Text c.in-Text.len c.in-Text.is
-    c.text_place.new.self payload c.in_ok-place-in-Text.place content
-    (λ ts all. ap (λ x. outcome_map place (settled (bare_name x)))
-    (untagged-under ts (string_item StringType.Text c.in-Text.len payload)) ∙ ap gives (sym is))
+    g.A.Access.can_fail c.text_place.new.self (λ v. v) c.text_place.result c.in_ok-header.ensures.reads.kept.only
+    c.text_place.ensures.ok (λ v (payload, took, is). (
+      payload,
+      took,
+      λ ts all.
+          ap (λ x. outcome_map place (settled (bare_name x)))
+          (untagged-under ts (string_item StringType.Text c.in-Text.len payload)) ∙ ap gives (sym is),
+    ))
+    c.text_place.ensures.denied
 
 pub returns-in_err-bytes-in-Bytes-clause-answer : goal.returns-in_err-bytes-in-Bytes-clause-answer
 returns-in_err-bytes-in-Bytes-clause-answer g c =
@@ -42,7 +38,7 @@ returns-in_err-bytes-in-Bytes-clause-answer g c =
     (string-denied g.A.Access.remaining c.args.self.now
     (placed (g.N.Labels.place_of c.args.labels.now) Name) c.bare_head.new.self
     c.in_ok-header.header c.in_ok-header.ensures.head StringType.Bytes c.in-Bytes.len c.in-Bytes.is
-    c.in_ok-header.ensures.reads.only (fault_at g.A.Access.can_fail g.A.Access.remaining c.bytes_content.new.self
+    c.in_ok-header.ensures.reads.kept.only (fault_at g.A.Access.can_fail g.A.Access.remaining c.bytes_content.new.self
     c.in_err-bytes-in-Bytes.field-0.0) c.in_err-bytes-in-Bytes.ensures.denied)
 
 pub returns-in-Ok-clause-answer : goal.returns-in-Ok-clause-answer

@@ -1,6 +1,6 @@
-use Rattle.std.proofs.{Common.{◌∙◌, sym, subst, ◌≡◌, ◌≤◌, arith, false, ◌+◌}}
+use Rattle.std.proofs.{Common.{◌∙◌, sym, refl, subst, ◌≡◌, ◌≤◌, arith, false, ◌+◌}}
 use Rattle.ciborium.proofs.Items.FrontReads.{ahead-unpushed, counted-pending, counted-pulled, fewer-bytes, head-outside}
-use Rattle.ciborium.proofs.Items.{FrontReads.{ended-ll, failed-fault, granted-head, weighs-none}, TakenOnly.takes-only}
+use Rattle.ciborium.proofs.Items.{FrontReads.{ended-ll, failed-fault, granted-head, weighs-none}, TakenOnly.keeps-taken}
 use Rattle.ciborium.specs.{Errors.from_ll, inner.ByteSources.{IsUnreadBy, bytes_weight, weight_left, known_end}}
 use Rattle.ciborium_ll.specs.{Accesses.left_at_failure, Decoding.left_of}
 use Rattle.ciborium_value.specs.Sources.{IsOutsideFault}
@@ -64,10 +64,10 @@ returns-clause-head g c b u =
           rest,
     )
 
-pub returns-in_err-header-clause-only : goal.returns-in_err-header-clause-only
-returns-in_err-header-clause-only g c = takes-only g.A.Access.remaining c.args.self.now.decoder
-    c.pull_next_keeping.new.self _ c.in_err-header.ensures.same_reader c.in_err-header.ensures.taken
+pub returns-clause-keeps : goal.returns-clause-keeps
+returns-clause-keeps g c = keeps-taken g.A.Access.remaining c.args.self.now _ _
+    c.in_ok-header.ensures.same_reader c.in_ok-header.ensures.taken refl c.in_default.is
 
-pub returns-clause-only : goal.returns-clause-only
-returns-clause-only g c = takes-only g.A.Access.remaining c.args.self.now.decoder c.pull_next_keeping.new.self _
-    c.in_ok-header.ensures.same_reader c.in_ok-header.ensures.taken
+pub returns-in_err-header-clause-keeps : goal.returns-in_err-header-clause-keeps
+returns-in_err-header-clause-keeps g c = keeps-taken g.A.Access.remaining c.args.self.now _ _
+    c.in_err-header.ensures.same_reader c.in_err-header.ensures.taken refl c.in_default.is

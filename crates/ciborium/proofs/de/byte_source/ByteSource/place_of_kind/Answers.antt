@@ -10,8 +10,8 @@ returns-in_err-negative-in-Number-clause-answer g c =
     let l = Some c.args.self.now.levels in
     let fault = fault_at g.A.Access.can_fail g.A.Access.remaining c.read_integer.new.self
     c.in_err-negative-in-Number.field-0.0 in
-    rw (passed_on c.from_residual-in_err-negative-in-Number.result _
-    c.from_residual-in_err-negative-in-Number.ensures.1)
+    rw (passed_on c.from_residual.result _
+    c.from_residual.ensures.1)
     (subst (λ k. Denies (IsUnread g.A.Access.remaining) (end_at g.A.Access.remaining)
     c.args.self.now l (placed place k) fault) (sym c.in-Number.is)
     (denies-mapped (IsUnread g.A.Access.remaining) (end_at g.A.Access.remaining) c.args.self.now l given_integer
@@ -27,3 +27,6 @@ returns-in_err-skip-in-Other-clause-answer g c =
     c.args.self.now l (placed place k) fault) (sym c.in-Other.is)
     (denies-mapped (IsUnread g.A.Access.remaining) (end_at g.A.Access.remaining) c.args.self.now l given_skip
     (λ n. place other) fault c.in_err-skip-in-Other.ensures.answer))
+
+pub returns-in-Name-clause-answer : goal.returns-in-Name-clause-answer
+returns-in-Name-clause-answer g c = rw c.in-Name.is c.named_place.ensures.answer

@@ -1,6 +1,6 @@
 use Rattle.std.proofs.Common.{subst}
 use Rattle.ciborium_value.specs.Sources.{of_kind}
-use Rattle.ciborium.proofs.{Exits.passed_on, Items.TakenOnly.same-end, Payloads.OpenNumbers.bignum-reads}
+use Rattle.ciborium.proofs.{Exits.passed_on, Items.TakenOnly.{keeps-then, same-end}, Payloads.OpenNumbers.bignum-reads}
 use Rattle.ciborium.proofs.Payloads.OpenNumbers.{bignum-large, bignum-content, bignum-no-head, bignum-break}
 use Rattle.ciborium.{proofs.Payloads.OpenNumbers.bignum-other, specs.inner.ByteSources.{IsUnread, end_at, fault_at}}
 use Rattle.ciborium.specs.inner.{FrontItems.TakesHead, StringContents.TakesNumber}
@@ -21,7 +21,7 @@ returns-in_err-number-in-Bytes-clause-answer g c =
     (bignum-content (IsUnread g.A.Access.remaining) (end_at g.A.Access.remaining) c.args.self.now
     c.next_head.new.self c.in-Bytes.len (fault_at g.A.Access.can_fail g.A.Access.remaining c.read_number.new.self
     c.in_err-number-in-Bytes.field-0.0)
-    (same-end g.A.Access.remaining c.args.self.now c.next_head.new.self c.in_ok-header.ensures.only)
+    (same-end g.A.Access.remaining c.args.self.now c.next_head.new.self c.in_ok-header.ensures.keeps.only)
     (subst (TakesHead (IsUnread g.A.Access.remaining) c.args.self.now c.next_head.new.self) c.in-Bytes.is
     c.in_ok-header.ensures.head) c.in_err-number-in-Bytes.ensures.denied)
 
@@ -53,3 +53,12 @@ pub returns-in_default-clause-answer : goal.returns-in_default-clause-answer
 returns-in_default-clause-answer g c =
     bignum-other (IsUnread g.A.Access.remaining) (end_at g.A.Access.remaining) c.args.self.now c.next_head.new.self
     c.in_ok-header.header c.in_ok-header.ensures.head c.in_default.not-Bytes
+
+pub returns-in_err-number-in-Bytes-clause-keeps : goal.returns-in_err-number-in-Bytes-clause-keeps
+returns-in_err-number-in-Bytes-clause-keeps g c = keeps-then c.next_head.ensures.keeps c.read_number.ensures.keeps
+
+pub returns-in-Some-clause-keeps : goal.returns-in-Some-clause-keeps
+returns-in-Some-clause-keeps g c = keeps-then c.next_head.ensures.keeps c.read_number.ensures.keeps
+
+pub returns-in-None-clause-keeps : goal.returns-in-None-clause-keeps
+returns-in-None-clause-keeps g c = keeps-then c.next_head.ensures.keeps c.read_number.ensures.keeps

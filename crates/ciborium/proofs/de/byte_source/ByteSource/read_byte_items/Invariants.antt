@@ -7,10 +7,10 @@ use Rattle.ciborium.proofs.de.byte_source.ByteSource.read_byte_items.Given as go
 abbrev pub invariant-items : goal.invariant-items
 invariant-items g l = record {
   only : TakesOnly (HasTakenSince g.A.Access.remaining) l.fn.self l.self;
-  fewer : weight_left l.self + seq_left l.left ≤ weight_left l.fn.self + seq_left l.fn.seq;
-  read : ReadsPartly g.A.Access.remaining given_byte l.fn.self l.fn.seq l.self l.left l.bytes.items;
-  owes : OwesPartly g.A.Access.remaining l.fn.self l.fn.seq l.self l.left;
+  fewer : weight_left l.self + seq_left l.seq ≤ weight_left l.fn.self + seq_left l.fn.seq;
+  read : ReadsPartly g.A.Access.remaining given_byte l.fn.self l.fn.seq l.self l.seq l.bytes.items;
+  owes : OwesPartly g.A.Access.remaining l.fn.self l.fn.seq l.self l.seq;
 }
 
 abbrev pub decreases-items : goal.decreases-items
-decreases-items g l = weight_left l.self + seq_left l.left
+decreases-items g l = weight_left l.self + seq_left l.seq

@@ -62,7 +62,7 @@ returns-in_err-number-in-Tag-clause-answer g c =
     (bignum-denied (IsUnread g.A.Access.remaining) t l bare.1 (end_at g.A.Access.remaining)
     c.args.self.now c.bare_head.new.self (fault_at g.A.Access.can_fail g.A.Access.remaining c.read_tagged.new.self
     c.in_err-number-in-Tag.field-0.0)
-    (same-end g.A.Access.remaining c.args.self.now c.bare_head.new.self c.in_ok-header.ensures.reads.only)
+    (same-end g.A.Access.remaining c.args.self.now c.bare_head.new.self c.in_ok-header.ensures.reads.kept.only)
     (subst (TakesBare (IsUnread g.A.Access.remaining) c.args.self.now c.bare_head.new.self true) c.in-Tag.is
     c.in_ok-header.ensures.head) c.in_err-number-in-Tag.ensures.answer)
 

@@ -4,6 +4,7 @@ use Rattle.ciborium_value.specs.Sources.{of_syntax}
 use Rattle.ciborium.proofs.{Exits.passed_on, Payloads.ShortNames.{just-denied, no-text-denied}}
 use Rattle.ciborium.{proofs.Payloads.VisitedPayloads.content-denied-then, specs.inner.ByteSources.{IsUnread, end_at}}
 use Rattle.ciborium.specs.inner.ByteSources.{fault_at}
+use Rattle.ciborium.proofs.Items.TakenOnly.{keeps-then}
 use Rattle.ciborium.proofs.de.byte_source.ByteSource.short_place.Goals as goal
 
 pub returns-in_err-place-clause-denied : goal.returns-in_err-place-clause-denied
@@ -24,7 +25,7 @@ pub returns-in-None-clause-denied : goal.returns-in-None-clause-denied
 returns-in-None-clause-denied g c =
     let kept = rw c.in-None.is at c.in_ok-place.ensures.none in
     content-denied-then g.A.Access.remaining c.args.self.now c.visit.new.self
-    (fault_at g.A.Access.can_fail g.A.Access.remaining c.copied_place.new.self) c.in_ok-place.ensures.only kept
+    (fault_at g.A.Access.can_fail g.A.Access.remaining c.copied_place.new.self) c.in_ok-place.ensures.keeps.only kept
     StringType.Text (Some c.args.n) c.copied_place.result c.copied_place.ensures.denied
 
 pub returns-in_err-place-clause-ok : goal.returns-in_err-place-clause-ok
@@ -46,3 +47,6 @@ returns-in-None-clause-ok g c =
     let kept = rw c.in-None.is at c.in_ok-place.ensures.none in
     IfOk-weaker c.copied_place.result _ _ (λ place t. let (payload, took, is) = t in
     (payload, λ y u. took y (kept y u), is)) c.copied_place.ensures.ok
+
+pub returns-in-None-clause-keeps : goal.returns-in-None-clause-keeps
+returns-in-None-clause-keeps g c = keeps-then c.visit.ensures.keeps c.copied_place.ensures.keeps

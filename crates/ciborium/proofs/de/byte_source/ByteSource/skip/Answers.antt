@@ -37,12 +37,13 @@ returns-then-is_lone-clause-answer g c =
     (payload-denied (IsUnread g.A.Access.remaining old) (end_at g.A.Access.remaining old) old.levels (Items 1 ∷ [])
     fault
     tt (IsUnread g.A.Access.remaining mid) (end_at g.A.Access.remaining mid) header c.in_ok-header.ensures.head
-    (same-end g.A.Access.remaining old mid c.in_ok-header.ensures.only) denied)) c.skip_payload.ensures.denied)
+    (same-end g.A.Access.remaining old mid c.in_ok-header.ensures.keeps.only) denied)) c.skip_payload.ensures.denied)
 
 pub returns-clause-answer : goal.returns-clause-answer
 returns-clause-answer g c =
     let mid = c.next_head.new.self in
     let head = c.in_ok-header.ensures in
     answers-aside g.A.Access.remaining c.args.self.now mid c.in_ok-header.header head.head c.in_ok-header.offset
-    head.pending head.counted head.levels head.only g.A.Access.can_fail given_skip (λ v. v) c.skip_heads.new.self
+    head.keeps.pending head.counted head.keeps.levels head.keeps.only g.A.Access.can_fail given_skip (λ v. v)
+    c.skip_heads.new.self
     c.skip_heads.result c.skip_heads.ensures.answer

@@ -4,7 +4,8 @@ use Rattle.ciborium_ll.{proofs.OneHeader.one_header_at_front, specs.{Header.Spel
 use Rattle.ciborium_ll.specs.declared.header.Header.{Header}
 use Rattle.ciborium_value.{proofs.Sources.TreeReading.if_err_so, specs.Meaning.is_bignum_tag}
 use Rattle.ciborium.proofs.{Exits.passed_on, Items.PassedOver.{TakesFront, content-denied, string-denied}}
-use Rattle.ciborium.{proofs.Items.TakenOnly.same-end, specs.inner.ByteSources.{IsUnread, end_at, fault_at}}
+use Rattle.ciborium.proofs.Items.TakenOnly.{keeps-then, same-end}
+use Rattle.ciborium.specs.inner.ByteSources.{IsUnread, end_at, fault_at}
 use Rattle.ciborium.specs.inner.{Parts.IsFolding, PassedOver.{IsBignumBehind, TakesBignum, TakesPayload}}
 use Rattle.ciborium_ll.specs.declared.header.Header.TheVariants as heads
 use Rattle.ciborium.proofs.de.byte_source.ByteSource.skip_bignum.Goals as goal
@@ -57,7 +58,7 @@ returns-clause-denied g c =
     string-denied (IsUnread g.A.Access.remaining old) (IsUnread g.A.Access.remaining mid)
     (end_at g.A.Access.remaining old) (end_at g.A.Access.remaining mid) c.args.header c.in_ok-content.content
     c.in-Tag.tag (fault_at g.A.Access.can_fail g.A.Access.remaining c.skip_payload.new.self e) c.in-Tag.is
-    c.in_ok-content.ensures.head (same-end g.A.Access.remaining old mid c.in_ok-content.ensures.only)
+    c.in_ok-content.ensures.head (same-end g.A.Access.remaining old mid c.in_ok-content.ensures.keeps.only)
     denied) c.skip_payload.ensures.denied
 
 pub returns-then-is_none-clause-denied : goal.returns-then-is_none-clause-denied
@@ -67,3 +68,6 @@ returns-then-is_none-clause-denied g c y z end levels p to fits =
 pub returns-clause-ok : goal.returns-clause-ok
 returns-clause-ok g c = on_ok_weaker c.skip_payload.result (folded-taken _ _ _ _ _ _ _ c.in-Tag.is
     c.find_folding.ensures c.if-is_none.ensures c.in_ok-content.ensures.head) c.skip_payload.ensures.ok
+
+pub returns-clause-keeps : goal.returns-clause-keeps
+returns-clause-keeps g c = keeps-then c.next_head.ensures.keeps c.skip_payload.ensures.keeps

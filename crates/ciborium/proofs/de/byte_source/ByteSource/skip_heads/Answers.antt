@@ -1,7 +1,8 @@
-use Rattle.std.proofs.{Common.{◌∷◌, [], sym, ◌∙◌, subst, arith}}
+use Rattle.std.proofs.{Common.{◌∷◌, [], sym, ◌∙◌, subst, le_trans}}
 use Rattle.ciborium_ll.specs.declared.levels.Level.TheVariants.{Items}
 use Rattle.ciborium.proofs.Items.PassedOver.{denied-before, item-denied, item-passed, passed-incomplete, passed-then}
-use Rattle.ciborium.{proofs.Items.TakenOnly.same-end, specs.inner.ByteSources.{IsUnread, end_at, fault_at}}
+use Rattle.ciborium.proofs.Items.TakenOnly.{keeps-from, same-end}
+use Rattle.ciborium.specs.inner.ByteSources.{IsUnread, end_at, fault_at}
 use Rattle.ciborium.specs.inner.PassedOver.{DeniesLevels, PassesHeads, levels_in}
 use Rattle.ciborium.proofs.Exits.{passed_on}
 use Rattle.ciborium.proofs.de.byte_source.ByteSource.skip_heads.Goals as goal
@@ -18,10 +19,10 @@ heads-preserved g c =
     let all = passed-then (IsUnread g.A.Access.remaining old) (IsUnread g.A.Access.remaining mid)
     (IsUnread g.A.Access.remaining new) old.levels (Items 1 ∷ []) before behind c.heads.invariant.passed head in
     record {
-      same_reader = c.in_ok-skip_head.ensures.same_reader ∙ c.heads.invariant.same_reader;
-      only = λ first h. c.in_ok-skip_head.ensures.only first (c.heads.invariant.only first h);
-      levels = c.in_ok-skip_head.ensures.levels ∙ c.heads.invariant.levels;
-      fewer = omega (arith, c.in_ok-skip_head.ensures.fewer, c.heads.invariant.fewer);
+      same_reader = c.in_ok-skip_head.ensures.keeps.kept.same_reader ∙ c.heads.invariant.same_reader;
+      only = λ first h. c.in_ok-skip_head.ensures.keeps.kept.only first (c.heads.invariant.only first h);
+      levels = c.in_ok-skip_head.ensures.keeps.kept.levels ∙ c.heads.invariant.levels;
+      fewer = le_trans c.in_ok-skip_head.ensures.keeps.kept.no_more c.heads.invariant.fewer;
       whole = c.if-drop_complete.ensures.1;
       passed = subst (PassesHeads (IsUnread g.A.Access.remaining old) (IsUnread g.A.Access.remaining new) old.levels
           (Items 1 ∷ [])) (sym c.if-drop_complete.ensures.0)
@@ -61,3 +62,18 @@ returns-in_err-skip_head-clause-answer g c =
     c.heads.invariant.passed (same-end g.A.Access.remaining old mid c.heads.invariant.only)
     (subst (λ m. DeniesLevels (IsUnread g.A.Access.remaining mid) (end_at g.A.Access.remaining mid) m before fault)
     c.heads.invariant.levels c.in_err-skip_head.ensures.denied)))
+
+pub returns-in_err-skip_head-clause-keeps : goal.returns-in_err-skip_head-clause-keeps
+returns-in_err-skip_head-clause-keeps g c =
+    rw (passed_on c.from_residual.result _ c.from_residual.ensures.1) (record {
+      kept = keeps-from (c.heads.invariant.same_reader, c.heads.invariant.only) c.heads.invariant.levels
+          c.heads.invariant.fewer c.in_err-skip_head.ensures.keeps.kept;
+      fewer = tt;
+    })
+
+pub returns-then-drop_complete-clause-keeps : goal.returns-then-drop_complete-clause-keeps
+returns-then-drop_complete-clause-keeps g c = record {
+  kept = keeps-from (c.heads.invariant.same_reader, c.heads.invariant.only) c.heads.invariant.levels
+      c.heads.invariant.fewer c.in_ok-skip_head.ensures.keeps.kept;
+  fewer = le_trans c.in_ok-skip_head.ensures.keeps.fewer c.heads.invariant.fewer;
+}

@@ -4,6 +4,7 @@ use Rattle.ciborium.specs.inner.ByteSources.{IsUnread, end_at, fault_at}
 use Rattle.ciborium.proofs.Payloads.VisitedPayloads.{payload-denied, payload-denied-then, no-text-there}
 use Rattle.ciborium_ll.specs.declared.header.Header.TheVariants as header
 use Rattle.ciborium.proofs.Exits.{passed_on}
+use Rattle.ciborium.proofs.Items.TakenOnly.{keeps-then}
 use Rattle.ciborium.proofs.de.byte_source.ByteSource.skip_text.Goals as goal
 
 pub returns-in_err-visit-clause-denied : goal.returns-in_err-visit-clause-denied
@@ -25,5 +26,9 @@ pub returns-in-None-clause-denied : goal.returns-in-None-clause-denied
 returns-in-None-clause-denied g c =
     let kept = rw c.in-None.is at c.in_ok-visit.ensures.none in
     payload-denied-then g.A.Access.remaining c.args.self.now c.visit.new.self
-    (fault_at g.A.Access.can_fail g.A.Access.remaining c.skip_text_pieces.new.self) c.in_ok-visit.ensures.only kept
+    (fault_at g.A.Access.can_fail g.A.Access.remaining c.skip_text_pieces.new.self) c.in_ok-visit.ensures.keeps.only
+    kept
     (header.Text (Some c.args.len)) c.skip_text_pieces.result c.skip_text_pieces.ensures.denied
+
+pub returns-in-None-clause-keeps : goal.returns-in-None-clause-keeps
+returns-in-None-clause-keeps g c = keeps-then c.visit.ensures.keeps c.skip_text_pieces.ensures.keeps

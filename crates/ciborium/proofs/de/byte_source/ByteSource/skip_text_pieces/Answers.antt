@@ -1,7 +1,8 @@
 use Rattle.std.proofs.Common.{◌≡◌, ◌≤◌, ◌+◌, ◌-◌, ◌++◌, ◌∙◌, ℕ, IsUtf8, List, Some, arith, drop, length, rules, subst}
-use Rattle.std.proofs.{Common.{sym, refl, [], le_refl, take}, lemmas.{List.take-append-le, Result.IfOk-from_err}}
+use Rattle.std.proofs.{Common.{sym, refl, [], take}, lemmas.{List.take-append-le, Result.IfOk-from_err}}
 use Rattle.ciborium_value.specs.Sources.{of_syntax}
-use Rattle.ciborium.proofs.{Exits.passed_on, Items.TakenOnly.same-end, Payloads.SkippedPayloads.{TookText, cut-text}}
+use Rattle.ciborium.proofs.{Exits.passed_on, Items.TakenOnly.{keeps-none, keeps-then, same-end}}
+use Rattle.ciborium.proofs.{Payloads.SkippedPayloads.{TookText, cut-text}}
 use Rattle.ciborium.proofs.Payloads.SkippedPayloads.{no-text, part-filled, part-size, piece-denied, text-more}
 use Rattle.ciborium.{proofs.Payloads.SkippedPayloads.{text-some, text-taken}, specs.inner.ByteSources.IsUnread}
 use Rattle.ciborium.specs.inner.{ByteSources.{end_at, fault_at}, StringContents.DeniesJust}
@@ -24,7 +25,7 @@ returns-in_err-fill-clause-denied g c =
     rw (passed_on c.from_residual.result _ c.from_residual.ensures.1)
     (piece-denied P Q (end_at g.A.Access.remaining old) end fault (header.Text (Some c.args.len))
     c.args.len c.loop-left.left size (λ p is. is.0) (omega (arith, least))
-    (same-end g.A.Access.remaining old mid c.loop-left.invariant.only)
+    (same-end g.A.Access.remaining old mid c.loop-left.invariant.kept.only)
     (text-some P Q c.args.len c.loop-left.left (take kept room) c.loop-left.invariant.took)
     (subst (λ k. DeniesJust Q end k fault)
     (part-size room kept size (omega (arith, least, long, c.loop-left.invariant.few))) c.in_err-fill.ensures.outside))
@@ -48,11 +49,7 @@ loop-left-preserved g c =
     let (more, chars, parts) = c.in-Some.ensures.kept in
     let P = IsUnread g.A.Access.remaining c.args.self.now in
     let R = IsUnread g.A.Access.remaining c.fill.new.self in record {
-      same_reader = c.in_ok-fill.ensures.same_reader ∙ c.loop-left.invariant.same_reader;
-      only = λ first h. c.in_ok-fill.ensures.only first (c.loop-left.invariant.only first h);
-      levels = c.in_ok-fill.ensures.levels ∙ c.loop-left.invariant.levels;
-      pending = c.in_ok-fill.ensures.pending;
-      fewer = omega (arith, c.in_ok-fill.ensures.fewer, c.loop-left.invariant.fewer);
+      kept = keeps-then c.loop-left.invariant.kept c.in_ok-fill.ensures.keeps;
       few = short.1;
       cut = λ utf8. c.in-Some.ensures.cut (subst IsUtf8 front utf8);
       took = subst (TookText P R c.args.len (c.loop-left.left - size)) (sym front)
@@ -113,11 +110,7 @@ returns-in_err-skip_pieces-in-None-clause-denied g c =
 
 pub loop-left-init : goal.loop-left-init
 loop-left-init g c = record {
-  same_reader = refl;
-  only = λ first h. h;
-  levels = refl;
-  pending = c.requires;
-  fewer = le_refl _;
+  kept = keeps-none g.A.Access.remaining c.args.self.now c.requires;
   few = search rules;
   cut = λ utf8. refl;
   took = λ y u. ([], y, ([], (refl, refl)), search rules, refl, u);
@@ -126,9 +119,13 @@ loop-left-init g c = record {
 pub returns-in_err-fill-clause-ok : goal.returns-in_err-fill-clause-ok
 returns-in_err-fill-clause-ok g c = IfOk-from_err c.from_residual.result _ c.from_residual.ensures.0
 
-pub returns-in_err-fill-clause-only : goal.returns-in_err-fill-clause-only
-returns-in_err-fill-clause-only g c first h = c.fill.ensures.only first (c.loop-left.invariant.only first h)
+pub returns-in_err-fill-clause-keeps : goal.returns-in_err-fill-clause-keeps
+returns-in_err-fill-clause-keeps g c = keeps-then c.loop-left.invariant.kept c.fill.ensures.keeps
 
-pub returns-in_err-skip_pieces-in-None-clause-only : goal.returns-in_err-skip_pieces-in-None-clause-only
-returns-in_err-skip_pieces-in-None-clause-only g c first h =
-    c.skip_pieces.ensures.only first (c.in_ok-fill.ensures.only first (c.loop-left.invariant.only first h))
+pub returns-in_err-skip_pieces-in-None-clause-keeps : goal.returns-in_err-skip_pieces-in-None-clause-keeps
+returns-in_err-skip_pieces-in-None-clause-keeps g c =
+    keeps-then (keeps-then c.loop-left.invariant.kept c.fill.ensures.keeps) c.skip_pieces.ensures.keeps
+
+pub returns-in-None-clause-keeps : goal.returns-in-None-clause-keeps
+returns-in-None-clause-keeps g c =
+    keeps-then (keeps-then c.loop-left.invariant.kept c.fill.ensures.keeps) c.skip_pieces.ensures.keeps

@@ -1,6 +1,6 @@
-use Rattle.std.proofs.Common.{string_bytes}
+use Rattle.std.proofs.Common.{refl, string_bytes}
 use Rattle.ciborium_ll.specs.declared.strings.StringType.{StringType}
-use Rattle.ciborium.proofs.{Exits.passed_on, Items.TakenOnly.takes-only, Payloads.SpelledStrings.content-denied}
+use Rattle.ciborium.proofs.{Exits.passed_on, Items.TakenOnly.keeps-taken, Payloads.SpelledStrings.content-denied}
 use Rattle.ciborium.proofs.Payloads.StringPayloads.{content-taken}
 use Rattle.ciborium.proofs.de.byte_source.ByteSource.text_content.Goals as goal
 
@@ -18,11 +18,10 @@ returns-clause-ok g c =
     StringType.Text c.args.len (string_bytes c.new-out.result) (string_bytes c.text_into_keeping.new.out) c.requires
     c.new-out.ensures.bytes c.in_ok-text_into_keeping.ensures.taken
 
-pub returns-in_err-text_into_keeping-clause-only : goal.returns-in_err-text_into_keeping-clause-only
-returns-in_err-text_into_keeping-clause-only g c = takes-only g.A.Access.remaining c.args.self.now.decoder
-    c.text_into_keeping.new.self _ c.in_err-text_into_keeping.ensures.same_reader
-    c.in_err-text_into_keeping.ensures.taken
+pub returns-clause-keeps : goal.returns-clause-keeps
+returns-clause-keeps g c = keeps-taken g.A.Access.remaining c.args.self.now _ _
+    c.in_ok-text_into_keeping.ensures.same_reader c.in_ok-text_into_keeping.ensures.taken refl c.requires
 
-pub returns-clause-only : goal.returns-clause-only
-returns-clause-only g c = takes-only g.A.Access.remaining c.args.self.now.decoder c.text_into_keeping.new.self _
-    c.in_ok-text_into_keeping.ensures.same_reader c.in_ok-text_into_keeping.ensures.taken
+pub returns-in_err-text_into_keeping-clause-keeps : goal.returns-in_err-text_into_keeping-clause-keeps
+returns-in_err-text_into_keeping-clause-keeps g c = keeps-taken g.A.Access.remaining c.args.self.now _ _
+    c.in_err-text_into_keeping.ensures.same_reader c.in_err-text_into_keeping.ensures.taken refl c.requires

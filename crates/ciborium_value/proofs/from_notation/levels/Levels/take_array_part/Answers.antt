@@ -1,18 +1,14 @@
-use Rattle.std.proofs.Common.{rules, length}
-use Rattle.ciborium_value.specs.inner.ReadTokens.{IsRoom, await_of}
-use Rattle.ciborium_value.proofs.Denoting.BegunLevels.{array_ended, first_misplaced, first_taken, room_from}
+use Rattle.std.proofs.Common.{arith}
+use Rattle.ciborium_value.proofs.Denoting.BegunLevels.{array_ended, first_taken}
 use Rattle.ciborium_value.proofs.from_notation.levels.Levels.take_array_part.Goals as goal
 
 pub returns-in-EndArray-clause-taken : goal.returns-in-EndArray-clause-taken
-returns-in-EndArray-clause-taken c = array_ended _ c.new-items.result c.args.token (search rules) (search rules)
+returns-in-EndArray-clause-taken c = (
+  array_ended _ c.new-items.result c.args.token c.in-EndArray.is c.new-items.ensures.items,
+  λ room. omega (arith, room),
+)
 
-pub returns : goal.returns
-returns c = record {
-  taken = first_taken c.args.self.now.levels.items c.push.new.self.items c.new-items.result c.args.token _
-      c.take_item.result c.in_default.not-EndArray (search rules) (search rules) c.take_item.ensures.taken;
-  refused = first_misplaced c.args.self.now.levels.items c.push.new.self.items c.new-items.result c.args.token _
-      c.take_item.result c.in_default.not-EndArray (search rules) (search rules) c.take_item.ensures.refused;
-  limit = c.take_item.ensures.limit;
-  room = room_from (λ next. IsRoom c.args.self.now.limit (length c.take_item.new.self.levels.items) (await_of next))
-      c.take_item.result c.take_item.ensures.room (λ h. search (rules, h));
-}
+pub returns-clause-taken : goal.returns-clause-taken
+returns-clause-taken c = first_taken c.args.self.now.limit c.args.self.now.levels.items c.push.new.self.items
+    c.take_item.new.self.levels.items c.new-items.result c.args.token c.take_item.result c.in_default.not-EndArray
+    c.new-items.ensures.items c.in_ok-push.ensures.items c.take_item.ensures.taken

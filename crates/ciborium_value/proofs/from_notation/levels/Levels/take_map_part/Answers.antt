@@ -1,18 +1,14 @@
-use Rattle.std.proofs.Common.{rules, length}
-use Rattle.ciborium_value.specs.inner.ReadTokens.{IsRoom, await_of}
-use Rattle.ciborium_value.proofs.Denoting.BegunLevels.{key_misplaced, key_taken, map_ended, room_from}
+use Rattle.std.proofs.Common.{arith}
+use Rattle.ciborium_value.proofs.Denoting.BegunLevels.{key_taken, map_ended}
 use Rattle.ciborium_value.proofs.from_notation.levels.Levels.take_map_part.Goals as goal
 
 pub returns-in-EndMap-clause-taken : goal.returns-in-EndMap-clause-taken
-returns-in-EndMap-clause-taken c = map_ended _ c.new-pairs.result c.args.token (search rules) (search rules)
+returns-in-EndMap-clause-taken c = (
+  map_ended _ c.new-pairs.result c.args.token c.in-EndMap.is c.new-pairs.ensures.items,
+  λ room. omega (arith, room),
+)
 
-pub returns : goal.returns
-returns c = record {
-  taken = key_taken c.args.self.now.levels.items c.push.new.self.items c.new-pairs.result c.args.token _
-      c.take_item.result c.in_default.not-EndMap (search rules) (search rules) c.take_item.ensures.taken;
-  refused = key_misplaced c.args.self.now.levels.items c.push.new.self.items c.new-pairs.result c.args.token _
-      c.take_item.result c.in_default.not-EndMap (search rules) (search rules) c.take_item.ensures.refused;
-  limit = c.take_item.ensures.limit;
-  room = room_from (λ next. IsRoom c.args.self.now.limit (length c.take_item.new.self.levels.items) (await_of next))
-      c.take_item.result c.take_item.ensures.room (λ h. search (rules, h));
-}
+pub returns-clause-taken : goal.returns-clause-taken
+returns-clause-taken c = key_taken c.args.self.now.limit c.args.self.now.levels.items c.push.new.self.items
+    c.take_item.new.self.levels.items c.new-pairs.result c.args.token c.take_item.result c.in_default.not-EndMap
+    c.new-pairs.ensures.items c.in_ok-push.ensures.items c.take_item.ensures.taken

@@ -39,8 +39,7 @@ pub returns-in_ok-seq-in-Bytes : goal.returns-in_ok-seq-in-Bytes
 returns-in_ok-seq-in-Bytes g c =
     let read = c.in_ok-seq-in-Bytes.ensures in
     let all = bytes-entered c.enter_bytes.new.self c.in-Bytes.len c.in_ok-seq-in-Bytes.seq c.in_ok-header.ensures.reads
-    c.in_ok-header.ensures.head c.in-Bytes.is (read.same_reader, read.only) read.levels read.back read.pending
-    read.fewer read.ok in record {
+    c.in_ok-header.ensures.head c.in-Bytes.is read.keeps read.back read.fewer read.ok in record {
       ok = parts-stand all;
       refused = tt;
       took = parts-owed all;

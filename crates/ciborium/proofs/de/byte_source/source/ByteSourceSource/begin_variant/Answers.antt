@@ -1,13 +1,14 @@
-use Rattle.std.proofs.Common.{rules, ◌≡◌, ◌≢◌, ◌≤◌, ◌+◌, length, ap, ◌∙◌, sym, Some, false, subst, arith, string_bytes}
+use Rattle.std.proofs.Common.{rules, ◌≡◌, ◌≤◌, ◌+◌, length, ap, ◌∙◌, sym, Some, false, subst, string_bytes}
 use Rattle.std.proofs.Common.{le_of_eq, le_refl, le_trans, Bool, Ok, List, Option, ℕ}
 use Rattle.ciborium_ll.specs.declared.{header.Header.Header, strings.StringType.StringType}
 use Rattle.ciborium_value.specs.Given.{deeper, given_name, given_variant}
 use Rattle.ciborium.proofs.Containers.ByteItems.{head-refuses, nested-refuses, other-refuses, refuses-denied}
-use Rattle.ciborium.proofs.Containers.{DueLevels.{completes-begun, holds-begun}, EnteredContainers.deeper-is}
+use Rattle.ciborium.proofs.Containers.DueLevels.{completes-begun, holds-begun, level-behind, level-inner, level-some}
+use Rattle.ciborium.proofs.Containers.EnteredContainers.{deeper-is}
 use Rattle.ciborium.proofs.Containers.{EnteredContainers.same-unread, NamedVariants.{key-denied, map-no-text}}
 use Rattle.ciborium.proofs.Containers.NamedVariants.{map-not-one, null-unread, pair-nests, pair-begun, text-nests}
 use Rattle.ciborium.proofs.{Containers.NamedVariants.{text-begun, variant-other}}
-use Rattle.ciborium.proofs.Items.{TakenOnly.{kept-alone, same-end}, Weights.{no-more-left, same-left}}
+use Rattle.ciborium.proofs.Items.{TakenOnly.{is-kept, kept-alone, same-end}, Weights.same-left}
 use Rattle.ciborium.{specs.declared.de.byte_source.ByteSource.ByteSource}
 use Rattle.ciborium.specs.inner.ByteSources.{IsUnread, ReadsBareHead, weight_left, end_at, reader_of, fault_at}
 use Rattle.ciborium.specs.inner.{FrontItems.{Denies, Reads}, Skips.TakesBare}
@@ -20,7 +21,7 @@ use Rattle.ciborium.proofs.de.byte_source.source.ByteSourceSource.begin_variant.
 module _ {S W : Type 0} {can_fail numbers : Bool} {remaining : S → Option (List ℕ)} {old mid : ByteSource S W}
     {h : Header × ℕ} (new : ByteSource S W) (reads : ReadsBareHead can_fail remaining old mid numbers (Ok h)) where
   behind-bare : weight_left new ≤ weight_left mid → weight_left new ≤ weight_left old
-  behind-bare fewer = no-more-left new mid _ _ h.0 reads.pending fewer (le_refl _) reads.fewer
+  behind-bare fewer = le_trans fewer reads.kept.no_more
 
   -- and a level
   behind-level : (taken : ByteSource S W) → taken.decoder ≡ mid.decoder → taken.pending ≡ mid.pending →
@@ -69,10 +70,10 @@ returns-in_ok-name-in-Text g c =
     let level = c.in_ok-level-in-Text.ensures in
     let content = c.in_ok-name-in-Text.ensures in
     let less = level.some.1 in
-    let same = reads.levels in
-    let levels = content.levels in
-    let kept = kept-alone g.A.Access.remaining old mid taken level.decoder (reads.same_reader, reads.only) in
-    let begun = text-begun U old mid new old.levels (λ z. absurd (omega (arith, z, less, same))) c.in-Text.len name
+    let same = reads.kept.levels in
+    let levels = content.keeps.levels in
+    let kept = kept-alone g.A.Access.remaining old mid taken level.decoder (is-kept reads.kept) in
+    let begun = text-begun U old mid new old.levels (level-some _ same less) c.in-Text.len name
     (subst (TakesBare U old mid false) c.in-Text.is c.in_ok-header.ensures.head) (λ y u.
     let (d, z, make, f, un) = content.ok y
     (same-unread g.A.Access.remaining mid taken level.decoder level.pending y u) in (
@@ -80,14 +81,14 @@ returns-in_ok-name-in-Text g c =
       z,
       make,
       f,
-      null-unread g.A.Access.remaining read.decoder read.pending c.in_ok-header.offset z content.pending un,
+      null-unread g.A.Access.remaining read.decoder read.pending c.in_ok-header.offset z content.keeps.pending un,
     )) in record {
       ok = holds-begun g.A.Access.remaining old new given_variant name c.in_ok-level-in-Text.level
-          (content.same_reader ∙ kept.0, λ first t. content.only first (kept.1 first t))
-          (level.some.0 ∙ same, omega (arith, less, same, levels)) begun;
+          (content.keeps.same_reader ∙ kept.0, λ first t. content.keeps.only first (kept.1 first t))
+          (level.some.0 ∙ same, level-behind _ same less levels) begun;
       refused = tt;
       took = completes-begun g.A.Access.remaining old new (Some old.levels) given_variant name begun;
-      only = λ first t. content.only first.decoder (kept.1 first.decoder t);
+      only = λ first t. content.keeps.only first.decoder (kept.1 first.decoder t);
       less = search rules;
       no_more = tt;
     }
@@ -104,23 +105,23 @@ returns-in_ok-name-in-Map g c =
     let level = c.in_ok-level-in-Map.ensures in
     let keeps = c.in_ok-name-in-Map.ensures.keeps in
     let less = level.some.1 in
-    let same = reads.levels in
-    let levels = keeps.levels in
-    let some : old.levels ≢ 0 = λ z. absurd (omega (arith, z, less, same)) in
+    let same = reads.kept.levels in
+    let levels = keeps.kept.levels in
+    let some = level-some _ same less in
     let inner : Some taken.levels ≡ deeper (Some old.levels) =
-    ap Some (omega (arith, less, same)) ∙ sym (deeper-is old.levels some) in
-    let kept = kept-alone g.A.Access.remaining old mid taken level.decoder (reads.same_reader, reads.only) in
+    ap Some (level-inner _ same less) ∙ sym (deeper-is old.levels some) in
+    let kept = kept-alone g.A.Access.remaining old mid taken level.decoder (is-kept reads.kept) in
     let begun = pair-begun U old mid taken new old.levels some
     (same-unread g.A.Access.remaining mid taken level.decoder level.pending) name
     (subst (TakesBare U old mid false) (c.in-Map.is ∙ ap header.Map c.if-not-is_one.ensures)
     c.in_ok-header.ensures.head)
     (subst (λ l. Reads U taken new l given_name name) inner c.in_ok-name-in-Map.ensures.answer) in record {
       ok = holds-begun g.A.Access.remaining old new given_variant name c.in_ok-level-in-Map.level
-          (keeps.same_reader ∙ kept.0, λ first t. keeps.only first (kept.1 first t))
-          (level.some.0 ∙ same, omega (arith, less, same, levels)) begun;
+          (keeps.kept.same_reader ∙ kept.0, λ first t. keeps.kept.only first (kept.1 first t))
+          (level.some.0 ∙ same, level-behind _ same less levels) begun;
       refused = tt;
       took = completes-begun g.A.Access.remaining old new (Some old.levels) given_variant name begun;
-      only = λ first t. keeps.only first.decoder (kept.1 first.decoder t);
+      only = λ first t. keeps.kept.only first.decoder (kept.1 first.decoder t);
       less = search rules;
       no_more = tt;
     }
@@ -131,17 +132,17 @@ returns-in_err-name-in-Map-clause-refused g c =
     let fault = fault_at g.A.Access.can_fail g.A.Access.remaining c.name.new.self c.in_err-name-in-Map.field-0.0 in
     let level = c.in_ok-level-in-Map.ensures in
     let less = level.some.1 in
-    let same = c.in_ok-header.ensures.reads.levels in
-    let some : c.args.self.now.levels ≢ 0 = λ z. absurd (omega (arith, z, less, same)) in
+    let same = c.in_ok-header.ensures.reads.kept.levels in
+    let some = level-some _ same less in
     let inner : Some c.take_level-in-Map.new.self.levels ≡ deeper (Some c.args.self.now.levels) =
-    ap Some (omega (arith, less, same)) ∙ sym (deeper-is c.args.self.now.levels some) in
+    ap Some (level-inner _ same less) ∙ sym (deeper-is c.args.self.now.levels some) in
     rw (passed_on c.from_residual-in_err-name-in-Map.result _ c.from_residual-in_err-name-in-Map.ensures.1)
     (refuses-denied g.A.Access.remaining c.args.self.now given_variant fault
     (key-denied U c.args.self.now c.bare_head.new.self c.take_level-in-Map.new.self
     c.take_level-in-Map.new.self c.args.self.now.levels some
     (same-unread g.A.Access.remaining c.bare_head.new.self c.take_level-in-Map.new.self level.decoder level.pending)
     (end_at g.A.Access.remaining) fault (λ b u. ap (λ d. (reader_of g.A.Access.remaining d).1) level.decoder ∙
-    same-end g.A.Access.remaining c.args.self.now c.bare_head.new.self c.in_ok-header.ensures.reads.only b u)
+    same-end g.A.Access.remaining c.args.self.now c.bare_head.new.self c.in_ok-header.ensures.reads.kept.only b u)
     (subst (TakesBare U c.args.self.now c.bare_head.new.self false)
     (c.in-Map.is ∙ ap header.Map c.if-not-is_one.ensures) c.in_ok-header.ensures.head)
     (subst (λ l. Denies U (end_at g.A.Access.remaining) c.take_level-in-Map.new.self l given_name fault) inner
@@ -162,7 +163,7 @@ returns-in_default-clause-refused g c =
 
 pub returns-in_err-header-clause-no_more : goal.returns-in_err-header-clause-no_more
 returns-in_err-header-clause-no_more g c =
-    rw (passed_on c.from_residual.result _ c.from_residual.ensures.1) c.in_err-header.ensures.reads.no_more
+    rw (passed_on c.from_residual.result _ c.from_residual.ensures.1) c.in_err-header.ensures.reads.kept.no_more
 
 pub returns-in_err-level-in-Text-clause-no_more : goal.returns-in_err-level-in-Text-clause-no_more
 returns-in_err-level-in-Text-clause-no_more g c =
@@ -174,7 +175,7 @@ pub returns-in_err-name-in-Text-clause-no_more : goal.returns-in_err-name-in-Tex
 returns-in_err-name-in-Text-clause-no_more g c =
     rw (passed_on c.from_residual-in_err-name-in-Text.result _ c.from_residual-in_err-name-in-Text.ensures.1)
     (behind-level c.text_content.new.self c.in_ok-header.ensures.reads c.take_level.new.self
-    c.take_level.ensures.decoder c.take_level.ensures.pending c.in_err-name-in-Text.ensures.no_more)
+    c.take_level.ensures.decoder c.take_level.ensures.pending c.in_err-name-in-Text.ensures.keeps.no_more)
 
 pub returns-in_err-level-in-Map-clause-no_more : goal.returns-in_err-level-in-Map-clause-no_more
 returns-in_err-level-in-Map-clause-no_more g c =
@@ -186,7 +187,8 @@ pub returns-in_err-name-in-Map-clause-no_more : goal.returns-in_err-name-in-Map-
 returns-in_err-name-in-Map-clause-no_more g c =
     rw (passed_on c.from_residual-in_err-name-in-Map.result _ c.from_residual-in_err-name-in-Map.ensures.1)
     (behind-level c.name.new.self c.in_ok-header.ensures.reads c.take_level-in-Map.new.self
-    c.take_level-in-Map.ensures.decoder c.take_level-in-Map.ensures.pending c.in_err-name-in-Map.ensures.keeps.no_more)
+    c.take_level-in-Map.ensures.decoder c.take_level-in-Map.ensures.pending
+    c.in_err-name-in-Map.ensures.keeps.kept.no_more)
 
 pub returns-then-not-is_one-clause-no_more : goal.returns-then-not-is_one-clause-no_more
 returns-then-not-is_one-clause-no_more g c = behind-bare c.bare_head.new.self c.in_ok-header.ensures.reads (le_refl _)

@@ -1,4 +1,4 @@
-use Rattle.std.proofs.Common.{rules, ◌≡◌, ◌≤◌, ℕ, [], ◌∷◌, ap, ◌∙◌, Some, false, subst, arith, length, take}
+use Rattle.std.proofs.Common.{◌≡◌, ◌≤◌, ℕ, [], ◌∷◌, ap, ◌∙◌, Some, false, subst, arith, length, take}
 use Rattle.std.proofs.{lemmas.Grind.common_steps}
 use Rattle.ciborium_ll.specs.{Accesses.left_at_failure, declared.strings.StringType.StringType}
 use Rattle.ciborium_value.{specs.Given.{given_character}}
@@ -31,7 +31,7 @@ returns-then-n-gt-GREATEST_CHARACTER_SIZE-clause-takes g c =
     (of_kind kinds.Char)
     (long-denied (IsUnread g.A.Access.remaining) (end_at g.A.Access.remaining) (Some old.levels) old mid c.in-Some.n
     (subst (TakesBare (IsUnread g.A.Access.remaining) old mid false) (c.in-Text.is ∙ ap header.Text c.in-Some.is)
-    c.in_ok-header.ensures.head) (same-end g.A.Access.remaining old mid c.in_ok-header.ensures.reads.only)
+    c.in_ok-header.ensures.head) (same-end g.A.Access.remaining old mid c.in_ok-header.ensures.reads.kept.only)
     c.if-n-gt-GREATEST_CHARACTER_SIZE.true))
 
 pub returns-in_ok-character-in-Some-clause-takes : goal.returns-in_ok-character-in-Some-clause-takes
@@ -41,8 +41,8 @@ returns-in_ok-character-in-Some-clause-takes g c =
     let size : length payload ≡ n = c.fill.auto.buffer ∙ short n c.if-n-gt-GREATEST_CHARACTER_SIZE.false in
     let content = c.in_ok-fill-in-Some.ensures in
     string-given c.in_ok-header.ensures.reads c.in_ok-header.ensures.head StringType.Text (Some n)
-    (c.in-Text.is ∙ ap header.Text c.in-Some.is) (content.same_reader, content.only) content.levels content.pending
-    content.fewer payload (payload-taken (IsUnread g.A.Access.remaining c.bare_head.new.self)
+    (c.in-Text.is ∙ ap header.Text c.in-Some.is) content.keeps payload (payload-taken (IsUnread g.A.Access.remaining
+    c.bare_head.new.self)
     (IsUnread g.A.Access.remaining c.fill.new.self) n payload size c.in_ok-character-in-Some.ensures.utf8 content.ok)
     (character-given (Some c.args.self.now.levels) payload c.in_ok-character-in-Some.character
     c.in_ok-character-in-Some.ensures.ok)
@@ -55,7 +55,7 @@ returns-in_err-fill-in-Some-clause-takes g c =
     let fault = fault_at g.A.Access.can_fail g.A.Access.remaining c.fill.new.self c.in_err-fill-in-Some.field-0.0 in
     let refusal = c.in_err-fill-in-Some.ensures in
     rw (passed_on c.from_residual-in_err-fill-in-Some.result _ c.from_residual-in_err-fill-in-Some.ensures.1)
-    (behind-refused c.in_ok-header.ensures.reads refusal.only refusal.no_more
+    (behind-refused c.in_ok-header.ensures.reads refusal.keeps.only refusal.keeps.no_more
     (string-refuses given_character c.in_ok-header.ensures.reads c.in_ok-header.ensures.head fault StringType.Text
     (Some n) (c.in-Text.is ∙ ap header.Text c.in-Some.is) (just-denied P end n fault StringType.Text
     (subst (λ k. DeniesJust P end k fault) (short n c.if-n-gt-GREATEST_CHARACTER_SIZE.false) refusal.outside))))
@@ -71,11 +71,11 @@ returns-in_err-character-in-Some-clause-takes g c =
     let fault = fault_at g.A.Access.can_fail g.A.Access.remaining new c.in_err-character-in-Some.field-0.0 in
     let content = c.in_ok-fill-in-Some.ensures in
     rw (passed_on c.from_residual-in_err-character-in-Some.result _ c.from_residual-in_err-character-in-Some.ensures.1)
-    (behind-refused c.in_ok-header.ensures.reads content.only (search rules)
+    (behind-refused c.in_ok-header.ensures.reads content.keeps.only content.keeps.no_more
     (refuses-denied g.A.Access.remaining old given_character fault
     (text-denied (IsUnread g.A.Access.remaining) (end_at g.A.Access.remaining) (Some old.levels) old mid n
     (subst (TakesBare (IsUnread g.A.Access.remaining) old mid false) (c.in-Text.is ∙ ap header.Text c.in-Some.is)
-    c.in_ok-header.ensures.head) fault (same-end g.A.Access.remaining old mid c.in_ok-header.ensures.reads.only)
+    c.in_ok-header.ensures.head) fault (same-end g.A.Access.remaining old mid c.in_ok-header.ensures.reads.kept.only)
     (payload-denied (end_at g.A.Access.remaining mid) (IsUnread g.A.Access.remaining mid)
     (IsUnread g.A.Access.remaining new) n payload fault size (c.in_err-character-in-Some.ensures.refused
     (left_at_failure g.A.Access.can_fail (g.A.Access.remaining new.decoder.reader.now))) content.ok))))

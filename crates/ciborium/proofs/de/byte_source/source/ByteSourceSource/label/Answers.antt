@@ -3,17 +3,14 @@ use Rattle.ciborium_ll.specs.{Header.SpellsHeader, Item.{negative, unsigned}}
 use Rattle.ciborium_value.specs.{Given.gives, Labels.{numbered}}
 use Rattle.ciborium.proofs.{Containers.Labels.{no-key}, Exits.passed_on}
 use Rattle.ciborium.proofs.de.byte_source.source.ByteSourceSource.label.{Given.Over, Goals.In_ok-header}
-use Rattle.ciborium.proofs.Containers.Labels.{HasHead, no-text-key, text-key, told-key, whole-key}
-use Rattle.std.proofs.Common.{Err, Ok}
+use Rattle.ciborium.proofs.Containers.Labels.{HasHead, text-key-answered, told-key, whole-key}
 use Rattle.ciborium.proofs.de.byte_source.source.ByteSourceSource.label.Goals as goal
 
 -- the head of the key was taken
 head : (g : Over) (c : In_ok-header g) → HasHead g.A.Access.remaining c.args.self.now c.next_head.new.self
     c.in_ok-header.header c.in_ok-header.offset
 head g c = let e = c.in_ok-header.ensures in record {
-  kept = (e.same_reader, e.only);
-  levels = e.levels;
-  pending = e.pending;
+  kept = e.keeps;
   fewer = e.fewer;
   head = e.head;
   counted = e.counted;
@@ -23,24 +20,15 @@ pub returns-in_err-header : goal.returns-in_err-header
 returns-in_err-header g c =
     let head = c.in_err-header.ensures in
     rw (passed_on c.from_residual.result _ c.from_residual.ensures.1) (record {
-      takes = no-key _ g.A.Access.remaining (g.N.Labels.place_of c.args.labels.now) _ head.only head.no_more
+      takes = no-key _ g.A.Access.remaining (g.N.Labels.place_of c.args.labels.now) _ head.keeps.only head.keeps.no_more
           head.denied;
     })
 
-pub returns-in_err-place-in-Text : goal.returns-in_err-place-in-Text
-returns-in_err-place-in-Text g c =
-    let text = c.in_err-place-in-Text.ensures in
-    rw (passed_on c.from_residual-in_err-place-in-Text.result _ c.from_residual-in_err-place-in-Text.ensures.1)
-    (record {
-      takes = no-text-key _ (head g (goal.at.returns-in_err-place-in-Text g c).In_ok-header)
-          (g.N.Labels.place_of c.args.labels.now) c.in-Text.len c.in-Text.is text.only text.no_more text.denied;
-    })
-
-pub returns-in_ok-place-in-Text : goal.returns-in_ok-place-in-Text
-returns-in_ok-place-in-Text g c = let text = c.in_ok-place-in-Text.ensures in record {
-  takes = text-key _ (head g (goal.at.returns-in_ok-place-in-Text g c).In_ok-header)
-      (g.N.Labels.place_of c.args.labels.now) c.in-Text.len c.in-Text.is (text.same_reader, text.only) text.levels
-      text.pending text.fewer text.ok;
+pub returns-in-Text : goal.returns-in-Text
+returns-in-Text g c = let text = c.text_place.ensures in record {
+  takes = text-key-answered _ (head g (goal.at.returns-in-Text g c).In_ok-header)
+      (g.N.Labels.place_of c.args.labels.now) c.in-Text.len c.in-Text.is c.text_place.result text.keeps text.ok
+      text.denied;
 }
 
 pub returns-in-Positive : goal.returns-in-Positive
@@ -61,18 +49,9 @@ returns-in-Negative g c =
           c.from-in-Negative.ensures c.find_number-in-Negative.ensures)));
     }
 
-pub returns-in_ok-place-in_default : goal.returns-in_ok-place-in_default
-returns-in_ok-place-in_default g c = record {
-  takes = told-key _ (head g (goal.at.returns-in_ok-place-in_default g c).In_ok-header)
-      (g.N.Labels.place_of c.args.labels.now) (Ok _) c.in_ok-place-in_default.ensures.keeps _ c.label_type.ensures
-      c.in_ok-place-in_default.ensures.answer;
+pub returns-in_default : goal.returns-in_default
+returns-in_default g c = record {
+  takes = told-key _ (head g (goal.at.returns-in_default g c).In_ok-header)
+      (g.N.Labels.place_of c.args.labels.now) c.place_of_kind.result c.place_of_kind.ensures.keeps _
+      c.label_type.ensures c.place_of_kind.ensures.answer;
 }
-
-pub returns-in_err-place-in_default : goal.returns-in_err-place-in_default
-returns-in_err-place-in_default g c =
-    rw (passed_on c.from_residual-in_err-place-in_default.result _ c.from_residual-in_err-place-in_default.ensures.1)
-    (record {
-      takes = told-key _ (head g (goal.at.returns-in_err-place-in_default g c).In_ok-header)
-          (g.N.Labels.place_of c.args.labels.now) (Err _) c.in_err-place-in_default.ensures.keeps _
-          c.label_type.ensures c.in_err-place-in_default.ensures.answer;
-    })

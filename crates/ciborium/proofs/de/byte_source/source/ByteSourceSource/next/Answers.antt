@@ -7,7 +7,7 @@ use Rattle.ciborium.proofs.Containers.NextParts.{nothing-allowed, nothing-open, 
 use Rattle.ciborium.specs.inner.{ByteSources.{IsUnread, IsUnreadBy, fault_at}, FrontItems.TakesHead}
 use Rattle.ciborium_ll.specs.declared.header.Header.TheVariants as header
 use Rattle.ciborium.specs.declared.de.byte_source.Left.TheVariants as left
-use Rattle.ciborium.proofs.Exits.{passed_on}
+use Rattle.ciborium.proofs.{Exits.passed_on, Items.TakenOnly.is-kept}
 use Rattle.ciborium.proofs.de.byte_source.source.ByteSourceSource.next.Goals as goal
 
 pub returns-then-n-eq0-clause-ok : goal.returns-then-n-eq0-clause-ok
@@ -43,10 +43,10 @@ pub returns-in-Break-clause-ok : goal.returns-in-Break-clause-ok
 returns-in-Break-clause-ok g c =
     leaves-open g.A.Access.remaining c.args.self.now c.next_head.new.self
     (record c.next_head.new.self { levels = c.args.seq.now.levels }) c.args.seq.now c.in-Open.is
-    (c.in_ok-header-in-Open.ensures.same_reader, c.in_ok-header-in-Open.ensures.only)
+    (is-kept c.in_ok-header-in-Open.ensures.keeps)
     (subst (TakesHead (IsUnread g.A.Access.remaining) c.args.self.now
     c.next_head.new.self) c.in-Break.is c.in_ok-header-in-Open.ensures.head) refl
-    c.in_ok-header-in-Open.ensures.pending (λ y u. u)
+    c.in_ok-header-in-Open.ensures.keeps.pending (λ y u. u)
 
 pub returns-in-Break-clause-took : goal.returns-in-Break-clause-took
 returns-in-Break-clause-took g c =
@@ -61,7 +61,7 @@ pub returns-in_default : goal.returns-in_default
 returns-in_default g c =
     let h = c.in_ok-header-in-Open.header in
     let mid = c.next_head.new.self in
-    let none = c.in_ok-header-in-Open.ensures.pending in
+    let none = c.in_ok-header-in-Open.ensures.keeps.pending in
     let aside : (b x y : _) → IsUnread g.A.Access.remaining c.args.self.now b → SpellsHeader x h → b ≡ x ++ y →
     IsUnread g.A.Access.remaining mid y → IsUnreadBy g.A.Access.remaining mid.decoder
     (Some (h, c.in_ok-header-in-Open.offset)) b
@@ -69,17 +69,15 @@ returns-in_default g c =
     none hd e (c.in_ok-header-in-Open.ensures.counted b x y w hd e) u in record {
       ok = goes-open g.A.Access.remaining c.args.self.now mid
           (record mid { pending = Some (h, c.in_ok-header-in-Open.offset) }) c.args.seq.now c.args.seq.now h
-          c.in-Open.is c.in-Open.is refl (
-            c.in_ok-header-in-Open.ensures.same_reader,
-            c.in_ok-header-in-Open.ensures.only,
-          ) c.in_ok-header-in-Open.ensures.levels c.in_ok-header-in-Open.ensures.head c.in_default.not-Break aside;
+          c.in-Open.is c.in-Open.is refl (is-kept c.in_ok-header-in-Open.ensures.keeps)
+          c.in_ok-header-in-Open.ensures.keeps.levels c.in_ok-header-in-Open.ensures.head c.in_default.not-Break aside;
       refused = tt;
       memory = tt;
       took = less-open (IsUnread g.A.Access.remaining c.args.self.now)
           (IsUnreadBy g.A.Access.remaining mid.decoder (Some (h, c.in_ok-header-in-Open.offset))) c.args.seq.now
           c.args.seq.now c.in-Open.is c.in-Open.is
           (λ b u. let (x, y, hd, e, un) = c.in_ok-header-in-Open.ensures.head b u in aside b x y u hd e un);
-      only = λ first. c.in_ok-header-in-Open.ensures.only first.decoder;
+      only = λ first. c.in_ok-header-in-Open.ensures.keeps.only first.decoder;
       less = omega (arith, c.in_ok-header-in-Open.ensures.fewer);
       no_more = tt;
     }

@@ -3,7 +3,7 @@ use Rattle.ciborium_ll.specs.Header.{SpellsHeader}
 use Rattle.ciborium_value.specs.Given.{is_null}
 use Rattle.ciborium.proofs.Containers.{NextParts.aside-unread, NullAhead.{null-head, refuses-to-tell, takes-nothing}}
 use Rattle.ciborium.{proofs.Containers.NullAhead.tells, specs.inner.ByteSources.{IsUnread, IsUnreadBy, fault_at}}
-use Rattle.ciborium.proofs.Exits.{passed_on}
+use Rattle.ciborium.proofs.{Exits.passed_on, Items.TakenOnly.is-kept}
 use Rattle.ciborium.proofs.de.byte_source.source.ByteSourceSource.null_ahead.Goals as goal
 
 pub returns-in_err-header-clause-refused : goal.returns-in_err-header-clause-refused
@@ -22,15 +22,15 @@ returns g c =
     IsUnread g.A.Access.remaining mid y → IsUnreadBy g.A.Access.remaining mid.decoder (Some (h, c.in_ok-header.offset))
     b
     = λ b x y w hd e u. aside-unread g.A.Access.remaining mid.decoder mid.pending h c.in_ok-header.offset b x y
-    head.pending hd e (head.counted b x y w hd e) u in record {
+    head.keeps.pending hd e (head.counted b x y w hd e) u in record {
       ok = tells g.A.Access.remaining c.args.self.now mid (record mid { pending = Some (h, c.in_ok-header.offset) }) h
-          head.head aside is_null c.is_null_head-answer.result (head.same_reader, head.only) head.levels
+          head.head aside is_null c.is_null_head-answer.result (is-kept head.keeps) head.keeps.levels
           (λ i e. c.is_null_head-answer.ensures ∙ null-head h i e);
       refused = tt;
       memory = tt;
       took = takes-nothing g.A.Access.remaining c.args.self.now mid
           (record mid { pending = Some (h, c.in_ok-header.offset) }) h head.head aside;
-      only = λ first. head.only first.decoder;
+      only = λ first. head.keeps.only first.decoder;
       less = omega (arith, head.fewer);
       no_more = tt;
     }
