@@ -11,8 +11,9 @@ use Rattle.ciborium_ll.specs.Refusal as refusal
 
 -- ---- refusals
 
--- P holds of the refusal that an error is: of `Io` only where `rest`, what follows, is no byte; of
--- `Memory` nothing is said, and `Semantic` has its offset
+-- P, said of bytes that end with `rest`, which was not taken, holds of the refusal that an error is:
+-- of `Io` only where `rest` is known to be empty; of `Memory` nothing is said; `Semantic` has its
+-- offset
 abbrev pub IsRefusedBy : {E : Type 0} → Option (List ℕ) → Error E → (Refusal → Type 0) → Type 0
 IsRefusedBy rest (Io e) P = rest ≡ Some [] → P refusal.io
 IsRefusedBy rest (Syntax p) P = P (refusal.syntax p)
@@ -29,7 +30,8 @@ IsRefusedBy rest TooLong P = P refusal.too_long
 -- its tree.
 
 -- the bytes s, taken from offset p on, fit the answer: at Ok they are read as it; at an error s ++ c
--- is refused with it, whatever c, which follows them; at `Io` only where c is empty
+-- is refused with it for every c; at `Io`, which asks this of c = [] alone, s by itself is refused
+-- as `io`, whether or not the reader has bytes left
 abbrev pub IsTakenFrom : {E : Type 0} → Spelling → ℕ → List ℕ → ℕ → Result Tree (Error E) → Type 0
 IsTakenFrom spelling p s l (Ok v) = IsReadAs spelling s p (Some l) v
 IsTakenFrom spelling p s l (Err e) = (c : List ℕ) → IsRefusedBy (Some c) e (Refuses spelling (s ++ c) p (Some l))
@@ -41,20 +43,21 @@ abbrev pub TakesBytes : {E : Type 0} → Spelling → ℕ → Option (List ℕ) 
 TakesBytes spelling p before l after r = (s : List ℕ) ×
     Consumes before after s × (p + length s ≤ greatest_offset) × IsTakenFrom spelling p s l r × AreBytes s
 
--- memory was refused, or the reader failed and it is not known that nothing was left: where nothing
--- was left `Io` is a refusal
+-- the answer is `Memory`, or `Io` where it is not known that no bytes are left (where none are, `Io`
+-- is a refusal)
 abbrev pub IsFailed : {E : Type 0} → Option (List ℕ) → Error E → Type 0
 IsFailed after (Io e) = ¬ (after ≡ Some [])
 IsFailed after Memory = Unit {0}
 IsFailed after _ = ⊥
 
 -- bytes that are read as v stood at the front, and rest followed: they were taken, and v is the
--- answer, or the call failed
+-- answer, or it is one of these errors
 abbrev pub GivesTree : {E : Type 0} → Tree → List ℕ → Option (List ℕ) → Result Tree (Error E) → Type 0
 GivesTree v rest after (Ok w) = (v ≡ w) × (after ≡ Some rest)
 GivesTree v rest after (Err e) = IsFailed after e
 
--- an item at the front that is accepted is taken and its tree answered, unless the call failed
+-- a good item at the front, offset 0, is taken and its tree answered, or the answer is one of these
+-- errors
 abbrev pub AnswersGoodItem : {E : Type 0} → Spelling → Option (List ℕ) → ℕ → Option (List ℕ) →
     Result Tree (Error E) → Type 0
 AnswersGoodItem spelling before l after r = (b s rest : List ℕ) (v : Tree) →

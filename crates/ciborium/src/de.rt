@@ -152,7 +152,7 @@ pub fn from_reader_with_buffer<T: Deserialize, R: Read>(
 }
 
 /// Reads one value as `from_reader` does, within this many levels. At limit 0 no array, map or tag
-/// is read as a `Value`, except a tag that is an integer.
+/// is read as a `Value`, except tag 2 or 3 over a definite byte string of at most 16 bytes.
 ///
 /// Reading a `Value` takes no stack for nested levels. But writing, cloning, comparing and dropping
 /// a value recurse as deep as it nests, so choose a limit for which the caller's stack suffices.

@@ -51,9 +51,9 @@ use std::io::{self, Read};
 
 /// What reading a `Value` promises, whatever the bytes and the limit. Some bytes are taken: at `Ok`
 /// they are just one item, which means the answer, nests within the limit and ends within the
-/// greatest offset; at an error they are refused with it, whatever follows them, but that `Io` is a
-/// refusal only where nothing does, and that `Memory` is none. And where such an item stands at the
-/// front, it is taken and answered, unless the answer is `Memory`, or `Io` with bytes left.
+/// greatest offset; at an error they are refused with it, whatever follows them, or, at `Io`, if
+/// nothing did; `Memory` is no refusal. And where such an item stands at the front, it is taken and
+/// answered, unless the answer is `Memory`, or `Io` with bytes left.
 pub fn value_is_read<R: Read>(
     alloc: Global,
     reader: &mut R,

@@ -1,6 +1,6 @@
 -- Bytes that end inside a head or a payload can be completed, where what they begin may stand.
 use Rattle.std.proofs.Common.{◌≡◌, ℕ, zero, suc, ◌+◌, ◌-◌, ◌*◌, ◌/◌, ◌%◌, ◌<◌, ◌≤◌, List, [], ◌∷◌, ◌++◌, length, get_or}
-use Rattle.std.proofs.Common.{Some, None, option_map, refl, sym, ap, ◌∙◌, subst, arith, inl, inr, ◌^◌, ◌⊎◌}
+use Rattle.std.proofs.Common.{Some, option_map, refl, sym, ap, ◌∙◌, subst, arith, inl, inr, ◌^◌, ◌⊎◌}
 use Rattle.std.proofs.{Common.{append_assoc, length-append, div-add-mod'}, lemmas.Bool.Decides.nat_tests}
 use Rattle.std.proofs.{lemmas.List.Elements.All-append, lemmas.Nat.{be_bytes_2, be_bytes_4, be_bytes_8}, str.Laws.order}
 use Rattle.std.specs.Int.{from_be_bytes, w16, w32, w64}

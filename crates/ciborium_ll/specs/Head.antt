@@ -47,15 +47,6 @@ head_in w major n = initial_byte major (information w n) ∷ argument_bytes w n
 abbrev pub IsHead : List ℕ → ℕ → ℕ → Type 0
 IsHead b major n = (w : Width) × (n < capacity w) × (b ≡ head_in w major n)
 
--- the narrowest width that holds n
-abbrev pub narrowest : ℕ → Width
-narrowest n = if nat_lt n 24 then within else if nat_lt n (2 ^ 8) then one_byte
-    else if nat_lt n (2 ^ 16) then two_bytes else if nat_lt n (2 ^ 32) then four_bytes else eight_bytes
-
--- the head in preferred serialization (section 4.1)
-unfoldable pub shortest_head : ℕ → ℕ → List ℕ
-shortest_head major n = head_in (narrowest n) major n
-
 -- the initial byte of a string, array or map of indefinite length (section 3.2), called open here
 abbrev pub open_byte : ℕ → ℕ
 open_byte major = initial_byte major 31
@@ -68,11 +59,22 @@ break_byte = 0xff
 abbrev pub IsSimple : List ℕ → ℕ → Type 0
 IsSimple b n = ((n < 24) × (b ≡ initial_byte 7 n ∷ [])) ⊎ ((32 ≤ n) × (n < 256) × (b ≡ 0xf8 ∷ n ∷ []))
 
--- the head of a simple value, in one byte where it can be
-abbrev pub simple_bytes : ℕ → List ℕ
-simple_bytes n = if nat_lt n 24 then initial_byte 7 n ∷ [] else 0xf8 ∷ n ∷ []
-
 -- b is a float of 2, 4 or 8 raw bytes, which belong to its head (section 3.3)
 abbrev pub IsFloat : List ℕ → List ℕ → Type 0
 IsFloat b raw = ((length raw ≡ 2) × (b ≡ 0xf9 ∷ raw)) ⊎ ((length raw ≡ 4) × (b ≡ 0xfa ∷ raw)) ⊎
     ((length raw ≡ 8) × (b ≡ 0xfb ∷ raw))
+
+-- ---- the shortest heads
+
+-- the narrowest width that holds n
+abbrev pub narrowest : ℕ → Width
+narrowest n = if nat_lt n 24 then within else if nat_lt n (2 ^ 8) then one_byte
+    else if nat_lt n (2 ^ 16) then two_bytes else if nat_lt n (2 ^ 32) then four_bytes else eight_bytes
+
+-- the head in preferred serialization (section 4.1)
+unfoldable pub shortest_head : ℕ → ℕ → List ℕ
+shortest_head major n = head_in (narrowest n) major n
+
+-- the head of a simple value, in one byte where it can be
+abbrev pub simple_bytes : ℕ → List ℕ
+simple_bytes n = if nat_lt n 24 then initial_byte 7 n ∷ [] else 0xf8 ∷ n ∷ []

@@ -34,7 +34,7 @@ abbrev pub is_low_simple : ℕ → List ℕ → Bool
 is_low_simple first [] = false
 is_low_simple first (second ∷ b) = (first == 0xf8) && nat_lt second 32
 
--- the argument that additional information and the bytes behind the initial byte give
+-- the argument that additional information below 28 and the bytes behind the initial byte give
 abbrev pub argument : ℕ → List ℕ → ℕ
 argument info b = if nat_lt info 24 then info
     else if info == 24 then slice_index b 0 else if info == 25 then from_be_bytes w16 (take 2 b)
@@ -69,9 +69,9 @@ HeadRefuses b p e = head_refusal b p ≡ Some e
 abbrev pub IsUsable : List ℕ → ℕ → Type 0
 IsUsable b p = head_refusal b p ≡ None
 
--- a head of a major type with argument n, of k bytes, stands at the front of b, and r follows it
+-- a head of a major type with argument n, of `size` bytes, stands at the front of b, and r follows it
 abbrev pub HasHead : List ℕ → ℕ → ℕ → ℕ → List ℕ → Type 0
-HasHead b major n k r = (h : List ℕ) × IsHead h major n × (length h ≡ k) × (b ≡ h ++ r)
+HasHead b major n size r = (h : List ℕ) × IsHead h major n × (length h ≡ size) × (b ≡ h ++ r)
 
 -- x stands at the front
 abbrev pub IsAtFront : ℕ → List ℕ → Type 0

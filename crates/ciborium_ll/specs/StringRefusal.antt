@@ -1,5 +1,5 @@
 -- When a string is refused whose head is usable (RFC 8949, sections 3.1 and 3.2.3).
-use Rattle.std.specs.Prelude.{◌≡◌, ℕ, ◌+◌, ◌<◌, ◌≤◌, ◌⊎◌, List, ◌∷◌, ◌++◌, length, IsUtf8}
+use Rattle.std.specs.Prelude.{◌≡◌, ℕ, ◌+◌, ◌<◌, ◌≤◌, List, ◌∷◌, ◌++◌, length, IsUtf8}
 use Rattle.ciborium_ll.specs.{Bytes.{AreBytes, greatest_offset}, Head.{open_byte, break_byte}, Spells.AreChunks}
 use Rattle.ciborium_ll.specs.declared.strings.StringType.{StringType}
 use Rattle.ciborium_ll.specs.Refusal.{Refusal, io, syntax, HeadRefuses, IsUsable, HasHead, IsAtFront}
@@ -15,7 +15,7 @@ IsAllowed StringType.Bytes payload = AreBytes payload
 IsAllowed StringType.Text payload = IsUtf8 payload
 
 -- what is left refuses as the payload, of n bytes, of a definite string whose head is at offset p:
--- it ends early, or it was read whole and the type does not allow it (a text that is not UTF-8)
+-- it ends early, or it was read whole and is a text that is not UTF-8 (every byte string is allowed)
 pub data PayloadRefuses (type : StringType) (n p : ℕ) : List ℕ → Refusal → Type 0 where
   ends_early : {r : List ℕ} → length r < n → PayloadRefuses type n p r io
   not_allowed : (payload r : List ℕ) → length payload ≡ n → ¬ IsAllowed type payload →
@@ -23,19 +23,19 @@ pub data PayloadRefuses (type : StringType) (n p : ℕ) : List ℕ → Refusal �
 
 -- a definite string at offset p: its payload refuses
 abbrev pub StringRefuses : StringType → List ℕ → ℕ → Refusal → Type 0
-StringRefuses type b p e = (n : ℕ) × (k : ℕ) × (r : List ℕ) × HasHead b (string_major type) n k r ×
+StringRefuses type b p e = (n : ℕ) × (size : ℕ) × (r : List ℕ) × HasHead b (string_major type) n size r ×
     PayloadRefuses type n p r e
 
 -- a definite string of a type begins here
 abbrev pub HasStringHead : StringType → List ℕ → Type 0
-HasStringHead type b = (n : ℕ) × (k : ℕ) × (r : List ℕ) × HasHead b (string_major type) n k r
+HasStringHead type b = (n : ℕ) × (size : ℕ) × (r : List ℕ) × HasHead b (string_major type) n size r
 
 -- a chunk of an open string at offset p: its head refuses, it refuses as a string of the type, or
 -- it is neither such a string nor the break
 pub data ChunkRefuses (type : StringType) : List ℕ → ℕ → Refusal → Type 0 where
-  no_head : {b : List ℕ} {p : ℕ} {e : Refusal} → HeadRefuses b p e → ChunkRefuses type b p e
-  chunk : {b : List ℕ} {p : ℕ} {e : Refusal} → IsUsable b p → StringRefuses type b p e → ChunkRefuses type b p e
-  other : {b : List ℕ} {p : ℕ} →
+  no_head : {b p e : _} → HeadRefuses b p e → ChunkRefuses type b p e
+  chunk : {b p e : _} → IsUsable b p → StringRefuses type b p e → ChunkRefuses type b p e
+  other : {b p : _} →
       IsUsable b p → ¬ HasStringHead type b → ¬ IsAtFront break_byte b → ChunkRefuses type b p (syntax p)
 
 -- what is left, from offset p on, refuses as the chunks of an open string: behind good chunks,

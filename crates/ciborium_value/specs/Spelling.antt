@@ -53,6 +53,17 @@ abbrev pub IsUnwanted : Spelling → List ℕ → Type 0
 IsUnwanted any payload = ⊥
 IsUnwanted (deterministic order) payload = IsFoldable payload
 
+abbrev mutual
+  -- the keys among keys and values in turn, a key first
+  pub keys_in : List Tree → List Tree
+  keys_in [] = []
+  keys_in (k ∷ vs) = k ∷ keys_behind vs
+
+  -- a value first
+  pub keys_behind : List Tree → List Tree
+  keys_behind [] = []
+  keys_behind (v ∷ vs) = keys_in vs
+
 -- the keys of a map stand in an order that is accepted (section 4.2.1, or 4.2.3)
 abbrev pub AreInOrder : Spelling → List Tree → Type 0
 AreInOrder any ks = Unit {0}

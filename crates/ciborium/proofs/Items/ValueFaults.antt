@@ -1,7 +1,7 @@
 -- What refuses where an item stands is what the item refuses.
 use Rattle.std.proofs.Common.{◌≡◌, ◌⊎◌, ℕ, ◌+◌, ◌*◌, ◌^◌, ◌<◌, ◌≤◌, cond, ◌/◌, ◌%◌, ltb, Bool, true, false, ◌&&◌, List}
 use Rattle.std.proofs.Common.{[], ◌∷◌, ◌++◌, length, Option, Some, None, refl, sym, ap, ◌∙◌, subst, append_assoc, zero}
-use Rattle.std.proofs.Common.{append-nil, length-append, arith, inl, inr, ltb-true, ltb-false, option_and_then, suc}
+use Rattle.std.proofs.Common.{append-nil, length-append, arith, inl, inr, ltb-true, ltb-false, suc}
 use Rattle.ciborium_ll.proofs.{UniqueSpelling.one_at_front}
 use Rattle.ciborium_ll.specs.{Bytes.greatest_offset, Head.{IsHead, within, one_byte, two_bytes, four_bytes}}
 use Rattle.ciborium_ll.specs.{Head.{eight_bytes, open_byte, break_byte}, Header.SpellsHeader, Item.{Item, Items, Pairs}}
@@ -11,12 +11,13 @@ use Rattle.ciborium_ll.specs.Refusal.{recursion_limit_exceeded, HeadRefuses, IsU
 use Rattle.ciborium_ll.specs.{Spells.{Spells, SpellsItems, SpellsPairs}, StringRefusal.{string_major, StringRefuses}}
 use Rattle.ciborium_ll.specs.{StringRefusal.{ChunksRefuse, OpenStringRefuses}, declared.header.Header.Header}
 use Rattle.ciborium_ll.specs.declared.strings.StringType.{StringType}
-use Rattle.ciborium_value.proofs.GoodItems.{Bignums.large-none, Spelled.{folding-over, folding-string, folds-none}}
+use Rattle.ciborium_value.proofs.GoodItems.{Bignums.large-none, Introduced.parts_of, Parts.{AreReadAs, due_after}}
+use Rattle.ciborium_value.proofs.GoodItems.{Parts.due-first, Spelled.{folding-over, folding-string, folds-none}}
 use Rattle.ciborium_value.{proofs.Sources.Sequences.{fault_map, fault_outside, fault_then}, specs.Given.Outcome}
 use Rattle.ciborium_value.specs.Given.{Steps, gives, leveled, mapped, nests, of_meaning, outcome, outcome_map, refuses}
 use Rattle.ciborium_value.specs.{Given.{given_items, given_tag, given_tree_pairs, given_value}, Meaning.folding_bytes}
-use Rattle.ciborium_value.specs.{Meaning.{big_endian, meaning}, Nesting.{Limit, IsOneLess}, Refuses.{AreReadAs, Due}}
-use Rattle.ciborium_value.specs.Refuses.{items, keys, values, next_due, due_after, IsDue, BeginsContainer, IsTagAt}
+use Rattle.ciborium_value.specs.{Meaning.{big_endian, meaning}, Nesting.{Limit, IsOneLess}, Refuses.Due}
+use Rattle.ciborium_value.specs.Refuses.{items, keys, values, next_due, IsDue, BeginsContainer, IsTagAt}
 use Rattle.ciborium_value.specs.{Refuses.Refuses, Sources.{Fault, of_kind, of_nesting, of_syntax, of_memory, of_device}}
 use Rattle.ciborium_value.specs.{Sources.{of_end, of_length, IsFaultOf, IsOutsideFault}, Spelling.any, Tree.Tree}
 use Rattle.ciborium_value.specs.{Tree.{Trees, TreePairs}, lemmas.GivenOutcomes.{pair_first, tree_first}}
@@ -167,13 +168,13 @@ Holds i w r z = (is : Items) × (inside : List ℕ) × (end : List ℕ) × Spell
     (r ≡ inside ++ (end ++ z)) × IsAll w is end × IsContainer i is
 
 -- what is due behind such a head
-abbrev IsOpening : Header → Due → Type 0
-IsOpening (header.Array n) w = w ≡ items n
-IsOpening (header.Map n) w = w ≡ keys n
-IsOpening _ w = ⊥
+abbrev IsEntering : Header → Due → Type 0
+IsEntering (header.Array n) w = w ≡ items n
+IsEntering (header.Map n) w = w ≡ keys n
+IsEntering _ w = ⊥
 
 holds-of : (i : Item) (w : Due) (x r s z : List ℕ) → Spells s i → SpellsHeader x (header_of i) → s ++ z ≡ x ++ r →
-    IsOpening (header_of i) w → Holds i w r z
+    IsEntering (header_of i) w → Holds i w r z
 holds-of (array false js) w x r s z (c, k, (a, g, f)) hd e o =
     let h : Header = header.Array (Some (items_count js)) in
     let split = (behind-head s z x r a c h h g hd f e).1 in
@@ -193,10 +194,10 @@ holds-of (maps.map true ps) w x r s z (c, k, f) hd e o =
 holds-of u w x r s z sp hd e o = absurd o
 
 holds-by : (h : Header) (i : Item) (w : Due) (x r s z : List ℕ) → Spells s i → SpellsHeader x h → s ++ z ≡ x ++ r →
-    IsOpening h w → Holds i w r z
+    IsEntering h w → Holds i w r z
 holds-by h i w x r s z sp hd e o =
     let same = (same-head s z x r i h sp hd e).0 in
-    holds-of i w x r s z sp (subst (SpellsHeader x) (sym same) hd) e (subst (λ k. IsOpening k w) (sym same) o)
+    holds-of i w x r s z sp (subst (SpellsHeader x) (sym same) hd) e (subst (λ k. IsEntering k w) (sym same) o)
 
 enters-at : {b r : List ℕ} {k : ℕ} {w : Due} → BeginsContainer b k r w → (i : Item) (s z : List ℕ) → Spells s i →
     b ≡ s ++ z → Holds i w r z
@@ -298,16 +299,6 @@ none-more (keys None) n i s t end z (no_pairs, e, g) next sp h = not-break s t z
 none-more (keys (Some (suc m))) n i s t end z (no_pairs, q, (e, g)) next sp h = omega (arith, e)
 none-more u n i s t end z v next sp h = cc
 
--- the parts behind the first
-due-behind : (w now : Due) (v : Tree) (vs : List Tree) → due_after w (v ∷ vs) ≡ Some now → (n : Due) ×
-    (next_due w ≡ Some n) × (due_after n vs ≡ Some now)
-due-behind w now v vs h = by (next_due w) refl h
-  where
-    by : (o : Option Due) → next_due w ≡ o → option_and_then (λ n. due_after n vs) o ≡ Some now → (n : Due) ×
-        (next_due w ≡ Some n) × (due_after n vs ≡ Some now)
-    by None e k = cc
-    by (Some n) e k = (n, e, k)
-
 -- behind good items the next one refuses, and so do all
 items-faults : (o : ℕ) (vs : List Tree) (is : Items) (w now : Due) (c good r end z : List ℕ) (p : ℕ) (l : Limit)
     (f : Fault) → SpellsItems c is → AreReadAs any good p l vs → good ++ r ≡ c ++ (end ++ z) → IsAll w is end →
@@ -329,14 +320,14 @@ items-faults o [] (item i is) w now c good r end z p l f (s, t, si, ts, ce) g e 
     ap (λ (k : List ℕ). k ++ (end ++ z)) ce ∙ append_assoc s t (end ++ z)) (omega (arith, behind, more)))
 items-faults o (v ∷ vs) no_items w now c good r end z p l f sp
     (s, t, (j, sj, means, nests-in, fits, so), ts, ge) e all next due rec br =
-    absurd (none-more w (due-behind w now v vs next).0 j s (t ++ r) end z all (due-behind w now v vs next).1 sj
+    absurd (none-more w (due-first w v vs now next).0 j s (t ++ r) end z all (due-first w v vs now next).1 sj
     (sym (append_assoc s t r) ∙ ap (λ (k : List ℕ). k ++ r) (sym ge) ∙ e ∙ ap (λ (k : List ℕ). k ++ (end ++ z)) sp))
 items-faults o (v ∷ vs) (item i is) w now c good r end z p l f (s', t', si, ts', ce)
     (s, t, (j, sj, means, nests-in, fits, so), ts, ge) e all next due rec br =
     let one = one_at_front s s' (t ++ r) (t' ++ (end ++ z)) j i sj si
     (sym (append_assoc s t r) ∙ ap (λ (k : List ℕ). k ++ r) (sym ge) ∙ e ∙ ap (λ (k : List ℕ). k ++ (end ++ z)) ce ∙
     append_assoc s' t' (end ++ z)) in
-    let (n, is-next, then) = due-behind w now v vs next in
+    let (n, is-next, then) = due-first w v vs now next in
     let (m, also, rest) = all-next w i is end all in
     let same : n ≡ m = cc in
     let at : p + length good ≡ p + length s + length t = let size : length good ≡ length s + length t = ap length ge ∙
@@ -358,8 +349,8 @@ usable-or-not (Refuses.float u lo hi) = inr u
 usable-or-not (Refuses.simple s n r u si none g) = inr u
 usable-or-not (Refuses.break u) = inr u
 usable-or-not (Refuses.no_level k r w u o) = inr u.0
-usable-or-not (Refuses.part vs r q w below i due sub) = inr i.head.0
-usable-or-not (Refuses.key_order vs r s t key q w below i due read g bad) = inr i.head.0
+usable-or-not (Refuses.part vs r q w below i due sub) = let a = parts_of any i in inr a.head.0
+usable-or-not (Refuses.key_order vs r s t key q w below i due read g bad) = absurd (bad tt)
 usable-or-not (Refuses.tag_no_head t k r u st h) = inr u.0
 usable-or-not (Refuses.folding t r q a fo sub) = inr a.head.0
 usable-or-not (Refuses.too_large r s t payload q a fo read g large) = inr a.head.0
@@ -479,7 +470,8 @@ value-faults {l = l} (Refuses.simple t n r u si none g) i s z end sp f fits = ap
 value-faults (Refuses.break {b = b} u) i s z end sp f fits = absurd (not-break s z b i sp (sym f))
 value-faults (Refuses.no_level k r w u o) i s z end sp f fits =
     let (is, c, e, sps, g, all, holds) = enters-at o i s z sp f in container-nests i is holds
-value-faults {b = b} {p = p} {l = l} {e = e} (Refuses.part vs r q w below a due sub) i s z end sp f fits =
+value-faults {b = b} {p = p} {l = l} {e = e} (Refuses.part vs r q w below in-it due sub) i s z end sp f fits =
+    let a = parts_of any in-it in
     let (is, inside, ending, spelled, split, those, holds) = enters-at a.begins i s z sp f in
     let all = entering-size a.begins in
     let both = length-append a.good r in

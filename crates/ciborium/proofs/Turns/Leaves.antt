@@ -4,7 +4,7 @@ use Rattle.std.proofs.Common.{Some, None, Result, Ok, Err, pos, negsuc, refl, sy
 use Rattle.ciborium_ll.specs.{Bytes.greatest_offset, Decoding.left_of, Head.break_byte, Header.SpellsHeader}
 use Rattle.ciborium_ll.specs.Refusal.{semantic, recursion_limit_exceeded, IsUsable}
 use Rattle.ciborium_ll.specs.declared.{decoder.Decoder.Decoder, header.Header.Header}
-use Rattle.ciborium_value.proofs.GoodItems.Introduced.{reads-positive, reads-negative, reads-simple, inside-begun}
+use Rattle.ciborium_value.proofs.GoodItems.Introduced.{reads-positive, reads-negative, reads-simple}
 use Rattle.ciborium_value.{proofs.GoodItems.Introduced.reads-container, specs.{Meaning.simple_meaning, Refuses.Due}}
 use Rattle.ciborium_value.specs.{Refuses.{items, keys, BeginsContainer, IsInside, Refuses}, Spelling.Spelling}
 use Rattle.ciborium_value.specs.{Tree.Tree, inner.ReadItems.ReadsItem}
@@ -12,7 +12,7 @@ use Rattle.ciborium.proofs.Turns.Fronts.{Front, front-fits, IsNoBreak, no-break}
 use Rattle.ciborium.proofs.Turns.Heads.{Got, accepted-front, good-head, got, stands-at}
 use Rattle.ciborium.specs.ValueAnswers.{IsRefusedBy}
 use Rattle.ciborium.specs.declared.de.{error.Error.Error, front.Part.{Part, TheVariants.{Whole, Begun, Ended}}}
-use Rattle.ciborium.specs.inner.{Around.IsOpen, Parts.{IsHeadAccepted, IsPartRead, RefusesPart, IsContainerBegun}}
+use Rattle.ciborium.specs.inner.{Around.IsUnfinished, Parts.{IsHeadAccepted, IsPartRead, RefusesPart, IsContainerBegun}}
 use Rattle.ciborium.specs.inner.Parts.{IsSimpleRead}
 use Rattle.ciborium.specs.inner.Parts.{IsBehind, container_header, empty_container, begun_container}
 use Rattle.ciborium.specs.inner.ValuesInBytes.{StandsAt}
@@ -78,7 +78,7 @@ module _ {S W : Type 0} (remaining : S → Option (List ℕ)) (d : Decoder S W) 
 
   begun-open : (spelling : Spelling) (is_map : Bool) (count behind : Option ℕ) (m : ℕ) (r : List ℕ) (q : ℕ) →
       IsBehind count behind → IsInside spelling xs p (Some (suc m)) [] r q (due_of is_map count) (Some m) →
-      IsOpen spelling (begun_container is_map behind) m xs p r q
+      IsUnfinished spelling (begun_container is_map behind) m xs p r q
   begun-open spelling is_map (Some n) None m r q e i = absurd e
   begun-open spelling is_map None (Some k) m r q e i = absurd e
   begun-open spelling false None None m r q e i = i
@@ -117,8 +117,7 @@ module _ {S W : Type 0} (remaining : S → Option (List ℕ)) (d : Decoder S W) 
 
       inside : (m : ℕ) → IsInside spelling xs p (Some (suc m)) [] a.pulled.1 (p + length a.pulled.0)
           (due_of is_map count) (Some m)
-      inside m = (inside-begun spelling xs p (length a.pulled.0) (Some (suc m)) (Some m) a.pulled.1
-          (due_of is_map count) (good-head a) (opens is_map count a.pulled.0 a.pulled.1 u) refl (front-fits u)).0
+      inside m = IsInside.begun (good-head a) (opens is_map count a.pulled.0 a.pulled.1 u) refl (front-fits u)
 
       by : (x : Result Part (Error E)) → IsContainerBegun is_map count l x → IsPartRead spelling remaining d l xs p x
       by (Ok (Whole v)) (none, some, same) =
@@ -134,7 +133,7 @@ module _ {S W : Type 0} (remaining : S → Option (List ℕ)) (d : Decoder S W) 
             (
               l - 1,
               less,
-              subst (λ o. IsOpen spelling o (l - 1) xs p r q) (sym same)
+              subst (λ o. IsUnfinished spelling o (l - 1) xs p r q) (sym same)
                   (begun-open spelling is_map count behind (l - 1) r q left (inside (l - 1))),
             ),
             stands-at spelling remaining d q r pushed a.pulled.6,
@@ -168,7 +167,7 @@ module _ {S W : Type 0} {spelling : Spelling} {remaining : S → Option (List �
       at : (x : ℕ) (raw : List ℕ) → xs ≡ (x ∷ raw) ++ a.pulled.1 → 0xf9 ≤ x → x ≤ 0xfb →
           Refuses spelling xs p (Some l) (semantic p kinds.Float)
       at x raw e low high = subst (λ z. Refuses spelling z p (Some l) (semantic p kinds.Float)) (sym e)
-          (Refuses.float {x = x} {p = p} {b = raw ++ a.pulled.1} (subst (λ z. IsUsable z p) e u.usable) low high)
+          (Refuses.float {x = x} {b = raw ++ a.pulled.1} {p = p} (subst (λ z. IsUsable z p) e u.usable) low high)
 
       by : (b : List ℕ) → SpellsHeader b (header.Float n) → xs ≡ b ++ a.pulled.1 →
           Refuses spelling xs p (Some l) (semantic p kinds.Float)

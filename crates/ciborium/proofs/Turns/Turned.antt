@@ -56,7 +56,7 @@ broken : (spelling : Spelling) (l : ℕ) (xs : List ℕ) (p : ℕ) (os : List Tr
 broken spelling l xs p os m ys q zs a none is less =
     let refuses : Refuses spelling ys q (Some m) (semantic q Break) =
     subst (λ z. Refuses spelling z q (Some m) (semantic q Break)) (sym is)
-    (Refuses.break {p = q} {b = zs} (opened-has 7 q zs refl less)) in
+    (Refuses.break {b = zs} {p = q} (opened-has 7 q zs refl less)) in
     refused-turn spelling l xs p os a refuses (λ h. absurd (ends-not os none h))
 
 -- ---- what `next` answers

@@ -6,13 +6,13 @@ use Rattle.ciborium_ll.specs.{Bytes.greatest_offset, Head.{IsHead, information, 
 use Rattle.ciborium_ll.specs.{Head.{open_byte, break_byte}, Refusal.{Refusal, semantic, IsAtFront}}
 use Rattle.ciborium_ll.proofs.UsableHeads.{information-below}
 use Rattle.ciborium_value.specs.{Canonical.key_order, Deterministic.AreRising, Encoding.{encoding, encoded_size}}
-use Rattle.ciborium_value.specs.Refuses.{Due, items, keys, values, next_due, keys_among, keys_in, IsDue}
+use Rattle.ciborium_value.specs.Refuses.{Due, items, keys, values, next_due, IsDue}
 use Rattle.ciborium_value.specs.{Refuses.{BeginsContainer, IsInside, Refuses}, Spelling.{Spelling, any, deterministic}}
-use Rattle.ciborium_value.specs.{Spelling.AreInOrder, Tree.Tree, View.{trees_from, tree_pairs_from}}
+use Rattle.ciborium_value.specs.{Spelling.{AreInOrder, keys_in}, Tree.Tree, View.{trees_from, tree_pairs_from}}
 use Rattle.ciborium_value.specs.inner.Frames.{TreeFrame, array, map, tag, Placed, done, more, placed, closed, with_last}
 use Rattle.ciborium_value.specs.{inner.ReadItems.ReadsItem, declared.key_order.KeyOrder.KeyOrder}
-use Rattle.ciborium_value.proofs.GoodItems.Introduced.{inside-more, IsNoKey, no-key-order, start-keys, never-open}
-use Rattle.ciborium_value.proofs.GoodItems.Introduced.{reads-container, reads-tag}
+use Rattle.ciborium_value.proofs.GoodItems.Introduced.{inside-more, IsNoKey, no-key-order, order-now, never-open}
+use Rattle.ciborium_value.proofs.GoodItems.Introduced.{parts_of, reads-container, reads-tag}
 use Rattle.ciborium.specs.{inner.Around.{trees_in_turn, map_due, IsAround}, inner.Rules.HasKeysInOrder}
 use Rattle.ciborium.specs.{inner.Rules.HasKeyOutOfOrder, inner.ValuesInBytes.IsBreakAt}
 use Rattle.ciborium.proofs.Turns.Paired.{in_turn-key, in_turn-value, turns-paired}
@@ -126,7 +126,7 @@ module _ (spelling : Spelling) where
   part-more {b} {q} {m} {vs} {ws} {v} {ys} {zs} {u} {r} {now} {next} a i other due same =
       subst (λ us. IsInside spelling b q (Some (suc m)) us zs r next (Some m)) same
       (inside-more spelling b q (Some (suc m)) (Some m) vs v ys zs u r now next a i due
-      (no-key-order spelling a.start vs v now other a.due a.in_order)).0
+      (no-key-order spelling (parts_of spelling a) v other))
 
   pub landed : (l : ℕ) (xs : List ℕ) (p : ℕ) (os : List TreeFrame) {m : ℕ} {ys : List ℕ} {q : ℕ} {v : Tree}
       {zs : List ℕ} {r : ℕ} → IsAround spelling l xs p os m ys q → ReadsItem spelling (Some m) ys q v zs r →
@@ -165,21 +165,16 @@ module _ (spelling : Spelling) where
       around,
       subst (λ us. IsInside spelling bs b (Some (suc m)) us zs r (values behind) (Some m)) (in_turn-key ps k)
           (inside-more spelling bs b (Some (suc m)) (Some m) (trees_in_turn ps None) k ys zs q r
-          (keys (option_map suc behind)) (values behind) c i (key-next behind) (in-order spelling c.in_order o)).0,
+          (keys (option_map suc behind)) (values behind) c i (key-next behind)
+          (in-order spelling (order-now spelling (parts_of spelling c)) o)),
     ),
   )
     where
-      start-is : (n : Option ℕ) × (c.start ≡ keys n)
-      start-is = start-keys bs c.size (c.good ++ ys) c.start (trees_in_turn ps None) (option_map suc behind) c.begins
-          c.due
-
-      in-order : (s : Spelling) → AreInOrder s (keys_among c.start (trees_in_turn ps None)) →
-          HasKeysInOrder s (map ps behind (Some k) ∷ os) →
-          AreInOrder s (keys_among c.start (trees_in_turn ps None ++ k ∷ []))
+      in-order : (s : Spelling) → AreInOrder s (keys_in (trees_in_turn ps None)) →
+          HasKeysInOrder s (map ps behind (Some k) ∷ os) → AreInOrder s (keys_in (trees_in_turn ps None ++ k ∷ []))
       in-order any h o = tt
-      in-order (deterministic order) h o = subst (λ w. AreRising order (keys_among w (trees_in_turn ps None ++ k ∷ [])))
-          (sym start-is.1) (subst (λ us. AreRising order (keys_in us)) (sym (in_turn-key ps k))
-          (rises-with order ps k (subst (λ w. AreRising order (keys_among w (trees_in_turn ps None))) start-is.1 h) o))
+      in-order (deterministic order) h o = subst (λ us. AreRising order (keys_in us)) (sym (in_turn-key ps k))
+          (rises-with order ps k h o)
   kept l xs p (tag t ∷ os) zs r a o = a
 
   -- ---- a break ends a container
@@ -229,10 +224,10 @@ module _ (spelling : Spelling) where
       subst (λ n. Refuses spelling xs n (Some l) e) a.2 y
   refused-turn l xs p (array vs behind ∷ os) {m} {ys} {q} (bs, b, around, c) f h = refused-turn l xs p os around
       (Refuses.part vs ys q (items (option_map suc behind)) (Some m) c (array-due behind vs os ys q h) f)
-      (λ ends break. container-no-break c.begins break.1)
+      (λ ends break. let i = parts_of spelling c in container-no-break i.begins break.1)
   refused-turn l xs p (map ps behind key ∷ os) {m} {ys} {q} (bs, b, around, c) f h = refused-turn l xs p os around
       (Refuses.part (trees_in_turn ps key) ys q (map_due behind key) (Some m) c (part-due behind key ps os ys q h) f)
-      (λ ends break. container-no-break c.begins break.1)
+      (λ ends break. let i = parts_of spelling c in container-no-break i.begins break.1)
   refused-turn l xs p (tag t ∷ os) {m} {ys} {q} (bs, b, around, (a, never)) f h = refused-turn l xs p os around
       (Refuses.tagged t ys q (Some m) a never refl f)
       (λ ends break. not-break 6 t a.tag.0 bs ys (omega arith) a.tag.1 a.tag.3 break.1)
@@ -257,17 +252,13 @@ disordered (deterministic order) l xs p (map ps behind (Some k) ∷ os) zs r at 
     (subst (λ j. Refuses (deterministic order) bs b (Some (suc m)) (semantic j kinds.KeyOrder)) (sym place)
     (Refuses.key_order (trees_in_turn ps None) ys i.taken zs k q (keys (option_map suc behind)) (Some m) c
     (due behind c) i.read i.split wrong))
-    (λ ends break. container-no-break c.begins break.1)
+    (λ ends break. let i = parts_of (deterministic order) c in container-no-break i.begins break.1)
   where
-    start-is : (n : Option ℕ) × (c.start ≡ keys n)
-    start-is = start-keys bs c.size (c.good ++ ys) c.start (trees_in_turn ps None) (option_map suc behind) c.begins
-        c.due
-
     due : (behind : Option ℕ) → IsInside (deterministic order) bs b (Some (suc m))
         (trees_in_turn ps None) ys q (keys (option_map suc behind)) (Some m) → IsDue (keys (option_map suc behind)) ys q
-    due None c = absurd (never-open order bs b (Some (suc m)) (trees_in_turn ps None) ys q (Some m) c)
+    due None c = absurd (never-open order bs b (Some (suc m)) (trees_in_turn ps None) ys q (Some m)
+        (parts_of (deterministic order) c))
     due (Some n) c = omega arith
 
-    wrong : AreInOrder (deterministic order) (keys_among c.start (trees_in_turn ps None ++ k ∷ [])) → ⊥
-    wrong h = never (last-rises order ps k x y (subst (λ us. AreRising order (keys_in us)) (in_turn-key ps k)
-        (subst (λ w. AreRising order (keys_among w (trees_in_turn ps None ++ k ∷ []))) start-is.1 h)) is)
+    wrong : AreRising order (keys_in (trees_in_turn ps None ++ k ∷ [])) → ⊥
+    wrong h = never (last-rises order ps k x y (subst (λ us. AreRising order (keys_in us)) (in_turn-key ps k) h) is)

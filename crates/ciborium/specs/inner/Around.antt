@@ -16,15 +16,15 @@ map_due behind None = keys (option_map suc behind)
 map_due behind (Some k) = values behind
 
 -- what begins at ys is unfinished at zs; inside it l levels are left
-abbrev pub IsOpen : Spelling → TreeFrame → ℕ → List ℕ → ℕ → List ℕ → ℕ → Type 0
-IsOpen spelling (array vs behind) l ys q zs r = IsInside spelling ys q (Some (suc l)) vs zs r
+abbrev pub IsUnfinished : Spelling → TreeFrame → ℕ → List ℕ → ℕ → List ℕ → ℕ → Type 0
+IsUnfinished spelling (array vs behind) l ys q zs r = IsInside spelling ys q (Some (suc l)) vs zs r
     (items (option_map suc behind)) (Some l)
-IsOpen spelling (map ps behind key) l ys q zs r = IsInside spelling ys q (Some (suc l))
+IsUnfinished spelling (map ps behind key) l ys q zs r = IsInside spelling ys q (Some (suc l))
     (trees_in_turn ps key) zs r (map_due behind key) (Some l)
-IsOpen spelling (tag t) l ys q zs r = IsTagAt spelling ys q t zs r × ¬ IsFoldingAt t zs
+IsUnfinished spelling (tag t) l ys q zs r = IsTagAt spelling ys q t zs r × ¬ IsFoldingAt t zs
 
 -- all that is unfinished, the innermost first
 abbrev pub IsAround : Spelling → ℕ → List ℕ → ℕ → List TreeFrame → ℕ → List ℕ → ℕ → Type 0
 IsAround spelling l xs p [] m zs r = (m ≡ l) × (zs ≡ xs) × (r ≡ p)
 IsAround spelling l xs p (o ∷ os) m zs r = (ys : List ℕ) × (q : ℕ) ×
-    IsAround spelling l xs p os (suc m) ys q × IsOpen spelling o m ys q zs r
+    IsAround spelling l xs p os (suc m) ys q × IsUnfinished spelling o m ys q zs r

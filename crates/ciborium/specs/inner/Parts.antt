@@ -10,7 +10,7 @@ use Rattle.ciborium_value.specs.{declared.tree.Value.Value, inner.{Frames.{TreeF
 use Rattle.ciborium_value.specs.inner.Stack.{begun_frame}
 use Rattle.ciborium.specs.{ValueAnswers.IsRefusedBy, declared.de.error.Error.{Error, TheVariants.Semantic}}
 use Rattle.ciborium.specs.declared.de.{error.Error.TheVariants.{RecursionLimitExceeded, Memory}, front.Part.Part}
-use Rattle.ciborium.specs.{declared.de.front.Part.TheVariants.{Whole, Begun, Ended}, inner.Around.IsOpen}
+use Rattle.ciborium.specs.{declared.de.front.Part.TheVariants.{Whole, Begun, Ended}, inner.Around.IsUnfinished}
 use Rattle.ciborium.specs.inner.{Rules.head_fault, ValuesInBytes.{IsAt, IsPulled, IsBreakAt, StandsAt}}
 use Rattle.ciborium_ll.specs.declared.header.Header.TheVariants as header
 use Rattle.ciborium_ll.specs.declared.kind.Kind.TheVariants as kinds
@@ -53,7 +53,7 @@ IsSimpleRead n p (Err e) = (simple_meaning n ≡ None) × (e ≡ Semantic (Some 
 
 -- a container or tag that is unfinished at zs begins at ys
 abbrev pub IsFrameBegun : Spelling → ℕ → List ℕ → ℕ → TreeFrame → List ℕ → ℕ → Type 0
-IsFrameBegun spelling l ys q o zs r = (m : ℕ) × (l ≡ suc m) × IsOpen spelling o m ys q zs r
+IsFrameBegun spelling l ys q o zs r = (m : ℕ) × (l ≡ suc m) × IsUnfinished spelling o m ys q zs r
 
 -- xs refuses so, and is no break that may end what is unfinished
 abbrev pub RefusesPart : Spelling → List ℕ → ℕ → ℕ → Refusal → Type 0

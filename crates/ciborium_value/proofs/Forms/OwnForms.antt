@@ -13,7 +13,7 @@ use Rattle.ciborium_value.specs.{Encoding.encoding, Folded.{short_bytes, tree_fo
 use Rattle.ciborium_value.specs.{Folded.tree_pairs_folded, Given.{gives, then_take, outcome_map, of_meaning}}
 use Rattle.ciborium_value.specs.Meaning.{is_bignum_tag, bignum_meaning, tag_meaning, simple_meaning, trees_more}
 use Rattle.ciborium_value.specs.{Meaning.tree_pairs_more, lemmas.ItemsOfTrees.{integer-folded, boolean-folded}}
-use Rattle.ciborium_value.specs.Tree.{Tree, integer, bytes, text, boolean, null, tag, array, map, Trees, no_trees, tree}
+use Rattle.ciborium_value.specs.Tree.{Tree, integer, boolean, tag, array, map, Trees, no_trees, tree}
 use Rattle.ciborium_value.specs.{Tree.{TreePairs, no_tree_pairs, tree_pair}, declared.key_order.KeyOrder.KeyOrder}
 use Rattle.ciborium_value.specs.{inner.OwnForms.{IsFormed, AreFormed, PairsAreFormed}, laws.FormLaws.FormIsItsOwn}
 use Rattle.ciborium_value.specs.{laws.FormLaws.AcceptedWhereOwnForm, lemmas.GivenOutcomes.{one_given, mapped_gives}}

@@ -8,7 +8,7 @@ use Rattle.ciborium_value.{proofs.GoodItems.ProperMeanings.proper_bignum, specs.
 use Rattle.ciborium_value.specs.DeterministicForms.{sorted_pairs, tag_form, deterministic_form, deterministic_forms}
 use Rattle.ciborium_value.specs.{DeterministicForms.pair_forms, Folded.{short_bytes, tree_folding_bytes}, Given.gives}
 use Rattle.ciborium_value.specs.{Given.then_take, Meaning.bignum_meaning, ProperTrees.{IsProperTree, AreProperTrees}}
-use Rattle.ciborium_value.specs.{ProperTrees.AreProperTreePairs, Tree.{Tree, integer, bytes, text, boolean, null, tag}}
+use Rattle.ciborium_value.specs.{ProperTrees.AreProperTreePairs, Tree.{Tree, integer, bytes, boolean, tag}}
 use Rattle.ciborium_value.specs.Tree.{array, map, Trees, no_trees, tree, TreePairs, no_tree_pairs, tree_pair}
 use Rattle.ciborium_value.specs.{declared.key_order.KeyOrder.KeyOrder, laws.FormLaws.FormIsProper}
 use Rattle.ciborium_value.specs.lemmas.GivenOutcomes.{one_given, mapped_gives, then_gives, more_gives, pair_gives}

@@ -15,7 +15,7 @@ use Rattle.ciborium_ll.specs.declared.{kind.Kind.TheVariants.{Break, TooLarge}, 
 use Rattle.ciborium_value.proofs.GoodItems.{Accepted.anyway, Bignums.{foldable-is, is-foldable, none-large}}
 use Rattle.ciborium_value.proofs.GoodItems.{Found.{kind_allowed, kind_major}, Introduced.reads-positive}
 use Rattle.ciborium_value.proofs.GoodItems.Introduced.{reads-negative, reads-string, kind-below, reads-open_string}
-use Rattle.ciborium_value.proofs.GoodItems.Introduced.{reads-simple, inside-begun, inside-more, reads-container}
+use Rattle.ciborium_value.proofs.GoodItems.Introduced.{reads-simple, inside-more, reads-container}
 use Rattle.ciborium_value.proofs.GoodItems.{Introduced.{reads-tag, folding-reads, reads-folded}, Parts.in_order-is}
 use Rattle.ciborium_value.proofs.GoodItems.{Parts.is-in_order, Reader.{Answer, ends, refused, checked, and_then, made}}
 use Rattle.ciborium_value.proofs.GoodItems.Reader.{given, past, allowed, string, chunk, piece, pieces, levels, break_at}
@@ -235,9 +235,9 @@ module _ (spelling : Spelling) where
   ReadMeets d = (b : List ℕ) (p : ℕ) (l : Limit) → EachIsByte b → 2 * length b < d → Meets b p l (read spelling d b p l)
 
   abbrev PartsMeet : ℕ → Type 0
-  PartsMeet d = (b : List ℕ) (p : ℕ) (l : Limit) (vs : List Tree) (r : List ℕ) (q : ℕ) (now : Due) (below : Limit)
-      (i : IsInside spelling b p l vs r q now below) → EachIsByte r → 2 * length r + 1 < d →
-      Meets b p l (parts spelling d i.start (Some now) vs r q below)
+  PartsMeet d = (b : List ℕ) (p : ℕ) (l : Limit) (vs : List Tree) (r : List ℕ) (q : ℕ) (now : Due) (below : Limit) →
+      IsInside spelling b p l vs r q now below → EachIsByte r → 2 * length r + 1 < d →
+      Meets b p l (parts spelling d (Some now) vs r q below)
 
   -- ---- containers
 
@@ -246,32 +246,31 @@ module _ (spelling : Spelling) where
       (bytes : EachIsByte r) (fuel : 2 * length r < d) where
     -- behind a part that was read
     part-read : IsDue now r q → (v : Tree) (x : List ℕ) (u : ℕ) → ReadsItem spelling below r q v x u →
-        Meets b p l (next_part spelling (parts spelling d i.start) i.start now vs q below v x u)
+        Meets b p l (next_part spelling (parts spelling d) now vs q below v x u)
     part-read due v x u item =
-        cond_both (in_order spelling (keys_among i.start (vs ++ (v ∷ [])))) _ _ (Meets b p l)
+        cond_both (in_order spelling (keys_among now (vs ++ (v ∷ [])))) _ _ (Meets b p l)
         (λ t. let next = due-next now r q due in
         let more = inside-more spelling b p l below vs v r x q u now next.0 i item next.1
-        (in_order-is spelling (keys_among i.start (vs ++ (v ∷ []))) t) in
+        (in_order-is spelling (keys_among now (vs ++ (v ∷ []))) t) in
         let split = item.split in
         let a = anyway spelling item.taken q below v item.read in
         let some = spells-pos a.0 item.taken a.1 in
         let lr : length r ≡ length item.taken + length x = ap length split ∙ length-append item.taken x in
-        rw next.1 (subst (λ w. Meets b p l (parts spelling d w (Some next.0) (vs ++ (v ∷ [])) x u below)) more.1
-        (recs b p l (vs ++ (v ∷ [])) x u next.0 below more.0 (rest-bytes r item.taken x split bytes)
-        (omega (arith, lr, some, fuel)))))
+        rw next.1 (recs b p l (vs ++ (v ∷ [])) x u next.0 below more (rest-bytes r item.taken x split bytes)
+        (omega (arith, lr, some, fuel))))
         (λ t. Refuses.key_order vs r item.taken x v q now below i due item.read item.split
-        (λ o. let no : true ≡ false = sym (is-in_order spelling (keys_among i.start (vs ++ (v ∷ []))) o) ∙ t in cc))
+        (λ o. let no : true ≡ false = sym (is-in_order spelling (keys_among now (vs ++ (v ∷ []))) o) ∙ t in cc))
 
     part-meets : IsDue now r q → (a : Answer Tree) → Meets r q below a →
-        Meets b p l (and_then (next_part spelling (parts spelling d i.start) i.start now vs q below) a)
+        Meets b p l (and_then (next_part spelling (parts spelling d) now vs q below) a)
     part-meets due (refused e) f = Refuses.part vs r q now below i due f
     part-meets due (ends v x u) item = part-read due v x u item
 
-    parts-more : Meets b p l (parts spelling (suc d) i.start (Some now) vs r q below)
+    parts-more : Meets b p l (parts spelling (suc d) (Some now) vs r q below)
     parts-more = by (end_at now r q) (end-meets now r q)
       where
         by : (o : Option (List ℕ × ℕ)) → EndMeets now r q o → Meets b p l (or_end o (container_of now vs)
-            (and_then (next_part spelling (parts spelling d i.start) i.start now vs q below)
+            (and_then (next_part spelling (parts spelling d) now vs q below)
             (read spelling d r q below)))
         by None due = part-meets due (read spelling d r q below) (rec r q below bytes fuel)
         by (Some e) done = reads-container spelling b p l below vs r e.0 q e.1 now i done
@@ -335,13 +334,11 @@ module _ (spelling : Spelling) where
   module _ (d : ℕ) (rec : ReadMeets d) (recs : PartsMeet d) (b : List ℕ) (p : ℕ) (l : Limit)
       (good : HasGoodHead spelling b p) (bytes : EachIsByte b) (fuel : 2 * length b ≤ d) where
     container-meets : (k : ℕ) (r : List ℕ) (w : Due) → BeginsContainer b k r w → p + k ≤ greatest_offset →
-        EachIsByte r → 2 * length r + 1 < d → Meets b p l (levels l (parts spelling d w (Some w) [] r (p + k)))
+        EachIsByte r → 2 * length r + 1 < d → Meets b p l (levels l (parts spelling d (Some w) [] r (p + k)))
     container-meets k r w begins fits each few =
-        levels-meet l (parts spelling d w (Some w) [] r (p + k)) (Meets b p l)
+        levels-meet l (parts spelling d (Some w) [] r (p + k)) (Meets b p l)
         (λ z. subst (λ j. Refuses spelling b p j recursion_limit_exceeded) (sym z) (Refuses.no_level k r w good begins))
-        (λ m level. let i = inside-begun spelling b p k l m r w good begins level fits in
-        subst (λ z. Meets b p l (parts spelling d z (Some w) [] r (p + k) m)) i.1
-        (recs b p l [] r (p + k) w m i.0 each few))
+        (λ m level. recs b p l [] r (p + k) w m (IsInside.begun good begins level fits) each few)
 
     string-item : (kind : StringType) (n k : ℕ) (r : List ℕ) (a : Answer (List ℕ)) →
         HasHead b (string_major kind) n k r → p + k + n ≤ greatest_offset → StringMeets kind b p n k r a →
@@ -363,7 +360,7 @@ module _ (spelling : Spelling) where
 
     counted-meets : (m n k : ℕ) (r : List ℕ) → m < 7 → HasHead b m n k r → p + k ≤ greatest_offset →
         (IsStringMajor m → p + k + n ≤ greatest_offset) →
-        Meets b p l (counted_item spelling (read spelling d) (λ w. parts spelling d w (Some w) []) m n r p (p + k) l)
+        Meets b p l (counted_item spelling (read spelling d) (λ w. parts spelling d (Some w) []) m n r p (p + k) l)
     counted-meets zero n k r lt st fits sf = reads-positive spelling b p n k l r st good.1 fits
     counted-meets (suc zero) n k r lt st fits sf = reads-negative spelling b p n k l r st good.1 fits
     counted-meets (suc (suc zero)) n k r lt st fits sf =
@@ -391,7 +388,7 @@ module _ (spelling : Spelling) where
 
     opened-meets : (m : ℕ) (r : List ℕ) → b ≡ (m * 32 + 31) ∷ r → m < 8 → (m ≡ 0 → ⊥) → (m ≡ 1 → ⊥) → (m ≡ 6 → ⊥) →
         p < greatest_offset →
-        Meets b p l (opened_item spelling (λ w. parts spelling d w (Some w) []) (pieces d) m r p l)
+        Meets b p l (opened_item spelling (λ w. parts spelling d (Some w) []) (pieces d) m r p l)
     opened-meets zero r e lt a0 a1 a6 room = absurd (a0 refl)
     opened-meets (suc zero) r e lt a0 a1 a6 room = absurd (a1 refl)
     opened-meets (suc (suc zero)) r e lt a0 a1 a6 room =
@@ -420,7 +417,7 @@ module _ (spelling : Spelling) where
         let never : ⊥ = omega (arith, lt) in absurd never
 
     item-meets : (f : Front) → Face b p f →
-        Meets b p l (item_at spelling (read spelling d) (λ w. parts spelling d w (Some w) []) (pieces d) b p l f)
+        Meets b p l (item_at spelling (read spelling d) (λ w. parts spelling d (Some w) []) (pieces d) b p l f)
     item-meets nothing f = absurd f
     item-meets (counted m n r) f =
         let lb = stands-length b m n f.1 r f.2 in
@@ -440,7 +437,7 @@ module _ (spelling : Spelling) where
 
   judged-meets : (d : ℕ) → ReadMeets d → PartsMeet d → (b : List ℕ) (p : ℕ) (l : Limit) → IsUsable b p →
       EachIsByte b → 2 * length b ≤ d → (o : Option Kind) → spelling_fault spelling b ≡ o → Meets b p l
-      (checked (option_map (semantic p) o) (item_at spelling (read spelling d) (λ w. parts spelling d w (Some w) [])
+      (checked (option_map (semantic p) o) (item_at spelling (read spelling d) (λ w. parts spelling d (Some w) [])
       (pieces d) b p l (front b)))
   judged-meets d rec recs b p l h bytes fuel (Some kind) e = Refuses.bad_head kind h e
   judged-meets d rec recs b p l h bytes fuel None e =

@@ -13,6 +13,7 @@ use Rattle.ciborium_value.proofs.GoodItems.{Accepted.{anyway, accepted, determin
 use Rattle.ciborium_value.proofs.GoodItems.{Bignums.kept-whole, Faults.{short-fault, fault-simple}}
 use Rattle.ciborium_value.proofs.GoodItems.{Introduced.kind-below, Parts.{within-zero, lower, levels-below, due-first}}
 use Rattle.ciborium_value.proofs.GoodItems.Parts.{is-in_order, order-before, elements, turns, elements-in, turns-in}
+use Rattle.ciborium_value.proofs.GoodItems.Parts.{due_after, AreReadAs, HasParts, empty-order, same-keys}
 use Rattle.ciborium_value.proofs.GoodItems.Parts.{elements-due, turns-due, open-elements-due, open-turns-due}
 use Rattle.ciborium_value.proofs.GoodItems.Parts.{keys-turns, read-items, read-pairs, written-trees, written-pairs}
 use Rattle.ciborium_value.proofs.GoodItems.Reader.{Answer, ends, refused, and_then, made, given, past, allowed, string}
@@ -28,8 +29,8 @@ use Rattle.ciborium_value.specs.{Encoding.{item_of, items_of, pairs_of, items_by
 use Rattle.ciborium_value.specs.Meaning.{meaning, items_meaning, pairs_meaning, simple_meaning, bignum_meaning}
 use Rattle.ciborium_value.specs.{Meaning.{folding_bytes, tag_meaning}, Nesting.{nesting, tag_nesting, items_nesting}}
 use Rattle.ciborium_value.specs.{Nesting.{pairs_nesting, Limit, IsWithin, IsOneLess}, ProperTrees.IsProperTree}
-use Rattle.ciborium_value.specs.Refuses.{HasGoodHead, Due, items, keys, values, next_due, due_after, keys_among}
-use Rattle.ciborium_value.specs.{Refuses.{keys_in, BeginsContainer, AreReadAs, IsInside, IsTagAt}, Spelling.Spelling}
+use Rattle.ciborium_value.specs.Refuses.{HasGoodHead, Due, items, keys, values, next_due, keys_among, BeginsContainer}
+use Rattle.ciborium_value.specs.{Refuses.{IsTagAt}, Spelling.{Spelling, keys_in}}
 use Rattle.ciborium_value.specs.Spelling.{any, deterministic, IsReadAs, spelling_fault, IsUnwanted, AreInOrder}
 use Rattle.ciborium_value.specs.{Tree.{Tree, Trees, TreePairs}, View.trees_from, WrittenTrees.written_tree}
 use Rattle.ciborium_value.specs.{declared.key_order.KeyOrder.KeyOrder, inner.ReadItems.{string_tree, IsComplete}}
@@ -97,34 +98,34 @@ module _ (spelling : Spelling) where
   open-on d p q (values n) next b r v l h e = refl
   open-on d p q u next b r v l h e = absurd cc
 
-  parts-end : (d : ℕ) (start now : Due) (vs : List Tree) (b r : List ℕ) (p q : ℕ) (l : Limit) → 0 < d →
-      end_at now b p ≡ Some (r, q) → parts spelling d start (Some now) vs b p l ≡ ends (container_of now vs) r q
-  parts-end zero start now vs b r p q l h e = let never : ⊥ = omega (arith, h) in absurd never
-  parts-end (suc d) start now vs b r p q l h e = ap (λ o. or_end o (container_of now vs)
-      (and_then (next_part spelling (parts spelling d start) start now vs p l) (read spelling d b p l))) e
+  parts-end : (d : ℕ) (now : Due) (vs : List Tree) (b r : List ℕ) (p q : ℕ) (l : Limit) → 0 < d →
+      end_at now b p ≡ Some (r, q) → parts spelling d (Some now) vs b p l ≡ ends (container_of now vs) r q
+  parts-end zero now vs b r p q l h e = let never : ⊥ = omega (arith, h) in absurd never
+  parts-end (suc d) now vs b r p q l h e = ap (λ o. or_end o (container_of now vs)
+      (and_then (next_part spelling (parts spelling d) now vs p l) (read spelling d b p l))) e
 
   abbrev pub ReadsAt : ℕ → Type 0
   ReadsAt d = (v : Tree) (s x b : List ℕ) (p q : ℕ) (l : Limit) → IsReadAs spelling s p l v → b ≡ s ++ x →
       q ≡ p + length s → 2 * length b < d → read spelling d b p l ≡ ends v x q
 
   abbrev pub RunsAt : ℕ → Type 0
-  RunsAt d = (start now next : Due) (vs ws : List Tree) (s x b : List ℕ) (p q : ℕ) (l : Limit) (a : Answer Tree) →
-      AreReadAs spelling s p l ws → due_after now ws ≡ Some next → AreInOrder spelling (keys_among start (vs ++ ws)) →
+  RunsAt d = (now next : Due) (vs ws : List Tree) (s x b : List ℕ) (p q : ℕ) (l : Limit) (a : Answer Tree) →
+      AreReadAs spelling s p l ws → due_after now ws ≡ Some next → AreInOrder spelling (keys_among now (vs ++ ws)) →
       b ≡ s ++ x → q ≡ p + length s → 2 * length b + 1 < d →
-      ((c : ℕ) → 2 * length x + 1 < c → parts spelling c start (Some next) (vs ++ ws) x q l ≡ a) →
-      parts spelling d start (Some now) vs b p l ≡ a
+      ((c : ℕ) → 2 * length x + 1 < c → parts spelling c (Some next) (vs ++ ws) x q l ≡ a) →
+      parts spelling d (Some now) vs b p l ≡ a
 
   -- an array or map that is complete
   container-read : (d : ℕ) → RunsAt d → (b : List ℕ) (p : ℕ) (l below : Limit) (vs : List Tree) (r s : List ℕ)
-      (q u : ℕ) (now : Due) → IsInside spelling b p l vs r q now below → IsComplete now r q s u →
+      (q u : ℕ) (now : Due) → HasParts spelling b p l vs r q now below → IsComplete now r q s u →
       2 * length b < suc d → read spelling (suc d) b p l ≡ ends (container_of now vs) s u
   container-read d run b p l below vs r s q u now i done fuel =
       let z = opens-read spelling d p i.size b (i.good ++ r) i.start l i.head i.begins in
       let at = i.at in
-      z.0 ∙ levels-below l below (parts spelling d i.start (Some i.start) [] (i.good ++ r) (p + i.size)) i.level ∙
-      run i.start i.start now [] vs i.good r (i.good ++ r) (p + i.size) q below (ends (container_of now vs) s u)
+      z.0 ∙ levels-below l below (parts spelling d (Some i.start) [] (i.good ++ r) (p + i.size)) i.level ∙
+      run i.start now [] vs i.good r (i.good ++ r) (p + i.size) q below (ends (container_of now vs) s u)
       i.parts i.due i.in_order refl at (omega (arith, z.1, z.2, fuel))
-      (λ c lc. parts-end c i.start now vs r s q u below (omega (arith, lc)) (complete-end now r s q u done))
+      (λ c lc. parts-end c now vs r s q u below (omega (arith, lc)) (complete-end now r s q u done))
 
   -- ---- heads
 
@@ -171,7 +172,7 @@ module _ (spelling : Spelling) where
       ap (ends (string_tree kind y) x) (omega (arith, both, k))
     where
       chosen : (c : StringType) (u : ℕ) → counted_item spelling (read spelling d)
-          (λ w. parts spelling d w (Some w) []) (string_major c) (length y) (y ++ x) p u l ≡ made (string_tree c)
+          (λ w. parts spelling d (Some w) []) (string_major c) (length y) (y ++ x) p u l ≡ made (string_tree c)
           (string (string_major c) (length y) (y ++ x) p u)
       chosen StringType.Bytes u = refl
       chosen StringType.Text u = refl
@@ -200,7 +201,7 @@ module _ (spelling : Spelling) where
       free StringType.Bytes = refl
       free StringType.Text = refl
 
-      chosen : (k : StringType) → opened_item spelling (λ w. parts spelling d w (Some w) []) (pieces d) (string_major k)
+      chosen : (k : StringType) → opened_item spelling (λ w. parts spelling d (Some w) []) (pieces d) (string_major k)
           (c ++ (255 ∷ x)) p l ≡ made (string_tree k) (pieces d (string_major k) (c ++ (255 ∷ x)) (p + 1))
       chosen StringType.Bytes = refl
       chosen StringType.Text = refl
@@ -287,15 +288,11 @@ module _ (spelling : Spelling) where
         begins = BeginsContainer.array n st;
         level = level;
         parts = read;
-        in_order = no_keys spelling;
+        in_order = empty-order spelling;
         due = due;
         at = at;
         fits = fits;
       }) (refl, refl, refl) fuel
-    where
-      no_keys : (s : Spelling) → AreInOrder s []
-      no_keys any = tt
-      no_keys (deterministic order) = tt
 
   map-read : (d : ℕ) → RunsAt d →
       (b : List ℕ) (p n k q : ℕ) (l below : Limit) (vs : List Tree) (g x : List ℕ) → HasHead b 5 n k (g ++ x) →
@@ -320,17 +317,17 @@ module _ (spelling : Spelling) where
 
   -- parts in a row
   parts-read : (d : ℕ) → ReadsAt d → RunsAt d → RunsAt (suc d)
-  parts-read d rd run start now next vs [] s x b p q l a read due order e k fuel then =
+  parts-read d rd run now next vs [] s x b p q l a read due order e k fuel then =
       let same : now ≡ next = cc in
       let none : length s ≡ 0 = ap length read in
       let is : b ≡ x = e ∙ ap (λ (c : List ℕ). c ++ x) read in
       let lb : length b ≡ length x = ap length is in
-      ap (λ w. parts spelling (suc d) start (Some w) vs b p l) same ∙
-      ap (λ (c : List ℕ). parts spelling (suc d) start (Some next) vs c p l) is ∙
-      ap (λ z. parts spelling (suc d) start (Some next) vs x z l) (omega (arith, k, none)) ∙
-      ap (λ (us : List Tree). parts spelling (suc d) start (Some next) us x q l) (sym (append-nil vs)) ∙
+      ap (λ w. parts spelling (suc d) (Some w) vs b p l) same ∙
+      ap (λ (c : List ℕ). parts spelling (suc d) (Some next) vs c p l) is ∙
+      ap (λ z. parts spelling (suc d) (Some next) vs x z l) (omega (arith, k, none)) ∙
+      ap (λ (us : List Tree). parts spelling (suc d) (Some next) us x q l) (sym (append-nil vs)) ∙
       then (suc d) (omega (arith, lb, fuel))
-  parts-read d rd run start now next vs (v ∷ ws) s x b p q l a (c, t, first, rest, f) due order e k fuel then =
+  parts-read d rd run now next vs (v ∷ ws) s x b p q l a (c, t, first, rest, f) due order e k fuel then =
       let one = due-first now v ws next due in
       let is : b ≡ c ++ (t ++ x) = e ∙ ap (λ (z : List ℕ). z ++ x) f ∙ append_assoc c t x in
       let lb : length b ≡ length c + length (t ++ x) = ap length is ∙ length-append c (t ++ x) in
@@ -340,18 +337,19 @@ module _ (spelling : Spelling) where
       let done : read spelling d b p l ≡ ends v (t ++ x) (p + length c) =
       rd v c (t ++ x) b p (p + length c) l first is refl (omega (arith, fuel)) in
       let again : vs ++ (v ∷ ws) ≡ (vs ++ (v ∷ [])) ++ ws = sym (append_assoc vs (v ∷ []) ws) in
-      let more : AreInOrder spelling (keys_among start ((vs ++ (v ∷ [])) ++ ws)) =
-      subst (λ us. AreInOrder spelling (keys_among start us)) again order in
+      let more : AreInOrder spelling (keys_among now ((vs ++ (v ∷ [])) ++ ws)) =
+      subst (λ us. AreInOrder spelling (keys_among now us)) again order in
       ap (λ o. or_end o (container_of now vs)
-      (and_then (next_part spelling (parts spelling d start) start now vs p l) (read spelling d b p l)))
+      (and_then (next_part spelling (parts spelling d) now vs p l) (read spelling d b p l)))
       (open-on d p (p + length c) now one.0 b (t ++ x) v l one.1 done) ∙
-      ap (and_then (next_part spelling (parts spelling d start) start now vs p l)) done ∙
-      cond-true _ _ _ (is-in_order spelling (keys_among start (vs ++ (v ∷ [])))
-      (order-before spelling start (vs ++ (v ∷ [])) ws more)) ∙
-      ap (λ o. parts spelling d start o (vs ++ (v ∷ [])) (t ++ x) (p + length c) l) one.1 ∙
-      run start one.0 next (vs ++ (v ∷ [])) ws t x (t ++ x) (p + length c) q l a rest one.2 more refl
+      ap (and_then (next_part spelling (parts spelling d) now vs p l)) done ∙
+      cond-true _ _ _ (is-in_order spelling (keys_among now (vs ++ (v ∷ [])))
+      (order-before spelling now (vs ++ (v ∷ [])) ws more)) ∙
+      ap (λ o. parts spelling d o (vs ++ (v ∷ [])) (t ++ x) (p + length c) l) one.1 ∙
+      run one.0 next (vs ++ (v ∷ [])) ws t x (t ++ x) (p + length c) q l a rest one.2
+      (subst (AreInOrder spelling) (sym (same-keys now one.0 ((vs ++ (v ∷ [])) ++ ws) one.1)) more) refl
       (omega (arith, k, ls)) (omega (arith, lb, some, fuel))
-      (λ z lt. ap (λ (us : List Tree). parts spelling z start (Some next) us x q l) (sym again) ∙ then z lt)
+      (λ z lt. ap (λ (us : List Tree). parts spelling z (Some next) us x q l) (sym again) ∙ then z lt)
 
 open-usable : (m : ℕ) (g x b : List ℕ) (p : ℕ) → is_reserved m 31 ≡ false → b ≡ (m * 32 + 31) ∷ (g ++ (255 ∷ x)) →
     p < greatest_offset → IsUsable b p
@@ -673,8 +671,8 @@ mutual
       front-read spelling d (read-good spelling d) (parts-run spelling d) v s x b p q l h e k fuel
 
   pub parts-run : (spelling : Spelling) (d : ℕ) → RunsAt spelling d
-  parts-run spelling zero start now next vs ws s x b p q l a read due order e k fuel then =
+  parts-run spelling zero now next vs ws s x b p q l a read due order e k fuel then =
       let never : ⊥ = omega (arith, fuel) in absurd never
-  parts-run spelling (suc d) start now next vs ws s x b p q l a read due order e k fuel then =
-      parts-read spelling d (read-good spelling d) (parts-run spelling d) start now next vs ws s x b p q l a read due
+  parts-run spelling (suc d) now next vs ws s x b p q l a read due order e k fuel then =
+      parts-read spelling d (read-good spelling d) (parts-run spelling d) now next vs ws s x b p q l a read due
       order e k fuel then

@@ -8,16 +8,17 @@ use Rattle.ciborium_ll.specs.{StringRefusal.{string_major, IsAllowed}, declared.
 use Rattle.ciborium_ll.specs.declared.{kind.Kind.TheVariants.Open, strings.StringType.StringType}
 use Rattle.ciborium_value.proofs.GoodItems.{Bignums.whole-kept, Faults.{fault-short, fault-open, fault-undefined}}
 use Rattle.ciborium_value.proofs.GoodItems.Parts.{within-zero, raise, due-more, counted-items, open-pairs}
-use Rattle.ciborium_value.proofs.GoodItems.Parts.{counted-pairs, keys-paired, keys-value, read-more, items-read}
+use Rattle.ciborium_value.proofs.GoodItems.Parts.{counted-pairs, keys-paired, keys_in-value, keys-from, read-more}
 use Rattle.ciborium_value.proofs.GoodItems.Parts.{pairs-read, trees-written, pairs-written, ArePaired}
+use Rattle.ciborium_value.proofs.GoodItems.Parts.{due_after, AreReadAs, HasParts, empty-order, items-read}
 use Rattle.ciborium_value.proofs.GoodItems.Spelled.{folds-none, folding-string, folding-over}
 use Rattle.ciborium_value.specs.{Counts.tree_pairs_count, Deterministic.{HasRisingKeys, AreRising}, Encoding.encoding}
 use Rattle.ciborium_value.specs.{Encoding.{items_of, pairs_of}, Meaning.{meaning, simple_meaning, bignum_meaning}}
 use Rattle.ciborium_value.specs.{Meaning.{tag_meaning, is_bignum_tag, folding_bytes}, Nesting.{nesting, tag_nesting}}
-use Rattle.ciborium_value.specs.{Nesting.{Limit, IsWithin, IsOneLess}, Refuses.{HasGoodHead, Due, items, keys, values}}
-use Rattle.ciborium_value.specs.Refuses.{next_due, due_after, keys_among, keys_in, AreReadAs, BeginsContainer, IsInside}
+use Rattle.ciborium_value.specs.{Nesting.{Limit, IsWithin, IsOneLess}, Refuses.{Due, items, keys, values}}
+use Rattle.ciborium_value.specs.Refuses.{next_due, keys_among, BeginsContainer, IsInside}
 use Rattle.ciborium_value.specs.{Refuses.{IsTagAt, IsFoldingAt}, Spelling.{Spelling, any, deterministic, IsReadAs}}
-use Rattle.ciborium_value.specs.{Spelling.{spelling_fault, IsUnwanted, AreInOrder, IsSpelledSo}, Tree.Tree}
+use Rattle.ciborium_value.specs.{Spelling.{spelling_fault, IsUnwanted, AreInOrder, IsSpelledSo, keys_in}, Tree.Tree}
 use Rattle.ciborium_value.specs.{View.trees_from, declared.key_order.KeyOrder.KeyOrder, inner.ReadItems.ReadsItem}
 use Rattle.ciborium_value.specs.inner.ReadItems.{string_tree, IsComplete, pairs_in, container_of}
 use Rattle.ciborium_ll.specs.Item as item
@@ -253,61 +254,56 @@ reads-simple spelling b p l s n r v is split means none fits = record {
 
 -- ---- containers
 
--- nothing is read of it but its head
-pub inside-begun : (spelling : Spelling) (b : List ℕ) (p k : ℕ) (l below : Limit) (r : List ℕ) (w : Due) →
-    HasGoodHead spelling b p → BeginsContainer b k r w → IsOneLess l below → p + k ≤ greatest_offset →
-    (i : IsInside spelling b p l [] r (p + k) w below) × (i.start ≡ w)
-inside-begun spelling b p k l below r w head begins level fits = (
-  record {
-    size = k;
-    good = [];
-    start = w;
-    head = head;
-    begins = begins;
-    level = level;
-    parts = refl;
-    in_order = none spelling w;
-    due = refl;
-    at = omega arith;
-    fits = fits;
-  },
-  refl,
-)
+-- the parts of what is unfinished, taken together
+pub parts_of : (spelling : Spelling) {b : List ℕ} {p : ℕ} {l : Limit} {vs : List Tree} {r : List ℕ} {q : ℕ} {now : Due}
+    {below : Limit} → IsInside spelling b p l vs r q now below → HasParts spelling b p l vs r q now below
+parts_of spelling {p = p} (IsInside.begun {size} {r} {due} {below} head begins level fits) = record {
+  size = size;
+  good = [];
+  start = due;
+  head = head;
+  begins = begins;
+  level = level;
+  parts = refl;
+  in_order = none due;
+  due = refl;
+  at = omega arith;
+  fits = fits;
+}
   where
-    none : (s : Spelling) (w : Due) → AreInOrder s (keys_among w [])
-    none (deterministic order) (items n) = tt
-    none _ _ = tt
+    none : (w : Due) → AreInOrder spelling (keys_among w [])
+    none (items n) = empty-order spelling
+    none (keys n) = empty-order spelling
+    none (values n) = empty-order spelling
+parts_of spelling {b} {p} (IsInside.more {vs} {r} {s} {t} {q} {v} {due} {next} {below} inside item split e order) =
+    let i = parts_of spelling inside in
+    let g : List ℕ = i.good in
+    let at = i.at in
+    let len : length (g ++ s) ≡ length g + length s = length-append g s in
+    let same : g ++ r ≡ (g ++ s) ++ t = ap (λ (c : List ℕ). g ++ c) split ∙ sym (append_assoc g s t) in
+    record {
+      size = i.size;
+      good = g ++ s;
+      start = i.start;
+      head = i.head;
+      begins = subst (λ c. BeginsContainer b i.size c i.start) same i.begins;
+      level = i.level;
+      parts = read-more spelling vs g s v (p + i.size) below i.parts
+          (subst (λ z. IsReadAs spelling s z below v) at item);
+      in_order = subst (AreInOrder spelling) (keys-from i.start due vs (vs ++ (v ∷ [])) i.due) order;
+      due = due-more i.start vs v due next i.due e;
+      at = omega (arith, at, len);
+      fits = item.4;
+    }
 
 -- one part more
 pub inside-more : (spelling : Spelling) (b : List ℕ) (p : ℕ) (l below : Limit) (vs : List Tree) (v : Tree)
-    (r s : List ℕ) (q u : ℕ) (now next : Due) (i : IsInside spelling b p l vs r q now below) →
+    (r s : List ℕ) (q u : ℕ) (now next : Due) → IsInside spelling b p l vs r q now below →
     ReadsItem spelling below r q v s u → next_due now ≡ Some next →
-    AreInOrder spelling (keys_among i.start (vs ++ (v ∷ []))) →
-    (j : IsInside spelling b p l (vs ++ (v ∷ [])) s u next below) × (j.start ≡ i.start)
+    AreInOrder spelling (keys_among now (vs ++ (v ∷ []))) → IsInside spelling b p l (vs ++ (v ∷ [])) s u next below
 inside-more spelling b p l below vs v r s q u now next i item e order =
-    let g : List ℕ = i.good in
-    let t : List ℕ = item.taken in
-    let at1 = i.at in
-    let at2 = item.at in
-    let len : length (g ++ t) ≡ length g + length t = length-append g t in
-    let same : g ++ r ≡ (g ++ t) ++ s = ap (λ (c : List ℕ). g ++ c) item.split ∙ sym (append_assoc g t s) in
-    let room = item.read.4 in (
-      record {
-        size = i.size;
-        good = g ++ t;
-        start = i.start;
-        head = i.head;
-        begins = subst (λ c. BeginsContainer b i.size c i.start) same i.begins;
-        level = i.level;
-        parts = read-more spelling vs g t v (p + i.size) below i.parts
-            (subst (λ z. IsReadAs spelling t z below v) at1 item.read);
-        in_order = order;
-        due = due-more i.start vs v now next i.due e;
-        at = omega (arith, at1, at2, len);
-        fits = omega (arith, at2, room);
-      },
-      refl,
-    )
+    subst (λ z. IsInside spelling b p l (vs ++ (v ∷ [])) s z next below) (sym item.at)
+    (IsInside.more i item.read item.split e order)
 
 -- items are due in arrays alone
 items-stay : (m : Option ℕ) (vs : List Tree) (now : Due) → due_after (items m) vs ≡ Some now → (n : Option ℕ) ×
@@ -317,28 +313,19 @@ items-stay None (v ∷ vs) now h = items-stay None vs now h
 items-stay (Some zero) (v ∷ vs) now h = absurd cc
 items-stay (Some (suc m)) (v ∷ vs) now h = items-stay (Some m) vs now h
 
-no-items : (m n : Option ℕ) (vs : List Tree) → due_after (keys m) vs ≡ Some (items n) → ⊥
-no-items m n [] h = cc
-no-items None n (k ∷ []) h = cc
-no-items (Some zero) n (k ∷ vs) h = cc
-no-items (Some (suc m)) n (k ∷ []) h = cc
-no-items None n (k ∷ (v ∷ vs)) h = no-items None n vs h
-no-items (Some (suc m)) n (k ∷ (v ∷ vs)) h = no-items (Some m) n vs h
-
-pub start-items : (start : Due) (vs : List Tree) (n : Option ℕ) → due_after start vs ≡ Some (items n) → (m : Option ℕ) ×
-    (start ≡ items m)
-start-items (items m) vs n h = (m, refl)
-start-items (keys m) vs n h = absurd (no-items m n vs h)
-start-items (values m) [] n h = absurd cc
-start-items (values m) (v ∷ vs) n h = absurd (no-items m n vs h)
-
 -- and keys in maps
-pub start-keys : (b : List ℕ) (k : ℕ) (r : List ℕ) (start : Due) (vs : List Tree) (n : Option ℕ) →
-    BeginsContainer b k r start → due_after start vs ≡ Some (keys n) → (m : Option ℕ) × (start ≡ keys m)
-start-keys b k r start vs n (BeginsContainer.array c st) h = let e = items-stay (Some c) vs (keys n) h in absurd cc
-start-keys b k r start vs n (BeginsContainer.open_array one e) h = let e = items-stay None vs (keys n) h in absurd cc
-start-keys b k r start vs n (BeginsContainer.map c st) h = (Some c, refl)
-start-keys b k r start vs n (BeginsContainer.open_map one e) h = (None, refl)
+abbrev IsItem : Due → Type 0
+IsItem (items n) = Unit {0}
+IsItem _ = ⊥
+
+start-keys : (b : List ℕ) (k : ℕ) (r : List ℕ) (start : Due) (vs : List Tree) (now : Due) → ¬ IsItem now →
+    BeginsContainer b k r start → due_after start vs ≡ Some now → (m : Option ℕ) × (start ≡ keys m)
+start-keys b k r start vs now other (BeginsContainer.array c st) h =
+    let e = items-stay (Some c) vs now h in absurd (other (subst IsItem (sym e.1) tt))
+start-keys b k r start vs now other (BeginsContainer.open_array one e) h =
+    let e = items-stay None vs now h in absurd (other (subst IsItem (sym e.1) tt))
+start-keys b k r start vs now other (BeginsContainer.map c st) h = (Some c, refl)
+start-keys b k r start vs now other (BeginsContainer.open_map one e) h = (None, refl)
 
 -- in a deterministic spelling nothing waits for a break
 no-break-due : (n : ℕ) (vs : List Tree) → due_after (keys (Some n)) vs ≡ Some (keys None) → ⊥
@@ -348,7 +335,7 @@ no-break-due (suc n) (k ∷ []) h = cc
 no-break-due (suc n) (k ∷ (v ∷ vs)) h = no-break-due n vs h
 
 pub never-open : (order : KeyOrder) (b : List ℕ) (p : ℕ) (l : Limit) (vs : List Tree) (r : List ℕ) (q : ℕ)
-    (below : Limit) → IsInside (deterministic order) b p l vs r q (keys None) below → ⊥
+    (below : Limit) → HasParts (deterministic order) b p l vs r q (keys None) below → ⊥
 never-open order b p l vs r q below i = by i.start i.begins i.due
   where
     by : (start : Due) → BeginsContainer b i.size (i.good ++ r) start → due_after start vs ≡ Some (keys None) → ⊥
@@ -366,16 +353,21 @@ IsNoKey (items n) = Unit {0}
 IsNoKey (keys n) = ⊥
 IsNoKey (values n) = Unit {0}
 
-pub no-key-order : (spelling : Spelling) (start : Due) (vs : List Tree) (v : Tree) (now : Due) → IsNoKey now →
-    due_after start vs ≡ Some now → AreInOrder spelling (keys_among start vs) →
-    AreInOrder spelling (keys_among start (vs ++ (v ∷ [])))
-no-key-order spelling start vs v (items n) other due h =
-    let e = start-items start vs n due in
-    subst (λ w. AreInOrder spelling (keys_among w (vs ++ (v ∷ [])))) (sym e.1)
-    (subst (λ w. AreInOrder spelling (keys_among w vs)) e.1 h)
-no-key-order spelling start vs v (keys n) other due h = absurd other
-no-key-order spelling start vs v (values n) other due h =
-    subst (AreInOrder spelling) (sym (keys-value start vs v n due)) h
+-- the keys so far are in order
+pub order-now : (spelling : Spelling) {b : List ℕ} {p : ℕ} {l : Limit} {vs : List Tree} {r : List ℕ} {q : ℕ}
+    {now : Due} {below : Limit} → HasParts spelling b p l vs r q now below → AreInOrder spelling (keys_among now vs)
+order-now spelling {vs = vs} {now = now} i = subst (AreInOrder spelling) (sym (keys-from i.start now vs vs i.due))
+    i.in_order
+
+pub no-key-order : (spelling : Spelling) {b : List ℕ} {p : ℕ} {l : Limit} {vs : List Tree} {r : List ℕ} {q : ℕ}
+    {now : Due} {below : Limit} → HasParts spelling b p l vs r q now below → (v : Tree) → IsNoKey now →
+    AreInOrder spelling (keys_among now (vs ++ (v ∷ [])))
+no-key-order spelling {now = items n} i v other = empty-order spelling
+no-key-order spelling {now = keys n} i v other = absurd other
+no-key-order spelling {b} {vs = vs} {r = r} {now = values n} i v other =
+    let e = start-keys b i.size (i.good ++ r) i.start vs (values n) (λ h. h) i.begins i.due in
+    subst (AreInOrder spelling)
+    (sym (keys_in-value e.0 n vs v (subst (λ w. due_after w vs ≡ Some (values n)) e.1 i.due))) (order-now spelling i)
 
 -- what is complete
 complete-items : (n : ℕ) (vs : List Tree) (now : Due) (r s : List ℕ) (q u : ℕ) →
@@ -447,8 +439,11 @@ opened-read spelling m g b p l i v r s q u low high fine spelled means nests spl
 pub reads-container : (spelling : Spelling) (b : List ℕ) (p : ℕ) (l below : Limit) (vs : List Tree) (r s : List ℕ)
     (q u : ℕ) (now : Due) → IsInside spelling b p l vs r q now below → IsComplete now r q s u →
     ReadsItem spelling l b p (container_of now vs) s u
-reads-container spelling b p l below vs r s q u now i done = by i.start i.begins i.due i.in_order
+reads-container spelling b p l below vs r s q u now inside done = by i.start i.begins i.due i.in_order
   where
+    i : HasParts spelling b p l vs r q now below
+    i = parts_of spelling inside
+
     g : List ℕ
     g = i.good
 

@@ -11,9 +11,10 @@ use Rattle.ciborium_value.specs.{Encoding.{items_of, pairs_of, items_bytes, pair
 use Rattle.ciborium_value.specs.{Folded.tree_pairs_folded, Meaning.{meaning, items_meaning, pairs_meaning, trees_more}}
 use Rattle.ciborium_value.specs.{Meaning.tree_pairs_more, Nesting.{items_nesting, pairs_nesting, Limit, IsWithin}}
 use Rattle.ciborium_value.specs.{Nesting.IsOneLess, ProperTrees.{AreProperTrees, AreProperTreePairs}, Refuses.Due}
-use Rattle.ciborium_value.specs.Refuses.{items, keys, values, next_due, due_after, keys_among, keys_in, AreReadAs}
-use Rattle.ciborium_value.specs.{Spelling.{Spelling, any, deterministic, IsReadAs, AreInOrder}, Tree.{Tree, Trees}}
-use Rattle.ciborium_value.specs.{Tree.{no_trees, tree, TreePairs, no_tree_pairs, tree_pair}, View.trees_from}
+use Rattle.ciborium_value.specs.Refuses.{items, keys, values, next_due, keys_among, HasGoodHead}
+use Rattle.ciborium_value.specs.{Refuses.BeginsContainer, Spelling.{Spelling, any, deterministic, IsReadAs}}
+use Rattle.ciborium_value.specs.{Spelling.{AreInOrder, keys_in}, Tree.{Tree, Trees, no_trees, tree, TreePairs}}
+use Rattle.ciborium_value.specs.{Tree.{no_tree_pairs, tree_pair}, View.trees_from}
 use Rattle.ciborium_value.specs.{declared.key_order.KeyOrder.KeyOrder, inner.ReadItems.pairs_in}
 use Rattle.ciborium_value.specs.lemmas.{Descriptions.both, ReadsBackParts.{within-left, within-right}}
 
@@ -45,6 +46,33 @@ levels-below (Some (suc l)) (Some m) f h = let e : l ≡ m = omega arith in ap (
 levels-below u v f h = absurd h
 
 -- ---- what is due
+
+-- what is due behind some parts
+abbrev pub due_after : Due → List Tree → Option Due
+due_after w [] = Some w
+due_after w (v ∷ vs) = option_and_then (λ next. due_after next vs) (next_due w)
+
+-- the bytes s, whose first is at offset p, are read as these trees, one behind the other
+abbrev pub AreReadAs : Spelling → List ℕ → ℕ → Limit → List Tree → Type 0
+AreReadAs spelling s p l [] = s ≡ []
+AreReadAs spelling s p l (v ∷ vs) = (a : List ℕ) × (b : List ℕ) × IsReadAs spelling a p l v ×
+    AreReadAs spelling b (p + length a) l vs × (s ≡ a ++ b)
+
+-- the parts of an array or map, taken together: behind its head of `size` bytes stand the parts `good`,
+-- of which `start` was due first
+pub record HasParts (spelling : Spelling) (b : List ℕ) (p : ℕ) (l : Limit) (vs : List Tree)
+    (r : List ℕ) (q : ℕ) (now : Due) (below : Limit) : Type 0 where
+  pub size : ℕ
+  pub good : List ℕ
+  pub start : Due
+  pub head : HasGoodHead spelling b p
+  pub begins : BeginsContainer b size (good ++ r) start
+  pub level : IsOneLess l below
+  pub parts : AreReadAs spelling good (p + size) below vs
+  pub in_order : AreInOrder spelling (keys_among start vs)
+  pub due : due_after start vs ≡ Some now
+  pub at : q ≡ p + size + length good
+  pub fits : q ≤ greatest_offset
 
 -- some parts are due where more than none follow
 pub due-first : (now : Due) (v : Tree) (vs : List Tree) (next : Due) → due_after now (v ∷ vs) ≡ Some next → (w : Due) ×
@@ -137,20 +165,33 @@ keys-paired (k ∷ []) h = absurd h
 keys-paired (k ∷ (v ∷ vs)) h = ap (λ (ks : List Tree). k ∷ ks) (keys-paired vs h)
 
 -- a value changes no keys
-keys_in-value : (m n : Option ℕ) (vs : List Tree) (v : Tree) → due_after (keys m) vs ≡ Some (values n) →
+pub keys_in-value : (m n : Option ℕ) (vs : List Tree) (v : Tree) → due_after (keys m) vs ≡ Some (values n) →
     keys_in (vs ++ (v ∷ [])) ≡ keys_in vs
 keys_in-value m n (k ∷ []) v h = refl
 keys_in-value None n (k ∷ (u ∷ vs)) v h = ap (λ (ks : List Tree). k ∷ ks) (keys_in-value None n vs v h)
 keys_in-value (Some (suc m)) n (k ∷ (u ∷ vs)) v h = ap (λ (ks : List Tree). k ∷ ks) (keys_in-value (Some m) n vs v h)
 keys_in-value u n w v h = absurd cc
 
-pub keys-value : (start : Due) (vs : List Tree) (v : Tree) (n : Option ℕ) → due_after start vs ≡ Some (values n) →
-    keys_among start (vs ++ (v ∷ [])) ≡ keys_among start vs
-keys-value (keys m) vs v n h = keys_in-value m n vs v h
-keys-value (values m) (u ∷ vs) v n h = keys_in-value m n vs v h
-keys-value u w v n h = refl
+-- each part of one container leaves the same keys among all
+pub same-keys : (now next : Due) (us : List Tree) → next_due now ≡ Some next → keys_among next us ≡ keys_among now us
+same-keys (items None) (items n) us e = refl
+same-keys (items (Some (suc m))) (items n) us e = refl
+same-keys (keys None) (values n) us e = refl
+same-keys (keys (Some (suc m))) (values n) us e = refl
+same-keys (values m) (keys n) us e = refl
+same-keys u v us e = absurd cc
+
+pub keys-from : (start now : Due) (vs us : List Tree) → due_after start vs ≡ Some now →
+    keys_among now us ≡ keys_among start us
+keys-from start now [] us h = let same : start ≡ now = cc in ap (λ w. keys_among w us) (sym same)
+keys-from start now (v ∷ vs) us h =
+    let one = due-first start v vs now h in keys-from one.0 now vs us one.2 ∙ same-keys start one.0 us one.1
 
 -- ---- order of keys
+
+pub empty-order : (s : Spelling) → AreInOrder s []
+empty-order any = tt
+empty-order (deterministic order) = tt
 
 less-is : (o : Ordering) → is_less o ≡ true → o ≡ Less
 less-is Less h = refl
@@ -175,7 +216,7 @@ rising-before order u ws h = tt
 pub order-before : (spelling : Spelling) (start : Due) (vs ws : List Tree) →
     AreInOrder spelling (keys_among start (vs ++ ws)) → AreInOrder spelling (keys_among start vs)
 order-before (deterministic order) (keys n) vs ws h = rising-before order vs ws h
-order-before (deterministic order) (values n) (v ∷ vs) ws h = rising-before order vs ws h
+order-before (deterministic order) (values n) vs ws h = rising-before order vs ws h
 order-before u v w ws h = tt
 
 -- ---- lists of what is read, one more

@@ -174,10 +174,10 @@ module _ (spelling : Spelling) where
   item_at rd more strings b p l (plain n r) = given (semantic p Simple) (simple_meaning n) r (past p b r)
   item_at rd more strings b p l (raw w r) = refused (semantic p Float)
 
-  -- what follows a part of a container that began so, which stood behind others
-  abbrev pub next_part : (Option Due → List Tree → Reader) → Due → Due → List Tree → ℕ → Limit → Tree → List ℕ → ℕ →
+  -- what follows a part of a container, which stood behind others, where this was due
+  abbrev pub next_part : (Option Due → List Tree → Reader) → Due → List Tree → ℕ → Limit → Tree → List ℕ → ℕ →
       Answer Tree
-  next_part more start now vs p l v r q = cond (in_order spelling (keys_among start (vs ++ (v ∷ []))))
+  next_part more now vs p l v r q = cond (in_order spelling (keys_among now (vs ++ (v ∷ []))))
       (more (next_due now) (vs ++ (v ∷ [])) r q l) (refused (semantic p kinds.KeyOrder))
 
   -- its fuel bounds the nesting and the parts
@@ -185,10 +185,10 @@ module _ (spelling : Spelling) where
     pub read : ℕ → List ℕ → ℕ → Limit → Answer Tree
     read zero b p l = refused io
     read (suc d) b p l = checked (head_refusal b p) (checked (option_map (semantic p) (spelling_fault spelling b))
-        (item_at (read d) (λ w. parts d w (Some w) []) (pieces d) b p l (front b)))
+        (item_at (read d) (λ w. parts d (Some w) []) (pieces d) b p l (front b)))
 
-    -- behind the parts vs of a container that began so, where this is due
-    pub parts : ℕ → Due → Option Due → List Tree → List ℕ → ℕ → Limit → Answer Tree
-    parts (suc d) start (Some now) vs b p l = or_end (end_at now b p) (container_of now vs)
-        (and_then (next_part (parts d start) start now vs p l) (read d b p l))
-    parts u start v vs b p l = refused io
+    -- behind the parts vs of a container, where this is due
+    pub parts : ℕ → Option Due → List Tree → List ℕ → ℕ → Limit → Answer Tree
+    parts (suc d) (Some now) vs b p l = or_end (end_at now b p) (container_of now vs)
+        (and_then (next_part (parts d) now vs p l) (read d b p l))
+    parts u v vs b p l = refused io

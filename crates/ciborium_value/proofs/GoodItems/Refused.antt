@@ -14,7 +14,8 @@ use Rattle.ciborium_ll.specs.declared.strings.StringType.{StringType}
 use Rattle.ciborium_value.proofs.GoodItems.{Answered.{kind_ok, rest-bytes}, Bignums.{foldable-small, foldable-is}}
 use Rattle.ciborium_value.proofs.GoodItems.{Bignums.{is-foldable, large-none}, Faults.{fault-break, fault-float}}
 use Rattle.ciborium_value.proofs.GoodItems.{Faults.fault-simple, Found.{kind_allowed, simple-front, read-good}}
-use Rattle.ciborium_value.proofs.GoodItems.{Found.parts-run, Introduced.{folding-reads, kind-below}, Parts.levels-below}
+use Rattle.ciborium_value.proofs.GoodItems.{Found.parts-run, Introduced.{folding-reads, kind-below, parts_of}}
+use Rattle.ciborium_value.proofs.GoodItems.{Parts.levels-below}
 use Rattle.ciborium_value.proofs.GoodItems.{Parts.in_order-is, Reader.{Answer, ends, refused, and_then, made, given}}
 use Rattle.ciborium_value.proofs.GoodItems.Reader.{past, allowed, string, chunk, piece, pieces, levels, break_at}
 use Rattle.ciborium_value.proofs.GoodItems.Reader.{end_at, or_end, is_unwanted, bignum, counted_item, opened_item}
@@ -22,7 +23,7 @@ use Rattle.ciborium_value.proofs.GoodItems.{Reader.{next_part, read, parts}, Spe
 use Rattle.ciborium_value.proofs.GoodItems.Steps.{checked-none, checked-some, read-head, read-fault, read-counted}
 use Rattle.ciborium_value.proofs.GoodItems.Steps.{read-opened, opens-read, tag-at, pieces-run}
 use Rattle.ciborium_value.specs.{Meaning.{simple_meaning, big_endian}, Nesting.Limit, Refuses.{HasGoodHead, Due, items}}
-use Rattle.ciborium_value.specs.Refuses.{keys, values, keys_among, IsDue, BeginsContainer, IsInside, IsTagAt}
+use Rattle.ciborium_value.specs.Refuses.{keys, keys_among, IsDue, BeginsContainer, IsInside, IsTagAt}
 use Rattle.ciborium_value.specs.{Refuses.{IsFoldingAt, Refuses}, Spelling.{Spelling, any, deterministic, IsReadAs}}
 use Rattle.ciborium_value.specs.{Spelling.{spelling_fault, IsUnwanted}, Tree.Tree, inner.ReadItems.string_tree}
 use Rattle.ciborium_value.specs.inner.ReadItems.{container_of}
@@ -104,7 +105,7 @@ module _ (spelling : Spelling) where
       read-counted spelling d p (p + k) b l (string_major kind) n k r (kind-below kind) st h refl ∙ chosen kind ∙
       ap (made (λ z. string_tree kind z)) (payload-refused kind f (rest-bytes b st.0 r st.3 bytes) (p + k))
     where
-      chosen : (c : StringType) → counted_item spelling (read spelling d) (λ w. parts spelling d w (Some w) [])
+      chosen : (c : StringType) → counted_item spelling (read spelling d) (λ w. parts spelling d (Some w) [])
           (string_major c) n r p (p + k) l ≡ made (string_tree c) (string (string_major c) n r p (p + k))
       chosen StringType.Bytes = refl
       chosen StringType.Text = refl
@@ -122,7 +123,7 @@ module _ (spelling : Spelling) where
       (p + 1) (p + 1 + length good) (refused e) parts_of refl refl room (omega (arith, lb, fuel))
       (λ c lc. part-refused k c (omega (arith, lc)) f (bytes_after ((m * 32 + 31) ∷ good) r br)))
     where
-      chosen : (c : StringType) → opened_item spelling (λ w. parts spelling d w (Some w) []) (pieces d)
+      chosen : (c : StringType) → opened_item spelling (λ w. parts spelling d (Some w) []) (pieces d)
           (string_major c) (good ++ r) p l ≡ made (string_tree c) (pieces d (string_major c) (good ++ r) (p + 1))
       chosen StringType.Bytes = refl
       chosen StringType.Text = refl
@@ -152,27 +153,29 @@ module _ (spelling : Spelling) where
 
   -- parts stand before what refuses, and with it
   part-run : (d : ℕ) (b : List ℕ) (p : ℕ) (l below : Limit) (vs : List Tree) (r : List ℕ) (q : ℕ) (now : Due)
-      (a : Answer Tree) (i : IsInside spelling b p l vs r q now below) → IsDue now r q → 2 * length b < suc d →
+      (a : Answer Tree) → IsInside spelling b p l vs r q now below → IsDue now r q → 2 * length b < suc d →
       ((c : ℕ) → 2 * length r < c →
-      and_then (next_part spelling (parts spelling c i.start) i.start now vs q below) (read spelling c r q below) ≡ a) →
+      and_then (next_part spelling (parts spelling c) now vs q below) (read spelling c r q below) ≡ a) →
       read spelling (suc d) b p l ≡ a
-  part-run d b p l below vs r q now a i due fuel then =
+  part-run d b p l below vs r q now a inside due fuel then =
+      let i = parts_of spelling inside in
       let z = opens-read spelling d p i.size b (i.good ++ r) i.start l i.head i.begins in
       let at = i.at in
-      z.0 ∙ levels-below l below (parts spelling d i.start (Some i.start) [] (i.good ++ r) (p + i.size)) i.level ∙
-      parts-run spelling d i.start i.start now [] vs i.good r (i.good ++ r) (p + i.size) q below a i.parts i.due
+      z.0 ∙ levels-below l below (parts spelling d (Some i.start) [] (i.good ++ r) (p + i.size)) i.level ∙
+      parts-run spelling d i.start now [] vs i.good r (i.good ++ r) (p + i.size) q below a i.parts i.due
       i.in_order refl at (omega (arith, z.1, z.2, fuel)) (λ c lc. at-part c lc)
     where
-      at-part : (c : ℕ) → 2 * length r + 1 < c → parts spelling c i.start (Some now) vs r q below ≡ a
+      at-part : (c : ℕ) → 2 * length r + 1 < c → parts spelling c (Some now) vs r q below ≡ a
       at-part zero lc = let never : ⊥ = omega (arith, lc) in absurd never
       at-part (suc c) lc = ap (λ o. or_end o (container_of now vs)
-          (and_then (next_part spelling (parts spelling c i.start) i.start now vs q below) (read spelling c r q below)))
+          (and_then (next_part spelling (parts spelling c) now vs q below) (read spelling c r q below)))
           (due-open now r q due) ∙ then c (omega (arith, lc))
 
   inside-bytes : (b : List ℕ) (p : ℕ) (l below : Limit) (vs : List Tree) (r : List ℕ) (q : ℕ) (now : Due) →
       IsInside spelling b p l vs r q now below → EachIsByte b → EachIsByte r
-  inside-bytes b p l below vs r q now i bytes = bytes_after i.good r
-      (opens-bytes b (i.good ++ r) i.size i.start i.begins bytes)
+  inside-bytes b p l below vs r q now inside bytes =
+      let i = parts_of spelling inside in
+      bytes_after i.good r (opens-bytes b (i.good ++ r) i.size i.start i.begins bytes)
 
   -- ---- tags
 
@@ -238,13 +241,13 @@ module _ (spelling : Spelling) where
       o).0
   refusal-read (suc d) {b} {p} {l} {e} (Refuses.part vs r q w below i due f) bytes fuel =
       part-run d b p l below vs r q w (refused e) i due fuel
-      (λ c lc. ap (and_then (next_part spelling (parts spelling c i.start) i.start w vs q below))
+      (λ c lc. ap (and_then (next_part spelling (parts spelling c) w vs q below))
       (refusal-read c f (inside-bytes b p l below vs r q w i bytes) lc))
   refusal-read (suc d) {b} {p} {l} (Refuses.key_order vs r s t key q w below i due item at bad) bytes fuel =
       part-run d b p l below vs r q w (refused (semantic q kinds.KeyOrder)) i due fuel
-      (λ c lc. ap (and_then (next_part spelling (parts spelling c i.start) i.start w vs q below))
+      (λ c lc. ap (and_then (next_part spelling (parts spelling c) w vs q below))
       (read-good spelling c key s t r q (q + length s) below item at refl lc) ∙
-      pass _ _ _ (not_so _ (λ z. bad (in_order-is spelling (keys_among i.start (vs ++ (key ∷ []))) z))))
+      pass _ _ _ (not_so _ (λ z. bad (in_order-is spelling (keys_among w (vs ++ (key ∷ []))) z))))
   refusal-read (suc d) {b} {p} {l} {e} (Refuses.tag_no_head t k r h st f) bytes fuel =
       read-counted spelling d p (p + k) b l 6 t k r (omega arith) st h refl ∙ checked-some r (p + k) _ e f
   refusal-read (suc d) {b} {p} {l} {e} (Refuses.folding t r q a g f) bytes fuel =

@@ -64,31 +64,31 @@ past-stands b m n k p q r s e = let l = stands-length b m n k r s in omega (arit
 
 module _ (spelling : Spelling) where
   pub read-head : (d p : ℕ) (b : List ℕ) (l : Limit) (f : Front) → HasGoodHead spelling b p → front b ≡ f →
-      read spelling (suc d) b p l ≡ item_at spelling (read spelling d) (λ w. parts spelling d w (Some w) []) (pieces d)
+      read spelling (suc d) b p l ≡ item_at spelling (read spelling d) (λ w. parts spelling d (Some w) []) (pieces d)
       b p l f
   read-head d p b l f h e =
       checked-none b p _ h.0 ∙ ap (λ o. checked (option_map (semantic p) o) (item_at spelling (read spelling d)
-      (λ w. parts spelling d w (Some w) []) (pieces d) b p l (front b))) h.1 ∙
-      ap (item_at spelling (read spelling d) (λ w. parts spelling d w (Some w) []) (pieces d) b p l) e
+      (λ w. parts spelling d (Some w) []) (pieces d) b p l (front b))) h.1 ∙
+      ap (item_at spelling (read spelling d) (λ w. parts spelling d (Some w) []) (pieces d) b p l) e
 
   -- a head that the spelling does not accept
   pub read-fault : (d p : ℕ) (b : List ℕ) (l : Limit) (kind : Kind) → IsUsable b p →
       spelling_fault spelling b ≡ Some kind → read spelling (suc d) b p l ≡ refused (semantic p kind)
   read-fault d p b l kind h e =
       checked-none b p _ h ∙ ap (λ o. checked (option_map (semantic p) o) (item_at spelling (read spelling d)
-      (λ w. parts spelling d w (Some w) []) (pieces d) b p l (front b))) e
+      (λ w. parts spelling d (Some w) []) (pieces d) b p l (front b))) e
 
   -- a good head with an argument
   pub read-counted : (d p q : ℕ) (b : List ℕ) (l : Limit) (m n k : ℕ) (r : List ℕ) → m < 7 → HasHead b m n k r →
       HasGoodHead spelling b p → q ≡ p + k → read spelling (suc d) b p l ≡ counted_item spelling (read spelling d)
-      (λ w. parts spelling d w (Some w) []) m n r p q l
+      (λ w. parts spelling d (Some w) []) m n r p q l
   read-counted d p q b l m n k r lt s h e = read-head d p b l (counted m n r) h (stands-front b m n k r lt s) ∙
-      ap (λ z. counted_item spelling (read spelling d) (λ w. parts spelling d w (Some w) []) m n r p z l)
+      ap (λ z. counted_item spelling (read spelling d) (λ w. parts spelling d (Some w) []) m n r p z l)
       (past-stands b m n k p q r s e)
 
   pub read-opened : (d p : ℕ) (b : List ℕ) (l : Limit) (m : ℕ) (r : List ℕ) → b ≡ (m * 32 + 31) ∷ r →
       HasGoodHead spelling b p →
-      read spelling (suc d) b p l ≡ opened_item spelling (λ w. parts spelling d w (Some w) []) (pieces d) m r p l
+      read spelling (suc d) b p l ≡ opened_item spelling (λ w. parts spelling d (Some w) []) (pieces d) m r p l
   read-opened d p b l m r e h = read-head d p b l (opened m r) h (ap front e ∙ front_open m r)
 
   pub ended-has : (d p q : ℕ) (b r : List ℕ) (v : Tree) (l : Limit) → read spelling d b p l ≡ ends v r q →
@@ -110,13 +110,13 @@ module _ (spelling : Spelling) where
 module _ (spelling : Spelling) where
   -- the head of an array or map
   pub opens-read : (d p k : ℕ) (b r : List ℕ) (w : Due) (l : Limit) → HasGoodHead spelling b p →
-      BeginsContainer b k r w → (read spelling (suc d) b p l ≡ levels l (parts spelling d w (Some w) [] r (p + k))) ×
+      BeginsContainer b k r w → (read spelling (suc d) b p l ≡ levels l (parts spelling d (Some w) [] r (p + k))) ×
       (length b ≡ k + length r) × (0 < k)
   opens-read d p k b r w l h (BeginsContainer.array n s) = let z = stands-length b 4 n k r s in
       (read-counted spelling d p (p + k) b l 4 n k r (omega arith) s h refl, z.0, z.1)
   opens-read d p k b r w l h (BeginsContainer.open_array e f) = (
     read-opened spelling d p b l 4 r f h ∙
-        ap (λ u. levels l (parts spelling d (items None) (Some (items None)) [] r u)) (omega (arith, e)),
+        ap (λ u. levels l (parts spelling d (Some (items None)) [] r u)) (omega (arith, e)),
     ap length f ∙ omega (arith, e),
     omega (arith, e),
   )
@@ -124,7 +124,7 @@ module _ (spelling : Spelling) where
       (read-counted spelling d p (p + k) b l 5 n k r (omega arith) s h refl, z.0, z.1)
   opens-read d p k b r w l h (BeginsContainer.open_map e f) = (
     read-opened spelling d p b l 5 r f h ∙
-        ap (λ u. levels l (parts spelling d (keys None) (Some (keys None)) [] r u)) (omega (arith, e)),
+        ap (λ u. levels l (parts spelling d (Some (keys None)) [] r u)) (omega (arith, e)),
     ap length f ∙ omega (arith, e),
     omega (arith, e),
   )

@@ -102,13 +102,14 @@ begun_still sequence (Some (suc m)) is os around h = array_still m [] is os h
 begun_still dictionary (Some (suc m)) is os around h = map_still m [] is os h
 begun_still u v is os around h = absurd (omega (arith, h))
 
-pub still_open : (p : Place) → HasRoom p → IsSound p → IsStill (built p)
-still_open (top name before []) room sound = ([], refl)
-still_open (top name before (i ∷ is)) room sound = absurd (omega (arith, room))
-still_open (within s n is around) room sound =
-    let k = still_open around sound.0 sound.1 in
+pub still_unfinished : (p : Place) → HasRoom p → IsSound p → IsStill (built p)
+still_unfinished (top name before []) room sound = ([], refl)
+still_unfinished (top name before (i ∷ is)) room sound = absurd (omega (arith, room))
+still_unfinished (within s n is around) room sound =
+    let k = still_unfinished around sound.0 sound.1 in
     subst (λ t. IsStill (put_items (begun s n t) is)) (sym k.1) (begun_still s n is k.0 around room)
-still_open (tagged t p) room sound = let k = still_open p room sound in (frames.tag t ∷ k.0, ap (tagged_by t) k.1)
+still_unfinished (tagged t p) room sound = let k = still_unfinished p room sound in
+    (frames.tag t ∷ k.0, ap (tagged_by t) k.1)
 
 -- one more item puts its tree
 pub built-added : (p : Place) (i : Item) → HasRoom p → IsSound p →
@@ -116,7 +117,7 @@ pub built-added : (p : Place) (i : Item) → HasRoom p → IsSound p →
 built-added (top name before is) i room sound = put_all-snoc (more []) is i
 built-added (within s n is around) i room sound = put_all-snoc (begun s n (built around)) is i
 built-added (tagged t p) i room sound =
-    let k = still_open p room sound in
+    let k = still_unfinished p room sound in
     built-added p (item.tag t i) room sound ∙ ap (λ s. put_tree s (trees.tag t (written_tree i))) k.1 ∙
     ap (λ s. put_tree (tagged_by t s) (written_tree i)) (sym k.1)
 
@@ -140,7 +141,7 @@ full_whole dictionary (suc m) is os h = map_whole m [] is os h ∙ ap (λ l. pla
 pub built-ended : (s : Shape) (n : ℕ) (is : List Item) (around : Place) → IsSound (within s (Some n) is around) →
     length is ≡ size_of s n → built (within s (Some n) is around) ≡ built (added around (container s false is))
 built-ended s n is around sound h =
-    let k = still_open around sound.0 sound.1 in
+    let k = still_unfinished around sound.0 sound.1 in
     ap (λ t. put_items (begun s (Some n) t) is) k.1 ∙ full_whole s n is k.0 h ∙
     sym (built-added around (container s false is) sound.0 sound.1 ∙
     ap (λ t. put_tree t (written_tree (container s false is))) k.1)
@@ -156,7 +157,7 @@ pub record Breaks (s : Shape) (is : List Item) (around : Place) : Type 0 where
 pub built-broken : (s : Shape) (is : List Item) (around : Place) → IsSound (within s None is around) →
     IsFull s None is → Breaks s is around
 built-broken sequence is around sound h =
-    let k = still_open around sound.0 sound.1 in
+    let k = still_unfinished around sound.0 sound.1 in
     record {
       inner = frames.array (tree_list is) None;
       outer = k.0;
@@ -165,7 +166,7 @@ built-broken sequence is around sound h =
       tree = ap (λ l. Some (trees.array l)) (trees-from is);
     }
 built-broken dictionary is around sound h =
-    let k = still_open around sound.0 sound.1 in
+    let k = still_unfinished around sound.0 sound.1 in
     record {
       inner = frames.map (tree_pair_list is) None None;
       outer = k.0;

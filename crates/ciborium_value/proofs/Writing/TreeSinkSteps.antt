@@ -3,7 +3,7 @@ use Rattle.std.proofs.Common.{◌≡◌, ℕ, true, false, List, [], ◌∷◌, 
 use Rattle.std.proofs.Common.{negsuc, ℤ, ◌^◌, nat_lt, if◌then◌else◌, refl, sym, ◌∙◌, ap, lit<}
 use Rattle.std.proofs.lemmas.Result.{on_ok_weaker}
 use Rattle.ciborium_ll.specs.Item.{Item}
-use Rattle.ciborium_value.proofs.Writing.Growing.{still_open, built-added, sound-added, built-ended, built-broken}
+use Rattle.ciborium_value.proofs.Writing.Growing.{still_unfinished, built-added, sound-added, built-ended, built-broken}
 use Rattle.ciborium_value.{proofs.Writing.Standing.writer_at-added, specs.{Encoding.boolean_item, Number.number_tree}}
 use Rattle.ciborium_value.specs.{Number.shortest_bytes, Places.{Shape, sequence, dictionary, Place, top, within}}
 use Rattle.ciborium_value.specs.{Places.{HasRoom, added, container, IsComplete, writer_at}, Sinks.{Named, number_item}}
@@ -44,7 +44,7 @@ opens_are None os os' h = (refl, cc)
 pub open_at : (s : TreeSink) (p : Place) → IsBuiltAt s p → HasRoom p → (s.whole ≡ None) ×
     (built p ≡ more (frames_of s.stack))
 open_at s p st room =
-    let k = still_open p room st.1 in
+    let k = still_unfinished p room st.1 in
     let o = opens_are s.whole (frames_of s.stack) k.0 (st.2 ∙ k.1) in
     (o.0, k.1 ∙ ap more (sym o.1))
 
