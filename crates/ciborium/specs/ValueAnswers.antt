@@ -1,6 +1,6 @@
 -- What reading a value promises: what was taken is one good item that means the answer, or is
--- refused with the error, whatever follows it (`Io`: nothing; `Memory` is none); and a good item
--- at the front is read.
+-- refused with the error, whatever follows it, or at `Io` as if nothing did (`Memory` is no refusal);
+-- and a good item at the front is read.
 use Rattle.std.specs.Prelude.{◌≡◌, ℕ, ◌+◌, ◌≤◌, List, [], ◌++◌, length, Option, Some, None, Result, Ok, Err}
 use Rattle.std.specs.Io.KnownBytes.{Consumes}
 use Rattle.ciborium_ll.specs.{Bytes.{AreBytes, greatest_offset}, Refusal.Refusal}
@@ -11,9 +11,9 @@ use Rattle.ciborium_ll.specs.Refusal as refusal
 
 -- ---- refusals
 
--- P, said of bytes that end with `rest`, which was not taken, holds of the refusal that an error is:
--- of `Io` only where `rest` is known to be empty; of `Memory` nothing is said; `Semantic` has its
--- offset
+-- P holds of the refusal that an error is; of `Memory` nothing is said, and `Semantic` has its offset.
+-- P speaks of bytes of which `rest` was not taken: `Io` is a refusal only where that is known to be
+-- empty
 abbrev pub IsRefusedBy : {E : Type 0} → Option (List ℕ) → Error E → (Refusal → Type 0) → Type 0
 IsRefusedBy rest (Io e) P = rest ≡ Some [] → P refusal.io
 IsRefusedBy rest (Syntax p) P = P (refusal.syntax p)
@@ -29,11 +29,12 @@ IsRefusedBy rest TooLong P = P refusal.too_long
 -- that is known, `after` what it is left with, which then is known too, and the answer stands by
 -- its tree.
 
--- the bytes s, taken from offset p on, fit the answer: at Ok they are read as it; at an error s ++ c
--- is refused with it for every c; at `Io`, which asks this of c = [] alone, s by itself is refused
--- as `io`, whether or not the reader has bytes left
+-- the bytes s, taken from offset p on, fit the answer: at Ok they are read as it; at `Io` s by itself
+-- is refused as `io`, whether or not the reader has bytes left; at another error s ++ c is refused
+-- with it for every c
 abbrev pub IsTakenFrom : {E : Type 0} → Spelling → ℕ → List ℕ → ℕ → Result Tree (Error E) → Type 0
 IsTakenFrom spelling p s l (Ok v) = IsReadAs spelling s p (Some l) v
+IsTakenFrom spelling p s l (Err (Io e)) = Refuses spelling s p (Some l) refusal.io
 IsTakenFrom spelling p s l (Err e) = (c : List ℕ) → IsRefusedBy (Some c) e (Refuses spelling (s ++ c) p (Some l))
 
 -- some bytes s were taken from offset p on (0 for a call), a beginning of what the reader held, if
@@ -43,8 +44,8 @@ abbrev pub TakesBytes : {E : Type 0} → Spelling → ℕ → Option (List ℕ) 
 TakesBytes spelling p before l after r = (s : List ℕ) ×
     Consumes before after s × (p + length s ≤ greatest_offset) × IsTakenFrom spelling p s l r × AreBytes s
 
--- the answer is `Memory`, or `Io` where it is not known that no bytes are left (where none are, `Io`
--- is a refusal)
+-- the answer is `Memory`, or `Io` while bytes are left, or nobody knows (at the reader's end `Io` is a
+-- refusal)
 abbrev pub IsFailed : {E : Type 0} → Option (List ℕ) → Error E → Type 0
 IsFailed after (Io e) = ¬ (after ≡ Some [])
 IsFailed after Memory = Unit {0}

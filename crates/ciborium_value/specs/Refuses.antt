@@ -38,7 +38,7 @@ next_due (keys (Some (suc n))) = Some (values (Some n))
 next_due (values n) = Some (keys n)
 
 -- a part must stand at offset p, where r is left: the container is not complete, and no break stands
--- here (at the greatest offset none may be read: what is due there is `too_long`)
+-- here (which counts below the greatest offset alone: at it the part is refused as `too_long`)
 abbrev pub IsDue : Due → List ℕ → ℕ → Type 0
 IsDue (items None) r p = p < greatest_offset → ¬ IsAtFront break_byte r
 IsDue (items (Some n)) r p = 0 < n
@@ -63,8 +63,8 @@ keys_among _ vs = keys_in vs
 -- of a part. In `a101ff` at offset 0 `begun` leaves `01ff` at 1, keys (Some 1) due, and `more` `ff`
 -- at 2, values (Some 0) due; a break is no item, so `more` passes none
 pub data IsInside (spelling : Spelling) (b : List ℕ) (p : ℕ) (l : Limit) :
-    List Tree → List ℕ → ℕ → Due → Limit → Type 0 where
-  -- behind the head (a usable head fits)
+    (vs : List Tree) (r : List ℕ) (q : ℕ) (due : Due) (below : Limit) → Type 0 where
+  -- behind the head, which ends within the greatest offset as every usable head does
   begun : {size r due below : _} → HasGoodHead spelling b p → BeginsContainer b size r due →
       IsOneLess l below → p + size ≤ greatest_offset → IsInside spelling b p l [] r (p + size) due below
   -- behind one part more, whose bytes are s

@@ -6,8 +6,8 @@ use Rattle.ciborium_value.proofs.GoodItems.{Accepted.anyway, Bounded.bounded, Ou
 use Rattle.ciborium_value.proofs.GoodItems.{Outcome.read_bytes, ProperMeanings.proper_meaning}
 use Rattle.ciborium_value.specs.{Counts.{node_count, payload_size}, ProperTrees.IsProperTree, Refuses.Refuses}
 use Rattle.ciborium_value.specs.{Spelling.{Spelling, IsReadAs}, Tree.Tree}
-use Rattle.ciborium.{proofs.Readers.Outcomes.only-fails, specs.ValueAnswers.{GivesTree, IsFailed, TakesBytes}}
-use Rattle.ciborium.specs.{ValueAnswers.IsRefusedBy, ValueClauses.{ReadsWhole, TakesValue}}
+use Rattle.ciborium.{proofs.Readers.Outcomes.only-fails, specs.ValueAnswers.{GivesTree, IsFailed, IsTakenFrom}}
+use Rattle.ciborium.specs.{ValueAnswers.{IsRefusedBy, TakesBytes}, ValueClauses.{ReadsWhole, TakesValue}}
 use Rattle.ciborium.specs.declared.de.error.Error.{Error}
 use Rattle.ciborium_ll.specs.Refusal as refusal
 use Rattle.ciborium.specs.declared.de.error.Error.TheVariants as errors
@@ -63,6 +63,13 @@ either-begins (a ∷ t) (b ∷ s) x y e = longer (either-begins t s x y (tails e
 -- ---- the clauses
 
 module _ {E : Type 0} (spelling : Spelling) (l : ℕ) where
+  -- `Io` is a refusal of bytes that nothing follows
+  pub followed : (s : List ℕ) (e : Error E) → IsTakenFrom {E = E} spelling 0 s l (Err e) → (c : List ℕ) →
+      IsRefusedBy (Some c) e (Refuses spelling (s ++ c) 0 (Some l))
+  followed s (errors.Io x) h c = λ end. subst (λ z. Refuses spelling z 0 (Some l) refusal.io)
+      (sym (append-nil s) ∙ ap (λ (z : List ℕ). s ++ z) (sym (inside c [] end))) h
+  followed s u h c = h c
+
   -- an error of bytes t that cannot be refused, neither with c behind them nor where the reader ends behind them, is a
   -- failure
   fails : (after : Option (List ℕ)) (t c : List ℕ) (e : Error E) →
@@ -97,7 +104,7 @@ module _ {E : Type 0} (spelling : Spelling) (l : ℕ) where
     refused-of (Err e) (s, taken, fits, h, bytes) =
         let k = rest-of old new b s known taken in
         subst (λ o. IsRefusedBy o e (Refuses spelling b 0 (Some l))) (sym k.1)
-        (subst (λ z. IsRefusedBy (Some k.0) e (Refuses spelling z 0 (Some l))) (sym k.2) (h k.0))
+        (subst (λ z. IsRefusedBy (Some k.0) e (Refuses spelling z 0 (Some l))) (sym k.2) (followed s e h k.0))
 
     within-of : (left : List ℕ) (x : Result Tree (Error E)) → new ≡ Some left →
         TakesBytes {E = E} spelling 0 old l new x → length b ≤ length left + greatest_offset
@@ -124,10 +131,10 @@ module _ {E : Type 0} (spelling : Spelling) (l : ℕ) where
             (subst AreBytes (sym (append-nil t)) bytes)
 
         by : ((r : List ℕ) × (s ≡ t ++ r)) ⊎ ((r : List ℕ) × (t ≡ s ++ r)) → IsFailed new e
-        by (inl (r, is)) = fails new t r e h (λ f. never-refused l spelling s [] (t ++ r) v f good
+        by (inl (r, is)) = fails new t r e (followed t e h) (λ f. never-refused l spelling s [] (t ++ r) v f good
             (sym is ∙ sym (append-nil s)) (subst AreBytes is (read_bytes spelling s 0 (Some l) v good))) ended
-        by (inr (r, is)) = fails new t [] e h (λ f. never-refused l spelling s r (t ++ []) v f good (append-nil t ∙ is)
-            (subst AreBytes (sym (append-nil t)) bytes)) ended
+        by (inr (r, is)) = fails new t [] e (followed t e h) (λ f. never-refused l spelling s r (t ++ []) v f good
+            (append-nil t ∙ is) (subst AreBytes (sym (append-nil t)) bytes)) ended
 
     bounded-of : (left : List ℕ) (x : Result Tree (Error E)) → new ≡ Some left →
         TakesBytes {E = E} spelling 0 old l new x → IfOk x (λ v. node_count v + payload_size v + length left ≤ length b)

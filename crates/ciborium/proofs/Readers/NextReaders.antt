@@ -15,10 +15,10 @@ use Rattle.ciborium.proofs.Items.{FrontReads.{ended-ll, failed-fault, granted-he
 use Rattle.ciborium.proofs.Items.{ItemHeads.{first-payload, header_of}, TakenOnly.{taken-beginning, taken-none}}
 use Rattle.ciborium.proofs.Items.TakenOnly.{taken-then, taken-to, takes-end, takes-only}
 use Rattle.ciborium.proofs.Readers.HandedReaders.{handed-denied, handed-given, handed-memory, on-ok, some-map}
-use Rattle.ciborium.proofs.{Readers.{KnownReaders.whole-of, WhateverFollows.taken-tree}, Turns.Pulled.refused-from}
-use Rattle.ciborium.{proofs.Turns.Pulled.refused-map, specs.{Errors.{fault_of, from_ll}, NextItems.IfNotEnded}}
+use Rattle.ciborium.proofs.{Readers.{KnownReaders.whole-of, WhateverFollows.{taken-refused, taken-tree}}}
+use Rattle.ciborium.{proofs.Turns.Pulled.{refused-from, refused-map}, specs.Errors.{fault_of, from_ll}}
 use Rattle.ciborium.specs.NextItems.{IsReadIo, IsReadFrom, MatchItem, MovesOffset, Otherwise, ReadsNextAsTypeFrom}
-use Rattle.ciborium.specs.NextItems.{ReadsNextAtFrom, TakesTo, TellsEnd, TellsEndAt, behind_head}
+use Rattle.ciborium.specs.NextItems.{IfNotEnded, ReadsNextAtFrom, TakesTo, TellsEnd, TellsEndAt, behind_head}
 use Rattle.ciborium.specs.{TypedAnswers.{IsFaultAhead, RefusesGiven, TakesGiven}, ValueAnswers.TakesBytes}
 use Rattle.ciborium.specs.{ValueClauses.ReadsWhole, declared.de.{byte_source.ByteSource.ByteSource, error.Error.Error}}
 use Rattle.ciborium.specs.{declared.de.error.Error.TheVariants.TooLong, inner.ByteSources.{HasTakenSince, IsUnread}}
@@ -246,8 +246,8 @@ module _ {S W : Type 0} (E : Type 0) (can_fail : Bool) (remaining : S → Option
         subst (λ y. Consumes (remaining lent) (remaining y) b) (sym given)
             (subst (λ y. Consumes y (left_of remaining e) b) (begun-left remaining d lent p begins) consumed),
         omega (arith, count, begun, less),
-        (λ c. refused-map (Some c) (from_ll x) (HeadRefuses (b ++ c) p) (λ r. Refuses any (b ++ c) p (Some l) r)
-            (λ r h. Refuses.no_head h)
+        taken-refused E any p b l (from_ll x) (λ c. refused-map (Some c) (from_ll x) (HeadRefuses (b ++ c) p)
+            (λ r. Refuses any (b ++ c) p (Some l) r) (λ r h. Refuses.no_head h)
             (refused-from (Some c) x (HeadRefuses (b ++ c) p)
             (subst (λ n. Rattle.ciborium_ll.specs.ReaderSteps.IsRefusalOf (Some c) x (HeadRefuses (b ++ c) n)) begun
             (reads-head {E = E} (Some (b ++ c)) (Some c) (b ++ c) d.counter.count e.counter.count (Err x) refl

@@ -11,16 +11,18 @@ use Rattle.ciborium_ll.specs.{StringRefusal.IsAllowed, Strings.{ContentRefuses, 
 use Rattle.ciborium_ll.specs.declared.{decoder.Decoder.Decoder, header.Error.{Error as LlError, TheVariants.Io}}
 use Rattle.ciborium_ll.specs.declared.header.{Error.TheVariants.{Syntax, TooLong, Memory}, Header.Header}
 use Rattle.ciborium_ll.specs.declared.strings.StringType.{StringType}
-use Rattle.ciborium_value.specs.{Spelling.{Spelling, any, deterministic, IsReadAs}, Tree.Tree, View.tree_of}
-use Rattle.ciborium_value.specs.{declared.tree.Value.Value, inner.ReadItems.string_tree}
+use Rattle.ciborium_value.specs.{Refuses.Refuses, Spelling.{Spelling, any, deterministic, IsReadAs}, Tree.Tree}
+use Rattle.ciborium_value.specs.{View.tree_of, declared.tree.Value.Value, inner.ReadItems.string_tree}
 use Rattle.ciborium.proofs.{Readers.Outcomes.left-at, Turns.{Fronts.ahead-at, Pulled.refused-from}}
 use Rattle.ciborium.specs.Errors.{from_ll}
-use Rattle.ciborium.specs.ValueAnswers.{IsTakenFrom, TakesBytes}
+use Rattle.ciborium.specs.ValueAnswers.{IsRefusedBy, IsTakenFrom, TakesBytes}
 use Rattle.ciborium.specs.declared.de.{error.Error.Error, front.Part.Part}
 use Rattle.ciborium.specs.inner.StringAnswers.{IsStringPart, IsStringRead}
 use Rattle.ciborium.specs.inner.Turns.{IsTreeRead}
 use Rattle.ciborium.specs.inner.ValuesInBytes.{IsAt, StandsAt}
 use Rattle.ciborium_ll.specs.ReaderSteps as reading
+use Rattle.ciborium_ll.specs.Refusal as refusal
+use Rattle.ciborium.specs.declared.de.error.Error.TheVariants as errors
 
 no-bytes : AreBytes []
 no-bytes k d h = absurd (omega (arith, h))
@@ -202,6 +204,12 @@ begun-stands (deterministic order) d xs none at = (
 )
 
 -- what was taken, where that is said whatever follows it
+pub taken-refused : (E : Type 0) (spelling p s l : _) (e : Error E) → ((c : List ℕ) →
+    IsRefusedBy (Some c) e (Refuses spelling (s ++ c) p (Some l))) → IsTakenFrom {E = E} spelling p s l (Err e)
+taken-refused E spelling p s l (errors.Io e) f =
+    subst (λ z. Refuses spelling z p (Some l) refusal.io) (append-nil s) (f [] refl)
+taken-refused E spelling p s l u f = f
+
 pub taken-tree : (E : Type 0) {S W : Type 0} (spelling : Spelling) (d : Decoder S W) (l p : ℕ) (s : List ℕ)
     (r : Result Tree (Error E)) → OnOk r (d.pushed ≡ None) →
     ((c : List ℕ) → IsTreeRead {S = List ℕ} {E = E} spelling Some (with_left d c) l (s ++ c) p r) →
@@ -212,7 +220,7 @@ taken-tree E spelling d l p s (Ok v) none f =
     let whole : item.taken ≡ s = sym (append-nil item.taken) ∙ ap (λ (z : List ℕ). item.taken ++ z) left ∙
     sym item.split ∙ append-nil s in
     subst (λ z. IsReadAs spelling z p (Some l) v) whole item.read
-taken-tree E spelling d l p s (Err e) none f = f
+taken-tree E spelling d l p s (Err e) none f = taken-refused E spelling p s l e f
 
 -- what was taken of a reader that was lent
 pub taken-lent : (E : Type 0) {S W : Type 0} (spelling : Spelling) (remaining : S → Option (List ℕ)) (a b : Decoder S W)

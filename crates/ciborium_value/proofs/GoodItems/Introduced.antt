@@ -297,8 +297,7 @@ parts_of spelling {b} {p} (IsInside.more {vs} {r} {s} {t} {q} {v} {due} {next} {
     }
 
 -- one part more
-pub inside-more : (spelling : Spelling) (b : List ℕ) (p : ℕ) (l below : Limit) (vs : List Tree) (v : Tree)
-    (r s : List ℕ) (q u : ℕ) (now next : Due) → IsInside spelling b p l vs r q now below →
+pub inside-more : (spelling b p l below vs v r s q u now next : _) → IsInside spelling b p l vs r q now below →
     ReadsItem spelling below r q v s u → next_due now ≡ Some next →
     AreInOrder spelling (keys_among now (vs ++ (v ∷ []))) → IsInside spelling b p l (vs ++ (v ∷ [])) s u next below
 inside-more spelling b p l below vs v r s q u now next i item e order =
@@ -334,8 +333,7 @@ no-break-due zero (k ∷ vs) h = cc
 no-break-due (suc n) (k ∷ []) h = cc
 no-break-due (suc n) (k ∷ (v ∷ vs)) h = no-break-due n vs h
 
-pub never-open : (order : KeyOrder) (b : List ℕ) (p : ℕ) (l : Limit) (vs : List Tree) (r : List ℕ) (q : ℕ)
-    (below : Limit) → HasParts (deterministic order) b p l vs r q (keys None) below → ⊥
+pub never-open : (order b p l vs r q below : _) → HasParts (deterministic order) b p l vs r q (keys None) below → ⊥
 never-open order b p l vs r q below i = by i.start i.begins i.due
   where
     by : (start : Due) → BeginsContainer b i.size (i.good ++ r) start → due_after start vs ≡ Some (keys None) → ⊥
@@ -436,9 +434,8 @@ opened-read spelling m g b p l i v r s q u low high fine spelled means nests spl
     }
 
 -- an array or map that is complete
-pub reads-container : (spelling : Spelling) (b : List ℕ) (p : ℕ) (l below : Limit) (vs : List Tree) (r s : List ℕ)
-    (q u : ℕ) (now : Due) → IsInside spelling b p l vs r q now below → IsComplete now r q s u →
-    ReadsItem spelling l b p (container_of now vs) s u
+pub reads-container : (spelling b p l below vs r s q u now : _) → IsInside spelling b p l vs r q now below →
+    IsComplete now r q s u → ReadsItem spelling l b p (container_of now vs) s u
 reads-container spelling b p l below vs r s q u now inside done = by i.start i.begins i.due i.in_order
   where
     i : HasParts spelling b p l vs r q now below
@@ -491,9 +488,8 @@ reads-container spelling b p l below vs r s q u now inside done = by i.start i.b
 -- ---- tags
 
 -- a tag with its item
-pub reads-tag : (spelling : Spelling) (b : List ℕ) (p t : ℕ) (l below : Limit) (r s : List ℕ) (q u : ℕ) (v : Tree) →
-    IsTagAt spelling b p t r q → (IsFoldingAt t r → ⊥) → IsOneLess l below → ReadsItem spelling below r q v s u →
-    ReadsItem spelling l b p (trees.tag t v) s u
+pub reads-tag : (spelling b p t l below r s q u v : _) → IsTagAt spelling b p t r q → (IsFoldingAt t r → ⊥) →
+    IsOneLess l below → ReadsItem spelling below r q v s u → ReadsItem spelling l b p (trees.tag t v) s u
 reads-tag spelling b p t l below r s q u v a never level i =
     let (h, is, len, split) = a.tag in
     let w : List ℕ = i.taken in
@@ -527,9 +523,9 @@ folding-reads spelling t l r s q u v i f =
     (w.0, (let f : v ≡ trees.bytes w.0 = cc in f), w.2, k.2)
 
 -- a tag that folds, over a string whose bytes it takes
-pub reads-folded : (spelling : Spelling) (b : List ℕ) (p t : ℕ) (l : Limit) (r s : List ℕ) (q u : ℕ) (y : List ℕ)
-    (v : Tree) → IsTagAt spelling b p t r q → IsFoldingAt t r → ReadsItem spelling l r q (trees.bytes y) s u →
-    (IsUnwanted spelling y → ⊥) → bignum_meaning t y ≡ Some v → ReadsItem spelling l b p v s u
+pub reads-folded : (spelling b p t l r s q u y v : _) → IsTagAt spelling b p t r q → IsFoldingAt t r →
+    ReadsItem spelling l r q (trees.bytes y) s u → (IsUnwanted spelling y → ⊥) → bignum_meaning t y ≡ Some v →
+    ReadsItem spelling l b p v s u
 reads-folded spelling b p t l r s q u y v a f i wanted means =
     let (h, is, len, split) = a.tag in
     let w : List ℕ = i.taken in

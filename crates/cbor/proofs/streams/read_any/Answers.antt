@@ -1,12 +1,13 @@
 use Rattle.std.{proofs.Common.{[], Err, Ok, Some}, specs.declared.io.Error.Error}
 use Rattle.ciborium_value.specs.{Spelling.any, View.tree_of}
-use Rattle.ciborium.proofs.Readers.KnownReaders.{whole-of}
+use Rattle.ciborium.proofs.Readers.KnownReaders.{followed, whole-of}
 use Rattle.cbor.proofs.{ReadBytes.named-anyway, StreamedItems.{taken-size, what-is-left}}
 use Rattle.cbor.specs.declared.reading.Spelling.TheVariants.{Any}
 use Rattle.cbor.proofs.streams.read_any.Goals as goal
 
 pub judge_error-requires : goal.judge_error-requires
-judge_error-requires g c = named-anyway (Some []) c.in-Err.error _ (c.in-Err.ensures.next.value.3 [])
+judge_error-requires g c = named-anyway (Some []) c.in-Err.error _
+    (followed any c.args.limit _ c.in-Err.error c.in-Err.ensures.next.value.3 [])
 
 pub returns-in-Ok-Some : goal.returns-in-Ok-Some
 returns-in-Ok-Some g c b e =
