@@ -235,9 +235,8 @@ module _ (spelling : Spelling) where
   ReadMeets d = (b : List ℕ) (p : ℕ) (l : Limit) → EachIsByte b → 2 * length b < d → Meets b p l (read spelling d b p l)
 
   abbrev PartsMeet : ℕ → Type 0
-  PartsMeet d = (b : List ℕ) (p : ℕ) (l : Limit) (vs : List Tree) (r : List ℕ) (q : ℕ) (now : Due) (below : Limit) →
-      IsInside spelling b p l vs r q now below → EachIsByte r → 2 * length r + 1 < d →
-      Meets b p l (parts spelling d (Some now) vs r q below)
+  PartsMeet d = (b p l vs r q now below : _) → IsInside spelling b p l vs r q now below → EachIsByte r →
+      2 * length r + 1 < d → Meets b p l (parts spelling d (Some now) vs r q below)
 
   -- ---- containers
 

@@ -116,9 +116,8 @@ module _ (spelling : Spelling) where
       parts spelling d (Some now) vs b p l ≡ a
 
   -- an array or map that is complete
-  container-read : (d : ℕ) → RunsAt d → (b : List ℕ) (p : ℕ) (l below : Limit) (vs : List Tree) (r s : List ℕ)
-      (q u : ℕ) (now : Due) → HasParts spelling b p l vs r q now below → IsComplete now r q s u →
-      2 * length b < suc d → read spelling (suc d) b p l ≡ ends (container_of now vs) s u
+  container-read : (d : ℕ) → RunsAt d → (b p l below vs r s q u now : _) → HasParts spelling b p l vs r q now below →
+      IsComplete now r q s u → 2 * length b < suc d → read spelling (suc d) b p l ≡ ends (container_of now vs) s u
   container-read d run b p l below vs r s q u now i done fuel =
       let z = opens-read spelling d p i.size b (i.good ++ r) i.start l i.head i.begins in
       let at = i.at in

@@ -398,10 +398,9 @@ complete-open_keys (k ∷ []) now r s q u due done =
 complete-open_keys (k ∷ (v ∷ vs)) now r s q u due done = complete-open_keys vs now r s q u due done
 
 -- an array or map, with the item of its parts
-definite-read : (spelling : Spelling) (h g b : List ℕ) (p : ℕ) (l : Limit) (i : Item) (v : Tree) (r s : List ℕ)
-    (k q u : ℕ) → Spells (h ++ g) i → meaning i ≡ Some v → IsWithin l (nesting i) → IsSpelledSo spelling (h ++ g) v →
-    length h ≡ k → b ≡ h ++ (g ++ r) → r ≡ s → q ≡ u → q ≡ p + k + length g → q ≤ greatest_offset →
-    ReadsItem spelling l b p v s u
+definite-read : (spelling h g b p l i v r s k q u : _) → Spells (h ++ g) i → meaning i ≡ Some v →
+    IsWithin l (nesting i) → IsSpelledSo spelling (h ++ g) v → length h ≡ k → b ≡ h ++ (g ++ r) → r ≡ s → q ≡ u →
+    q ≡ p + k + length g → q ≤ greatest_offset → ReadsItem spelling l b p v s u
 definite-read spelling h g b p l i v r s k q u spelled means nests so len split same here at fits =
     let both : length (h ++ g) ≡ length h + length g = length-append h g in
     record {
@@ -411,10 +410,10 @@ definite-read spelling h g b p l i v r s k q u spelled means nests so len split 
       at = omega (arith, both, len, at, here);
     }
 
-opened-read : (spelling : Spelling) (m : ℕ) (g b : List ℕ) (p : ℕ) (l : Limit) (i : Item) (v : Tree) (r s : List ℕ)
-    (q u : ℕ) → 2 ≤ m → m ≤ 5 → spelling_fault spelling b ≡ None → Spells (open_byte m ∷ (g ++ (break_byte ∷ []))) i →
-    meaning i ≡ Some v → IsWithin l (nesting i) → b ≡ open_byte m ∷ (g ++ r) →
-    r ≡ break_byte ∷ s → q + 1 ≡ u → q ≡ p + 1 + length g → u ≤ greatest_offset → ReadsItem spelling l b p v s u
+opened-read : (spelling m g b p l i v r s q u : _) → 2 ≤ m → m ≤ 5 → spelling_fault spelling b ≡ None →
+    Spells (open_byte m ∷ (g ++ (break_byte ∷ []))) i → meaning i ≡ Some v → IsWithin l (nesting i) →
+    b ≡ open_byte m ∷ (g ++ r) → r ≡ break_byte ∷ s → q + 1 ≡ u → q ≡ p + 1 + length g → u ≤ greatest_offset →
+    ReadsItem spelling l b p v s u
 opened-read spelling m g b p l i v r s q u low high fine spelled means nests split same here at fits =
     let x : ℕ = open_byte m in
     let both : length (g ++ (break_byte ∷ [])) ≡ length g + 1 = length-append g (break_byte ∷ []) in

@@ -152,8 +152,8 @@ module _ (spelling : Spelling) where
       ap (λ o. given (semantic p Simple) o r (past p b r)) none
 
   -- parts stand before what refuses, and with it
-  part-run : (d : ℕ) (b : List ℕ) (p : ℕ) (l below : Limit) (vs : List Tree) (r : List ℕ) (q : ℕ) (now : Due)
-      (a : Answer Tree) → IsInside spelling b p l vs r q now below → IsDue now r q → 2 * length b < suc d →
+  part-run : (d b p l below vs r q now a : _) → IsInside spelling b p l vs r q now below → IsDue now r q →
+      2 * length b < suc d →
       ((c : ℕ) → 2 * length r < c →
       and_then (next_part spelling (parts spelling c) now vs q below) (read spelling c r q below) ≡ a) →
       read spelling (suc d) b p l ≡ a
@@ -171,8 +171,7 @@ module _ (spelling : Spelling) where
           (and_then (next_part spelling (parts spelling c) now vs q below) (read spelling c r q below)))
           (due-open now r q due) ∙ then c (omega (arith, lc))
 
-  inside-bytes : (b : List ℕ) (p : ℕ) (l below : Limit) (vs : List Tree) (r : List ℕ) (q : ℕ) (now : Due) →
-      IsInside spelling b p l vs r q now below → EachIsByte b → EachIsByte r
+  inside-bytes : (b p l below vs r q now : _) → IsInside spelling b p l vs r q now below → EachIsByte b → EachIsByte r
   inside-bytes b p l below vs r q now inside bytes =
       let i = parts_of spelling inside in
       bytes_after i.good r (opens-bytes b (i.good ++ r) i.size i.start i.begins bytes)
