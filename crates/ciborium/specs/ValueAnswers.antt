@@ -12,8 +12,8 @@ use Rattle.ciborium_ll.specs.Refusal as refusal
 -- ---- refusals
 
 -- P holds of the refusal that an error is; of `Memory` nothing is said, and `Semantic` has its offset.
--- P speaks of bytes of which `rest` was not taken: `Io` is a refusal only where that is known to be
--- empty
+-- `rest` is what was not taken, and matters at `Io` alone (for which `IsTakenFrom` has a line): a
+-- refusal only where that is known to be empty
 abbrev pub IsRefusedBy : {E : Type 0} → Option (List ℕ) → Error E → (Refusal → Type 0) → Type 0
 IsRefusedBy rest (Io e) P = rest ≡ Some [] → P refusal.io
 IsRefusedBy rest (Syntax p) P = P (refusal.syntax p)
