@@ -1,8 +1,8 @@
 -- The order of keys that deterministic encoding asks for, in every map of a tree (RFC 8949, section
 -- 4.2; length-first: section 4.2.3, bytewise: section 4.2.1).
 use Rattle.std.specs.{Prelude.{◌≡◌, List, [], ◌∷◌}, declared.cmp.Ordering.TheVariants.Less}
-use Rattle.ciborium_value.specs.{Canonical.key_order, Tree.{Tree, tag, array, map, Trees, no_trees, tree, TreePairs}}
-use Rattle.ciborium_value.specs.Tree.{no_tree_pairs, tree_pair}
+use Rattle.ciborium_value.specs.{Canonical.key_order, Tree.{Tree, integer, bytes, text, boolean, null, tag, array, map}}
+use Rattle.ciborium_value.specs.Tree.{Trees, no_trees, tree, TreePairs, no_tree_pairs, tree_pair}
 use Rattle.ciborium_value.specs.declared.key_order.KeyOrder.{KeyOrder}
 
 -- each stands behind the one before it in the order
@@ -19,10 +19,14 @@ keys_of (tree_pair k v ps) = k ∷ keys_of ps
 abbrev mutual
   -- in every map of a tree the keys strictly rise
   pub HasRisingKeys : KeyOrder → Tree → Type 0
+  HasRisingKeys o (integer z) = Unit {0}
+  HasRisingKeys o (bytes b) = Unit {0}
+  HasRisingKeys o (text b) = Unit {0}
+  HasRisingKeys o (boolean b) = Unit {0}
+  HasRisingKeys o null = Unit {0}
   HasRisingKeys o (tag t v) = HasRisingKeys o v
   HasRisingKeys o (array vs) = HaveRisingKeys o vs
   HasRisingKeys o (map ps) = AreRising o (keys_of ps) × PairsHaveRisingKeys o ps
-  HasRisingKeys o _ = Unit {0}
 
   -- of each tree
   pub HaveRisingKeys : KeyOrder → Trees → Type 0

@@ -40,8 +40,16 @@ is_bignum_tag t = (t == 2) || (t == 3)
 
 -- the definite byte string of at most 16 bytes that an item is
 abbrev pub short_string : Item → Option (List ℕ)
+short_string (item.unsigned n) = None
+short_string (item.negative n) = None
 short_string (item.bytes false b) = if nat_le (length b) 16 then Some b else None
-short_string _ = None
+short_string (item.bytes true b) = None
+short_string (item.text open_ b) = None
+short_string (item.array open_ is) = None
+short_string (item.map open_ ps) = None
+short_string (item.tag n i) = None
+short_string (item.simple n) = None
+short_string (item.float raw) = None
 
 -- the bytes over which a tag folds: tag 2 or 3 over a definite byte string of at most 16 bytes
 abbrev pub folding_bytes : ℕ → Item → Option (List ℕ)

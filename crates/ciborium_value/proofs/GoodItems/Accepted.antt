@@ -8,8 +8,7 @@ use Rattle.ciborium_value.specs.{Nesting.{Limit, IsWithin}, Spelling.{Spelling, 
 use Rattle.ciborium_value.specs.{Tree.Tree, declared.key_order.KeyOrder.KeyOrder, laws.RefusalLaws.DeterministicReading}
 
 -- what a spelling accepts is read in any
-pub anyway : (spelling : Spelling) (s : List ℕ) (p : ℕ) (l : Limit) (v : Tree) → IsReadAs spelling s p l v →
-    IsReadAs any s p l v
+pub anyway : (spelling s p l v : _) → IsReadAs spelling s p l v → IsReadAs any s p l v
 anyway spelling s p l v h = (h.0, h.1, h.2, h.3, h.4, tt)
 
 pub accepted : (order : KeyOrder) (s : List ℕ) (p : ℕ) (l : Limit) (v : Tree) → IsDeterministic order s v →
@@ -23,9 +22,8 @@ accepted order s p l v (bytes, tree) nests fits = (
   (bytes, tree.rises),
 )
 
-pub deterministic_tree : (order : KeyOrder) (s : List ℕ) (p : ℕ) (l : Limit) (v : Tree) →
-    IsReadAs (deterministic order) s p l v
-    → IsDeterministic order s v × IsWithin l (nesting (item_of v)) × (p + length s ≤ greatest_offset)
+pub deterministic_tree : (order s p l v : _) → IsReadAs (deterministic order) s p l v →
+    IsDeterministic order s v × IsWithin l (nesting (item_of v)) × (p + length s ≤ greatest_offset)
 deterministic_tree order s p l v (i, spelled, means, nests, fits, (bytes, rises)) =
     let proper = proper_meaning i s v spelled (item_bytes i s spelled (ap is_some means)) (omega (arith, fits)) means in
     let same : i ≡ item_of v = one_item s i (item_of v) spelled
@@ -39,8 +37,7 @@ deterministic_tree order s p l v (i, spelled, means, nests, fits, (bytes, rises)
     )
 
 -- such an encoding spells the item of its tree
-pub written-item : (order : KeyOrder) (s : List ℕ) (p : ℕ) (l : Limit) (v : Tree) →
-    IsReadAs (deterministic order) s p l v → Spells s (item_of v)
+pub written-item : (order s p l v : _) → IsReadAs (deterministic order) s p l v → Spells s (item_of v)
 written-item order s p l v h =
     let c = deterministic_tree order s p l v h in
     subst (λ b. Spells b (item_of v)) (sym c.0.0) (written_spells (item_of v) (IsProperItem-item_of v c.0.1.proper))

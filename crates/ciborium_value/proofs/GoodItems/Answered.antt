@@ -180,8 +180,7 @@ module _ (k : StringType) where
       here b q (syntax q) room (ChunkRefuses.other has (string-begins k b (raw w r) e (λ n' r' g. absurd cc))
       (break-begins b (raw w r) e (λ r' g. absurd cc)))
 
-  pub pieces-meet : (d : ℕ) (b : List ℕ) (q : ℕ) → q ≤ greatest_offset → EachIsByte b → length b < d →
-      PM b q (pieces d m b q)
+  pub pieces-meet : (d b q : _) → q ≤ greatest_offset → EachIsByte b → length b < d → PM b q (pieces d m b q)
   pieces-meet zero b q room bytes fuel = let never : ⊥ = omega (arith, fuel) in absurd never
   pieces-meet (suc d) b q room bytes fuel =
       checked-meets (PM b q) (head_refusal b q) _ (λ e h. here b q e room (ChunkRefuses.no_head h))
@@ -194,9 +193,8 @@ abbrev EndMeets : Due → List ℕ → ℕ → Option (List ℕ × ℕ) → Type
 EndMeets now b p None = IsDue now b p
 EndMeets now b p (Some e) = IsComplete now b p e.0 e.1
 
-break-meets : (now : Due) (b : List ℕ) (p : ℕ) → ((p < greatest_offset → IsAtFront 255 b → ⊥) → EndMeets now b p None) →
-    ((r : List ℕ) → b ≡ 255 ∷ r → p < greatest_offset → EndMeets now b p (Some (r, p + 1))) →
-    EndMeets now b p (break_at b p)
+break-meets : (now b p : _) → ((p < greatest_offset → IsAtFront 255 b → ⊥) → EndMeets now b p None) → ((r : List ℕ) →
+    b ≡ 255 ∷ r → p < greatest_offset → EndMeets now b p (Some (r, p + 1))) → EndMeets now b p (break_at b p)
 break-meets now [] p f g = f (λ h k. let z = k.1 in absurd cc)
 break-meets now (x ∷ b) p f g =
     cond_both (ltb p greatest_offset && eqb x 255) _ _ (EndMeets now (x ∷ b) p)
@@ -339,9 +337,8 @@ module _ (spelling : Spelling) where
         (λ z. subst (λ j. Refuses spelling b p j recursion_limit_exceeded) (sym z) (Refuses.no_level k r w good begins))
         (λ m level. recs b p l [] r (p + k) w m (IsInside.begun good begins level fits) each few)
 
-    string-item : (kind : StringType) (n k : ℕ) (r : List ℕ) (a : Answer (List ℕ)) →
-        HasHead b (string_major kind) n k r → p + k + n ≤ greatest_offset → StringMeets kind b p n k r a →
-        Meets b p l (made (string_tree kind) a)
+    string-item : (kind n k r : _) (a : Answer (List ℕ)) → HasHead b (string_major kind) n k r →
+        p + k + n ≤ greatest_offset → StringMeets kind b p n k r a → Meets b p l (made (string_tree kind) a)
     string-item kind n k r (refused e) st fits f = Refuses.string kind good f
     string-item kind n k r (ends y x u) st fits (split, size, ok, at) =
         subst (λ z. ReadsItem spelling l b p (string_tree kind y) x z) (sym at)
@@ -385,9 +382,8 @@ module _ (spelling : Spelling) where
     counted-meets (suc (suc (suc (suc (suc (suc (suc m))))))) n k r lt st fits sf = let never : ⊥ = omega (arith, lt) in
         absurd never
 
-    opened-meets : (m : ℕ) (r : List ℕ) → b ≡ (m * 32 + 31) ∷ r → m < 8 → (m ≡ 0 → ⊥) → (m ≡ 1 → ⊥) → (m ≡ 6 → ⊥) →
-        p < greatest_offset →
-        Meets b p l (opened_item spelling (λ w. parts spelling d (Some w) []) (pieces d) m r p l)
+    opened-meets : (m r : _) → b ≡ (m * 32 + 31) ∷ r → m < 8 → (m ≡ 0 → ⊥) → (m ≡ 1 → ⊥) → (m ≡ 6 → ⊥) →
+        p < greatest_offset → Meets b p l (opened_item spelling (λ w. parts spelling d (Some w) []) (pieces d) m r p l)
     opened-meets zero r e lt a0 a1 a6 room = absurd (a0 refl)
     opened-meets (suc zero) r e lt a0 a1 a6 room = absurd (a1 refl)
     opened-meets (suc (suc zero)) r e lt a0 a1 a6 room =

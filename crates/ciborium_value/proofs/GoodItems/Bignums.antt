@@ -216,8 +216,7 @@ none-large_3 y = by (ltb (big_endian y) (2 ^ 64)) (ltb (big_endian y) (2 ^ 127))
     by false true e f = absurd cc
     by false false e f = ltb-false _ _ e
 
-pub none-large : (t : ℕ) (y : List ℕ) → is_bignum_tag t ≡ true → bignum_meaning t y ≡ None → (t ≡ 3) ×
-    (2 ^ 127 ≤ big_endian y)
+pub none-large : (t y : _) → is_bignum_tag t ≡ true → bignum_meaning t y ≡ None → (t ≡ 3) × (2 ^ 127 ≤ big_endian y)
 none-large t y is h = by (bignum-tag t is)
   where
     by : (t ≡ 2) ⊎ (t ≡ 3) → (t ≡ 3) × (2 ^ 127 ≤ big_endian y)

@@ -69,8 +69,7 @@ fault-short order b m n k r lt s none =
 
 -- ---- the others
 
-pub fault-open : (order : KeyOrder) (m : ℕ) (r : List ℕ) → 2 ≤ m → m ≤ 5 →
-    spelling_fault (deterministic order) ((m * 32 + 31) ∷ r) ≡ Some Open
+pub fault-open : (order m r : _) → 2 ≤ m → m ≤ 5 → spelling_fault (deterministic order) ((m * 32 + 31) ∷ r) ≡ Some Open
 fault-open order m r low high = fault-byte order m 31 r (omega arith) ∙
     (let e : deterministic_fault m 31 r ≡ Some Open = grind (arith, nat_tests) in e)
 
@@ -82,8 +81,7 @@ pub fault-float : (spelling : Spelling) (j : ℕ) (r : List ℕ) → j < 3 → s
 fault-float (deterministic order) (suc (suc (suc j))) r h = let never : ⊥ = omega (arith, h) in absurd never
 fault-float u v r h = refl
 
-pub fault-simple : (spelling : Spelling) (s : List ℕ) (n : ℕ) (r : List ℕ) → IsSimple s n → (n ≡ 23 → ⊥) →
-    spelling_fault spelling (s ++ r) ≡ None
+pub fault-simple : (spelling s n r : _) → IsSimple s n → (n ≡ 23 → ⊥) → spelling_fault spelling (s ++ r) ≡ None
 fault-simple any s n r h other = refl
 fault-simple (deterministic order) s n r (inl h) other =
     let few = h.0 in
@@ -92,6 +90,5 @@ fault-simple (deterministic order) s n r (inl h) other =
 fault-simple (deterministic order) s n r (inr h) other =
     ap (λ (c : List ℕ). spelling_fault (deterministic order) (c ++ r)) h.2
 
-pub fault-undefined : (order : KeyOrder) (r : List ℕ) → spelling_fault (deterministic order) (247 ∷ r) ≡ Some
-    NotShortest
+pub fault-undefined : (order r : _) → spelling_fault (deterministic order) (247 ∷ r) ≡ Some NotShortest
 fault-undefined order r = refl

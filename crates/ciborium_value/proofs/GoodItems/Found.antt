@@ -70,8 +70,7 @@ complete-end (values n) b r p q h = absurd h
 
 module _ (spelling : Spelling) where
   -- a break cannot be read
-  not-break : (d p q : ℕ) (b r : List ℕ) (v : Tree) (l : Limit) → read spelling d b p l ≡ ends v r q →
-      break_at b p ≡ None
+  not-break : (d p q b r v l : _) → read spelling d b p l ≡ ends v r q → break_at b p ≡ None
   not-break zero p q b r v l h = absurd cc
   not-break (suc d) p q [] r v l h = refl
   not-break (suc d) p q (x ∷ b) r v l h = by (ltb p greatest_offset) (eqb x 255)
@@ -136,18 +135,16 @@ module _ (spelling : Spelling) where
   no-string m f g (inl e) = f e
   no-string m f g (inr e) = g e
 
-  positive-read : (d p q n : ℕ) (s x b : List ℕ) (l : Limit) → IsHead s 0 n → spelling_fault spelling b ≡ None →
-      b ≡ s ++ x → q ≡ p + length s → q ≤ greatest_offset →
-      read spelling (suc d) b p l ≡ ends (trees.integer (pos n)) x q
+  positive-read : (d p q n s x b l : _) → IsHead s 0 n → spelling_fault spelling b ≡ None → b ≡ s ++ x →
+      q ≡ p + length s → q ≤ greatest_offset → read spelling (suc d) b p l ≡ ends (trees.integer (pos n)) x q
   positive-read d p q n s x b l h fine e k room =
       let st : HasHead b 0 n (length s) x = (s, h, refl, e) in
       read-counted spelling d p q b l 0 n (length s) x (omega arith) st
       (good-head b 0 n (length s) p x (omega arith) st fine (omega (arith, k, room))
       (λ z. absurd (no-string 0 (λ i. omega (arith, i)) (λ i. omega (arith, i)) z))) k
 
-  negative-read : (d p q n : ℕ) (s x b : List ℕ) (l : Limit) → IsHead s 1 n → spelling_fault spelling b ≡ None →
-      b ≡ s ++ x → q ≡ p + length s → q ≤ greatest_offset →
-      read spelling (suc d) b p l ≡ ends (trees.integer (negsuc n)) x q
+  negative-read : (d p q n s x b l : _) → IsHead s 1 n → spelling_fault spelling b ≡ None → b ≡ s ++ x →
+      q ≡ p + length s → q ≤ greatest_offset → read spelling (suc d) b p l ≡ ends (trees.integer (negsuc n)) x q
   negative-read d p q n s x b l h fine e k room =
       let st : HasHead b 1 n (length s) x = (s, h, refl, e) in
       read-counted spelling d p q b l 1 n (length s) x (omega arith) st
@@ -205,9 +202,8 @@ module _ (spelling : Spelling) where
       chosen StringType.Bytes = refl
       chosen StringType.Text = refl
 
-  simple-read : (d p q n : ℕ) (s x b : List ℕ) (l : Limit) (v : Tree) → IsSimple s n → simple_meaning n ≡ Some v →
-      spelling_fault spelling b ≡ None → b ≡ s ++ x → q ≡ p + length s → q ≤ greatest_offset →
-      read spelling (suc d) b p l ≡ ends v x q
+  simple-read : (d p q n s x b l v : _) → IsSimple s n → simple_meaning n ≡ Some v → spelling_fault spelling b ≡ None →
+      b ≡ s ++ x → q ≡ p + length s → q ≤ greatest_offset → read spelling (suc d) b p l ≡ ends v x q
   simple-read d p q n s x b l v (inl h) means fine e k room =
       let is : b ≡ (224 + n) ∷ x = e ∙ ap (λ (c : List ℕ). c ++ x) h.1 in
       let ls : length s ≡ 1 = ap length h.1 in
@@ -261,9 +257,8 @@ module _ (spelling : Spelling) where
     wanted (deterministic order) y f = not_so _ (λ e. f (foldable-is y e))
 
     -- folded
-    pub folded-read : (y : List ℕ) (v : Tree) → folding_bytes t i ≡ Some y →
-        IsReadAs spelling r (p + length h) l (trees.bytes y) → (IsUnwanted spelling y → ⊥) →
-        bignum_meaning t y ≡ Some v → read spelling (suc d) b p l ≡ ends v x q
+    pub folded-read : (y v : _) → folding_bytes t i ≡ Some y → IsReadAs spelling r (p + length h) l (trees.bytes y) →
+        (IsUnwanted spelling y → ⊥) → bignum_meaning t y ≡ Some v → read spelling (suc d) b p l ≡ ends v x q
     folded-read y v some item fold means =
         tag-at spelling d p t b (r ++ x) (p + length h) l (begun l (trees.bytes y) item) ∙
         cond-true _ _ _ (folds-front t (r ++ x) (folds-some t i r x (r ++ x) y spelled refl some).0) ∙
@@ -517,8 +512,7 @@ module _ (order : KeyOrder) (d : ℕ) (rd : ReadsAt (deterministic order) d) (ru
       ) in
       (st, short-fault det b m n (length (shortest_head m n)) r lt st (omega arith))
 
-  det-array : (ts : Trees) → IsDeterministicTree order (trees.array ts) →
-      IsWithin l (nesting (item_of (trees.array ts))) →
+  det-array : (ts : _) → IsDeterministicTree order (trees.array ts) → IsWithin l (nesting (item_of (trees.array ts))) →
       b ≡ encoding (trees.array ts) ++ x → q ≡ p + length (encoding (trees.array ts)) → q ≤ greatest_offset →
       2 * length b < suc d → read det (suc d) b p l ≡ ends (trees.array ts) x q
   det-array ts c nests f k room fuel =
@@ -540,8 +534,7 @@ module _ (order : KeyOrder) (d : ℕ) (rd : ReadsAt (deterministic order) d) (ru
       array-some None us e = absurd cc
       array-some (Some ws) us e = cc
 
-  det-map : (ps : TreePairs) → IsDeterministicTree order (trees.map ps) →
-      IsWithin l (nesting (item_of (trees.map ps))) →
+  det-map : (ps : _) → IsDeterministicTree order (trees.map ps) → IsWithin l (nesting (item_of (trees.map ps))) →
       b ≡ encoding (trees.map ps) ++ x → q ≡ p + length (encoding (trees.map ps)) → q ≤ greatest_offset →
       2 * length b < suc d → read det (suc d) b p l ≡ ends (trees.map ps) x q
   det-map ps c nests f k room fuel =
@@ -581,10 +574,9 @@ module _ (order : KeyOrder) (d : ℕ) (rd : ReadsAt (deterministic order) d) (ru
       simple-read det d p q n ((224 + n) ∷ []) x b l v is means
       (ap (spelling_fault det) f ∙ fault-simple det ((224 + n) ∷ []) n x is (λ e. omega (arith, lt, e))) f k room
 
-  det-tag : (t : ℕ) (w : Tree) → IsDeterministicTree order (trees.tag t w) →
-      IsWithin l (nesting (item_of (trees.tag t w))) → b ≡ encoding (trees.tag t w) ++ x →
-      q ≡ p + length (encoding (trees.tag t w)) → q ≤ greatest_offset → 2 * length b < suc d →
-      read det (suc d) b p l ≡ ends (trees.tag t w) x q
+  det-tag : (t w : _) → IsDeterministicTree order (trees.tag t w) → IsWithin l (nesting (item_of (trees.tag t w))) →
+      b ≡ encoding (trees.tag t w) ++ x → q ≡ p + length (encoding (trees.tag t w)) → q ≤ greatest_offset →
+      2 * length b < suc d → read det (suc d) b p l ≡ ends (trees.tag t w) x q
   det-tag t w c nests f k room fuel = by (folding_bytes t (item_of w)) refl nests
     where
       h : List ℕ

@@ -36,13 +36,11 @@ good-short : (spelling : Spelling) (b : List ℕ) (m n k : ℕ) (r : List ℕ) �
 good-short any b m n k r lt st fine = tt
 good-short (deterministic order) b m n k r lt st fine = fault-short order b m n k r lt st fine
 
-so-positive : (spelling : Spelling) (h : List ℕ) (n : ℕ) → IsShortIn spelling h 0 n →
-    IsSpelledSo spelling h (trees.integer (pos n))
+so-positive : (spelling h n : _) → IsShortIn spelling h 0 n → IsSpelledSo spelling h (trees.integer (pos n))
 so-positive any h n short = tt
 so-positive (deterministic order) h n short = (short, tt)
 
-so-negative : (spelling : Spelling) (h : List ℕ) (n : ℕ) → IsShortIn spelling h 1 n →
-    IsSpelledSo spelling h (trees.integer (negsuc n))
+so-negative : (spelling h n : _) → IsShortIn spelling h 1 n → IsSpelledSo spelling h (trees.integer (negsuc n))
 so-negative any h n short = tt
 so-negative (deterministic order) h n short = (short, tt)
 
@@ -62,8 +60,7 @@ so-open (deterministic order) b m r s v low high e fine =
     fine in
     absurd cc
 
-so-array : (spelling : Spelling) (h g : List ℕ) (p : ℕ) (l : Limit) (vs : List Tree) →
-    IsShortIn spelling h 4 (length vs) → AreReadAs spelling g p l vs →
+so-array : (spelling h g p l vs : _) → IsShortIn spelling h 4 (length vs) → AreReadAs spelling g p l vs →
     IsSpelledSo spelling (h ++ g) (trees.array (trees_from vs))
 so-array any h g p l vs short parts = tt
 so-array (deterministic order) h g p l vs short parts =
@@ -92,18 +89,16 @@ so-tag (deterministic order) h w t v short (bytes, rises) = (
   rises,
 )
 
-so-folded : (spelling : Spelling) (h w : List ℕ) (t : ℕ) (y : List ℕ) (v : Tree) → IsShortIn spelling h 6 t →
-    IsSpelledSo spelling w (trees.bytes y) → is_bignum_tag t ≡ true → (IsUnwanted spelling y → ⊥) →
-    bignum_meaning t y ≡ Some v → IsSpelledSo spelling (h ++ w) v
+so-folded : (spelling h w t y v : _) → IsShortIn spelling h 6 t → IsSpelledSo spelling w (trees.bytes y) →
+    is_bignum_tag t ≡ true → (IsUnwanted spelling y → ⊥) → bignum_meaning t y ≡ Some v → IsSpelledSo spelling (h ++ w) v
 so-folded any h w t y v short so is wanted means = tt
 so-folded (deterministic order) h w t y v short so is wanted means = subst (IsSpelledSo (deterministic order) (h ++ w))
     (sym (whole-kept t y v is wanted means)) (so-tag (deterministic order) h w t (trees.bytes y) short so)
 
 -- ---- without parts
 
-pub reads-positive : (spelling : Spelling) (b : List ℕ) (p n k : ℕ) (l : Limit) (r : List ℕ) → HasHead b 0 n k r →
-    spelling_fault spelling b ≡ None → p + k ≤ greatest_offset →
-    ReadsItem spelling l b p (trees.integer (pos n)) r (p + k)
+pub reads-positive : (spelling b p n k l r : _) → HasHead b 0 n k r → spelling_fault spelling b ≡ None →
+    p + k ≤ greatest_offset → ReadsItem spelling l b p (trees.integer (pos n)) r (p + k)
 reads-positive spelling b p n k l r (h, is, len, split) none fits =
     let short = good-short spelling b 0 n k r (omega arith) (h, is, len, split) none in
     record {
@@ -113,9 +108,8 @@ reads-positive spelling b p n k l r (h, is, len, split) none fits =
       at = omega (arith, len);
     }
 
-pub reads-negative : (spelling : Spelling) (b : List ℕ) (p n k : ℕ) (l : Limit) (r : List ℕ) → HasHead b 1 n k r →
-    spelling_fault spelling b ≡ None → p + k ≤ greatest_offset →
-    ReadsItem spelling l b p (trees.integer (negsuc n)) r (p + k)
+pub reads-negative : (spelling b p n k l r : _) → HasHead b 1 n k r → spelling_fault spelling b ≡ None →
+    p + k ≤ greatest_offset → ReadsItem spelling l b p (trees.integer (negsuc n)) r (p + k)
 reads-negative spelling b p n k l r (h, is, len, split) none fits =
     let short = good-short spelling b 1 n k r (omega arith) (h, is, len, split) none in
     record {
@@ -227,9 +221,8 @@ simple-tree order n t b means other is =
     by false false false true f g h i e = absurd (other (i refl))
     by false false false false f g h i e = absurd cc
 
-pub reads-simple : (spelling : Spelling) (b : List ℕ) (p : ℕ) (l : Limit) (s : List ℕ) (n : ℕ) (r : List ℕ) (v : Tree) →
-    IsSimple s n → b ≡ s ++ r → simple_meaning n ≡ Some v → spelling_fault spelling b ≡ None →
-    p + length s ≤ greatest_offset → ReadsItem spelling l b p v r (p + length s)
+pub reads-simple : (spelling b p l s n r v : _) → IsSimple s n → b ≡ s ++ r → simple_meaning n ≡ Some v →
+    spelling_fault spelling b ≡ None → p + length s ≤ greatest_offset → ReadsItem spelling l b p v r (p + length s)
 reads-simple spelling b p l s n r v is split means none fits = record {
   taken = s;
   read = (item.simple n, is, means, within-zero l, fits, so spelling none);
@@ -305,8 +298,7 @@ inside-more spelling b p l below vs v r s q u now next i item e order =
     (IsInside.more i item.read item.split e order)
 
 -- items are due in arrays alone
-items-stay : (m : Option ℕ) (vs : List Tree) (now : Due) → due_after (items m) vs ≡ Some now → (n : Option ℕ) ×
-    (now ≡ items n)
+items-stay : (m vs now : _) → due_after (items m) vs ≡ Some now → (n : Option ℕ) × (now ≡ items n)
 items-stay m [] now h = (m, (let e : now ≡ items m = cc in e))
 items-stay None (v ∷ vs) now h = items-stay None vs now h
 items-stay (Some zero) (v ∷ vs) now h = absurd cc

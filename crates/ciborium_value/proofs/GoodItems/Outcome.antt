@@ -53,6 +53,5 @@ one_reading spelling s t q r p l v w h k e =
     ((let f : v ≡ w = cc in f), one.0, one.1)
 
 -- what is read is a list of bytes
-pub read_bytes : (spelling : Spelling) (s : List ℕ) (p : ℕ) (l : Limit) (v : Tree) → IsReadAs spelling s p l v →
-    AreBytes s
+pub read_bytes : (spelling s p l v : _) → IsReadAs spelling s p l v → AreBytes s
 read_bytes spelling s p l v h = let a = anyway spelling s p l v h in item_bytes a.0 s a.1 (ap is_some a.2)

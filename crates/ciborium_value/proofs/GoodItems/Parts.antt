@@ -165,8 +165,7 @@ keys-paired (k ∷ []) h = absurd h
 keys-paired (k ∷ (v ∷ vs)) h = ap (λ (ks : List Tree). k ∷ ks) (keys-paired vs h)
 
 -- a value changes no keys
-pub keys_in-value : (m n : Option ℕ) (vs : List Tree) (v : Tree) → due_after (keys m) vs ≡ Some (values n) →
-    keys_in (vs ++ (v ∷ [])) ≡ keys_in vs
+pub keys_in-value : (m n vs v : _) → due_after (keys m) vs ≡ Some (values n) → keys_in (vs ++ (v ∷ [])) ≡ keys_in vs
 keys_in-value m n (k ∷ []) v h = refl
 keys_in-value None n (k ∷ (u ∷ vs)) v h = ap (λ (ks : List Tree). k ∷ ks) (keys_in-value None n vs v h)
 keys_in-value (Some (suc m)) n (k ∷ (u ∷ vs)) v h = ap (λ (ks : List Tree). k ∷ ks) (keys_in-value (Some m) n vs v h)
@@ -181,8 +180,7 @@ same-keys (keys (Some (suc m))) (values n) us e = refl
 same-keys (values m) (keys n) us e = refl
 same-keys u v us e = absurd cc
 
-pub keys-from : (start now : Due) (vs us : List Tree) → due_after start vs ≡ Some now →
-    keys_among now us ≡ keys_among start us
+pub keys-from : (start now vs us : _) → due_after start vs ≡ Some now → keys_among now us ≡ keys_among start us
 keys-from start now [] us h = let same : start ≡ now = cc in ap (λ w. keys_among w us) (sym same)
 keys-from start now (v ∷ vs) us h =
     let one = due-first start v vs now h in keys-from one.0 now vs us one.2 ∙ same-keys start one.0 us one.1
@@ -207,8 +205,7 @@ is-in_order (deterministic order) (k ∷ (j ∷ ks)) h = ap (λ o. is_less o && 
     is-in_order (deterministic order) (j ∷ ks) h.1
 is-in_order u v h = refl
 
-rising-before : (order : KeyOrder) (vs ws : List Tree) → AreRising order (keys_in (vs ++ ws)) →
-    AreRising order (keys_in vs)
+rising-before : (order vs ws : _) → AreRising order (keys_in (vs ++ ws)) → AreRising order (keys_in vs)
 rising-before order (k ∷ (v ∷ (j ∷ vs))) ws h = (h.0, rising-before order (j ∷ vs) ws h.1)
 rising-before order u ws h = tt
 
@@ -221,8 +218,7 @@ order-before u v w ws h = tt
 
 -- ---- lists of what is read, one more
 
-pub read-more : (spelling : Spelling) (vs : List Tree) (s t : List ℕ) (v : Tree) (p : ℕ) (l : Limit) →
-    AreReadAs spelling s p l vs → IsReadAs spelling t (p + length s) l v →
+pub read-more : (spelling vs s t v p l : _) → AreReadAs spelling s p l vs → IsReadAs spelling t (p + length s) l v →
     AreReadAs spelling (s ++ t) p l (vs ++ (v ∷ []))
 read-more spelling [] s t v p l h k =
     let none : length s ≡ 0 = ap length h in (
@@ -282,9 +278,8 @@ pairs-some : (m n : Option Tree) (ms : Option TreePairs) (ts : TreePairs) → tr
 pairs-some (Some k) (Some v) (Some ps) ts e = (k, v, ps, refl, refl, refl, cc)
 pairs-some u v w ts e = absurd cc
 
-pub read-items : (is : Items) (ts : Trees) (s : List ℕ) (p : ℕ) (l : Limit) → SpellsItems s is →
-    items_meaning is ≡ Some ts → IsWithin l (items_nesting is) → p + length s ≤ greatest_offset →
-    AreReadAs any s p l (elements ts) × (items_count is ≡ trees_count ts)
+pub read-items : (is ts s p l : _) → SpellsItems s is → items_meaning is ≡ Some ts → IsWithin l (items_nesting is) →
+    p + length s ≤ greatest_offset → AreReadAs any s p l (elements ts) × (items_count is ≡ trees_count ts)
 read-items no_items ts s p l h means nests fits =
     let none : no_trees ≡ ts = cc in
     subst (λ us. AreReadAs any s p l (elements us) × (0 ≡ trees_count us)) none (h, refl)
@@ -295,9 +290,8 @@ read-items (item i is) ts s p l (a, b, spelled, rest, e) means nests fits =
     subst (λ us. AreReadAs any s p l (elements us) × (suc (items_count is) ≡ trees_count us)) (sym m.4)
     ((a, b, (i, spelled, m.2, within-left l _ _ nests, omega (arith, len, fits), tt), r.0, e), ap suc r.1)
 
-pub read-pairs : (ps : Pairs) (ts : TreePairs) (s : List ℕ) (p : ℕ) (l : Limit) → SpellsPairs s ps →
-    pairs_meaning ps ≡ Some ts → IsWithin l (pairs_nesting ps) → p + length s ≤ greatest_offset →
-    AreReadAs any s p l (turns ts) × (pairs_count ps ≡ tree_pairs_count ts)
+pub read-pairs : (ps ts s p l : _) → SpellsPairs s ps → pairs_meaning ps ≡ Some ts → IsWithin l (pairs_nesting ps) →
+    p + length s ≤ greatest_offset → AreReadAs any s p l (turns ts) × (pairs_count ps ≡ tree_pairs_count ts)
 read-pairs no_pairs ts s p l h means nests fits =
     let none : no_tree_pairs ≡ ts = cc in
     subst (λ us. AreReadAs any s p l (turns us) × (0 ≡ tree_pairs_count us)) none (h, refl)
@@ -366,8 +360,7 @@ module _ (order : KeyOrder) where
   pairs-fold (Some j) (Some w) (Some qs) k v ps e = (cc, cc, cc)
   pairs-fold u w x k v ps e = absurd cc
 
-  pub written-trees : (ts : Trees) (p : ℕ) (l : Limit) → AreAllowed l ts →
-      p + length (items_bytes (items_of ts)) ≤ greatest_offset →
+  pub written-trees : (ts p l : _) → AreAllowed l ts → p + length (items_bytes (items_of ts)) ≤ greatest_offset →
       AreReadAs (deterministic order) (items_bytes (items_of ts)) p l (elements ts)
   written-trees no_trees p l h fits = refl
   written-trees (tree v ts) p l (proper, folds, rises, nests) fits =
@@ -383,8 +376,7 @@ module _ (order : KeyOrder) where
         refl,
       )
 
-  pub written-pairs : (ps : TreePairs) (p : ℕ) (l : Limit) → PairsAreAllowed l ps →
-      p + length (pairs_bytes (pairs_of ps)) ≤ greatest_offset →
+  pub written-pairs : (ps p l : _) → PairsAreAllowed l ps → p + length (pairs_bytes (pairs_of ps)) ≤ greatest_offset →
       AreReadAs (deterministic order) (pairs_bytes (pairs_of ps)) p l (turns ps)
   written-pairs no_tree_pairs p l h fits = refl
   written-pairs (tree_pair k v ps) p l (proper, folds, rises, nests) fits =

@@ -153,8 +153,7 @@ module _ (spelling : Spelling) where
 
   -- parts stand before what refuses, and with it
   part-run : (d b p l below vs r q now a : _) → IsInside spelling b p l vs r q now below → IsDue now r q →
-      2 * length b < suc d →
-      ((c : ℕ) → 2 * length r < c →
+      2 * length b < suc d → ((c : ℕ) → 2 * length r < c →
       and_then (next_part spelling (parts spelling c) now vs q below) (read spelling c r q below) ≡ a) →
       read spelling (suc d) b p l ≡ a
   part-run d b p l below vs r q now a inside due fuel then =
@@ -211,8 +210,7 @@ module _ (spelling : Spelling) where
         subst AreBytes same w.3,
       )
 
-  small-wanted : (s : Spelling) (y : List ℕ) → EachIsByte y → length y ≤ 16 → 2 ^ 127 ≤ big_endian y →
-      is_unwanted s y ≡ false
+  small-wanted : (s y : _) → EachIsByte y → length y ≤ 16 → 2 ^ 127 ≤ big_endian y → is_unwanted s y ≡ false
   small-wanted any y bytes few large = refl
   small-wanted (deterministic order) y bytes few large =
       not_so _ (λ e. let less = foldable-small y bytes few (foldable-is y e) in omega (arith, less, large))

@@ -11,8 +11,7 @@ use Rattle.ciborium_ll.specs.{Refusal.{IsUsable, HasHead}, Spells.{IsString, IsC
 use Rattle.ciborium_value.{proofs.GoodItems.Reader.{short, folding}, specs.Meaning.{is_bignum_tag, short_string}}
 use Rattle.ciborium_value.specs.{Meaning.folding_bytes, Refuses.IsFoldingAt, lemmas.Descriptions.both}
 
-string_of-pos : (o : Bool) (m : ℕ) (IsAllowed : List ℕ → Type 0) (s y : List ℕ) → IsString o m IsAllowed s y →
-    0 < length s
+string_of-pos : (o : Bool) (m : _) (IsAllowed : List ℕ → Type 0) (s y : _) → IsString o m IsAllowed s y → 0 < length s
 string_of-pos false m IsAllowed s y h =
     let l : length s ≡ length h.0 + length y = ap length h.3 ∙ length-append h.0 y in
     omega (arith, l, head-length h.0 m (length y) h.1)
@@ -43,8 +42,7 @@ spells-pos (float r) s (inr (inr h)) = let l : length s ≡ suc (length r) = ap 
 
 -- ---- a head before r stands before what follows too
 
-pub stands-on : (s h r x b : List ℕ) (m n : ℕ) → IsHead h m n → s ≡ h ++ r → b ≡ s ++ x →
-    HasHead b m n (length h) (r ++ x)
+pub stands-on : (s h r x b m n : _) → IsHead h m n → s ≡ h ++ r → b ≡ s ++ x → HasHead b m n (length h) (r ++ x)
 stands-on s h r x b m n k e f = (h, k, refl, f ∙ ap (λ (c : List ℕ). c ++ x) e ∙ append_assoc h r x)
 
 pub opens-on : (s r x b : List ℕ) (m : ℕ) → s ≡ (m * 32 + 31) ∷ (r ++ (255 ∷ [])) → b ≡ s ++ x →
@@ -95,8 +93,7 @@ pub not_so : (t : Bool) → (t ≡ true → ⊥) → t ≡ false
 not_so true h = absurd (h refl)
 not_so false h = refl
 
-pub seen-folds : (t : ℕ) (r : List ℕ) (p : ℕ) → EachIsByte r → IsUsable r p → folding t (front r) ≡ true →
-    IsFoldingAt t r
+pub seen-folds : (t r p : _) → EachIsByte r → IsUsable r p → folding t (front r) ≡ true → IsFoldingAt t r
 seen-folds t r p each h e = let a = both _ _ e in of (front r) (faces r p each h) a.1
   where
     of : (f : Front) → Face r p f → short f ≡ true → IsFoldingAt t r
@@ -135,8 +132,7 @@ folding-string t i s x r h e f = by (short_string i) refl
         no true v a b = cc
         no false v a b = cc
 
-pub folding-over : (t : ℕ) (y : List ℕ) → is_bignum_tag t ≡ true → length y ≤ 16 →
-    folding_bytes t (bytes false y) ≡ Some y
+pub folding-over : (t y : _) → is_bignum_tag t ≡ true → length y ≤ 16 → folding_bytes t (bytes false y) ≡ Some y
 folding-over t y big few = ap (λ v. cond v (cond (leb (length y) 16) (Some y) None) None) big ∙
     ap (λ v. cond v (Some y) None) (le-leb (length y) 16 few)
 
@@ -161,8 +157,7 @@ folds-some t i s x r y h e f =
     chosen true o g = (refl, g)
     chosen false o g = absurd cc
 
-pub folds-none : (t : ℕ) (i : Item) (s x r : List ℕ) → Spells s i → r ≡ s ++ x → (IsFoldingAt t r → ⊥) →
-    folding_bytes t i ≡ None
+pub folds-none : (t i s x r : _) → Spells s i → r ≡ s ++ x → (IsFoldingAt t r → ⊥) → folding_bytes t i ≡ None
 folds-none t i s x r h e f = by (is_bignum_tag t) refl (short_string i) refl
   where
     by : (u : Bool) → is_bignum_tag t ≡ u → (o : Option (List ℕ)) → short_string i ≡ o → cond u o None ≡ None
@@ -170,8 +165,7 @@ folds-none t i s x r h e f = by (is_bignum_tag t) refl (short_string i) refl
     by true b (Some y) g = absurd (f (folds-some t i s x r y h e (ap (λ c. cond c (short_string i) None) b ∙ g)).0)
     by false b o g = refl
 
-pub none-folds : (t : ℕ) (i : Item) (s x r : List ℕ) → Spells s i → r ≡ s ++ x → folding_bytes t i ≡ None →
-    folding t (front r) ≡ false
+pub none-folds : (t i s x r : _) → Spells s i → r ≡ s ++ x → folding_bytes t i ≡ None → folding t (front r) ≡ false
 none-folds t i s x r h e f = by (is_bignum_tag t) (short_string i) refl f
   where
     by : (u : Bool) (o : Option (List ℕ)) → short_string i ≡ o → cond u o None ≡ None → (u && short (front r)) ≡ false

@@ -35,8 +35,7 @@ byte-has m a b p h lp lo u =
     fits-usable x b p lp lo (subst (λ k. HeadFits k (x % 32) b p) (sym (div-mul-add m 32 a h))
     (subst (λ k. HeadFits m k b p) (sym (mod-mul-add m 32 a h)) u))
 
-pub opened-has : (m p : ℕ) (r : List ℕ) → is_reserved m 31 ≡ false → p < greatest_offset →
-    IsUsable ((m * 32 + 31) ∷ r) p
+pub opened-has : (m p r : _) → is_reserved m 31 ≡ false → p < greatest_offset → IsUsable ((m * 32 + 31) ∷ r) p
 opened-has m p r e h = byte-has m 31 r p (omega arith) h (and_false _ _ (not_low (m * 32 + 31) r (λ k. omega arith)))
     (e, omega arith, omega arith, omega (arith, payload_length-open m 31 r (omega arith)))
 
@@ -86,13 +85,11 @@ module _ (spelling : Spelling) where
       ap (λ z. counted_item spelling (read spelling d) (λ w. parts spelling d (Some w) []) m n r p z l)
       (past-stands b m n k p q r s e)
 
-  pub read-opened : (d p : ℕ) (b : List ℕ) (l : Limit) (m : ℕ) (r : List ℕ) → b ≡ (m * 32 + 31) ∷ r →
-      HasGoodHead spelling b p →
+  pub read-opened : (d p b l m r : _) → b ≡ (m * 32 + 31) ∷ r → HasGoodHead spelling b p →
       read spelling (suc d) b p l ≡ opened_item spelling (λ w. parts spelling d (Some w) []) (pieces d) m r p l
   read-opened d p b l m r e h = read-head d p b l (opened m r) h (ap front e ∙ front_open m r)
 
-  pub ended-has : (d p q : ℕ) (b r : List ℕ) (v : Tree) (l : Limit) → read spelling d b p l ≡ ends v r q →
-      HasGoodHead spelling b p
+  pub ended-has : (d p q b r v l : _) → read spelling d b p l ≡ ends v r q → HasGoodHead spelling b p
   ended-has zero p q b r v l e = absurd cc
   ended-has (suc d) p q b r v l e =
       let one = has (head_refusal b p) _ e in (one.0, fine (spelling_fault spelling b) _ one.1)
@@ -190,8 +187,7 @@ pieces-run m IsAllowed lt ok (suc d) (y ∷ ps) s x b q u a g e k room fuel then
     both (refused e) = refl
 
 -- the break that ends an open string
-pub pieces-break : (m d q u : ℕ) (x : List ℕ) → 0 < d → q < greatest_offset → u ≡ q + 1 →
-    pieces d m (255 ∷ x) q ≡ ends [] x u
+pub pieces-break : (m d q u x : _) → 0 < d → q < greatest_offset → u ≡ q + 1 → pieces d m (255 ∷ x) q ≡ ends [] x u
 pieces-break m zero q u x h lt e = let never : ⊥ = omega (arith, h) in absurd never
 pieces-break m (suc d) q u x h lt e = checked-none (255 ∷ x) q _ (opened-has 7 q x refl lt) ∙
     ap (piece (pieces d m) m (255 ∷ x) q) (front_open 7 x) ∙ ap (ends [] x) (sym e)
