@@ -20,4 +20,5 @@ returns-in-Ok g c b e =
     let item = c.in-Ok.ensures.ok b e in
     let (i, spelled, means, nests, fits, (same, rises)) = item.2 in
     let all : length b ≡ length item.0 + length item.1 = ap length item.3 ∙ length-append item.0 item.1 in
-    (item.1, (item.0, item.2, item.3), item.4, omega (arith, c.encoded_size-size.ensures.size, ap length same, fits, all))
+    let size = c.encoded_size-size.ensures.size in
+    (item.1, (item.0, item.2, item.3), item.4, omega (arith, size, ap length same, fits, all))
