@@ -103,9 +103,9 @@ pub chunk-read : (string : StringType) (old new : ItemHeads) (head : ItemHead) (
     ((n : ℕ) × (head.header ≡ string_header string n)) × (levels_of new ≡ chunk_level string ∷ around)
 chunk-read string old new head around e other (read, is) =
     let (more, f, g) = is.levels in
-    let (kind, same) = chunk-head string head.header around more other
+    let (type, same) = chunk-head string head.header around more other
     (subst (λ x. behind_head head.header x ≡ Some more) e f) in
-    (kind, g ∙ ap incomplete same ∙ chunk-open string around)
+    (type, g ∙ ap incomplete same ∙ chunk-open string around)
 
 -- ---- parts of an open array or map
 

@@ -69,14 +69,14 @@ behind-both t u v x y e f = f ∙ (ap (λ (s : List ℕ). s ++ y) e ∙ append_a
 
 -- so many parts of a string were read, and the text grew by them
 abbrev pub AreChunksBegun : StringType → ℕ → ItemHeads → ItemHeads → List ℕ → List ℕ → Type 0
-AreChunksBegun kind n old new text longer = (b : List ℕ) × (u : List ℕ) × HasPassed old new b ×
-    AreChunksExactly kind n b u × (longer ≡ text ++ (if n == 0 then [] else codes "(_ " ++ u))
+AreChunksBegun type n old new text longer = (b : List ℕ) × (u : List ℕ) × HasPassed old new b ×
+    AreChunksExactly type n b u × (longer ≡ text ++ (if n == 0 then [] else codes "(_ " ++ u))
 
-pub no-chunks : (kind : StringType) (h : ItemHeads) (t : List ℕ) → HasRead h → AreChunksBegun kind 0 h h t t
-no-chunks kind h t read = ([], [], passed-none h read, AreChunksExactly.none, sym (append-nil t))
+pub no-chunks : (type : StringType) (h : ItemHeads) (t : List ℕ) → HasRead h → AreChunksBegun type 0 h h t t
+no-chunks type h t read = ([], [], passed-none h read, AreChunksExactly.none, sym (append-nil t))
 
-definite : (kind : StringType) (n : ℕ) (h payload : List ℕ) → SpellsHeader h (string_header kind n) →
-    IsPayloadOf (string_header kind n) payload → IsHead h (string_major kind) (length payload) × IsAllowed kind payload
+definite : (type : StringType) (n : ℕ) (h payload : List ℕ) → SpellsHeader h (string_header type n) →
+    IsPayloadOf (string_header type n) payload → IsHead h (string_major type) (length payload) × IsAllowed type payload
 definite StringType.Bytes n h payload is (size, allowed) = (rw size is, allowed)
 definite StringType.Text n h payload is (size, allowed) = (rw size is, allowed)
 
@@ -105,21 +105,21 @@ passed-break a b c r head before is e =
     (passed-more a b c r (head_bytes head) before (passed-head b c head is))
 
 -- of no parts there is no text
-no-text : (kind : StringType) (n : ℕ) (b u : List ℕ) → AreChunksExactly kind n b u → n ≡ 0 → u ≡ []
-no-text kind n b u AreChunksExactly.none e = refl
-no-text kind n b u (AreChunksExactly.next m c t s v are is) e = absurd (omega (arith, e))
+no-text : (type : StringType) (n : ℕ) (b u : List ℕ) → AreChunksExactly type n b u → n ≡ 0 → u ≡ []
+no-text type n b u AreChunksExactly.none e = refl
+no-text type n b u (AreChunksExactly.next m c t s v are is) e = absurd (omega (arith, e))
 
-pub one-more-chunk : (kind : StringType) (n : ℕ) (a b c : ItemHeads) (head : ItemHead) (t u v w : List ℕ) →
-    AreChunksBegun kind n a b t u → HasRead c × IsHeadRead b c head →
+pub one-more-chunk : (type : StringType) (n : ℕ) (a b c : ItemHeads) (head : ItemHead) (t u v w : List ℕ) →
+    AreChunksBegun type n a b t u → HasRead c × IsHeadRead b c head →
     v ≡ u ++ (if n == 0 then codes "(_ " else codes ", ") →
-    (y : List ℕ) × IsStringExactly kind (head_bytes head) y × (w ≡ v ++ y) → AreChunksBegun kind (n + 1) a c t w
-one-more-chunk kind n a b c head t u v w (r, x, before, are, e) is f (y, string, g) = (
+    (y : List ℕ) × IsStringExactly type (head_bytes head) y × (w ≡ v ++ y) → AreChunksBegun type (n + 1) a c t w
+one-more-chunk type n a b c head t u v w (r, x, before, are, e) is f (y, string, g) = (
   r ++ head_bytes head,
   x ++ (lead false n ++ y),
   passed-more a b c r (head_bytes head) before (passed-head b c head is),
-  subst (λ (k : ℕ). AreChunksExactly kind k (r ++ head_bytes head) (x ++ (lead false n ++ y))) (sym (add-one n))
+  subst (λ (k : ℕ). AreChunksExactly type k (r ++ head_bytes head) (x ++ (lead false n ++ y))) (sym (add-one n))
       (AreChunksExactly.next n r x (head_bytes head) y are string),
-  g ∙ rw (f, e) (joined (n == 0) (n + 1 == 0) (λ h. no-text kind n r x are (eqb-true n 0 h)) some-more),
+  g ∙ rw (f, e) (joined (n == 0) (n + 1 == 0) (λ h. no-text type n r x are (eqb-true n 0 h)) some-more),
 )
   where
     some-more : (n + 1 == 0) ≡ false
@@ -131,20 +131,20 @@ one-more-chunk kind n a b c head t u v w (r, x, before, are, e) is f (y, string,
     joined true some empty more = rw (empty refl, more) (simp append_assoc refl)
     joined false some empty more = rw more (simp append_assoc refl)
 
-pub all-chunks : (kind : StringType) (n : ℕ) (a b c : ItemHeads) (head : ItemHead) (t u v : List ℕ) →
-    AreChunksBegun kind n a b t u → HasRead c × IsHeadRead b c head → head.header ≡ header.Break →
-    v ≡ u ++ (if n == 0 then empty_text kind else codes ")") → IsPushed (AreOpenChunks kind) a c t v
-all-chunks kind n a b c head t u v (r, x, before, are, e) is ends f = (
+pub all-chunks : (type : StringType) (n : ℕ) (a b c : ItemHeads) (head : ItemHead) (t u v : List ℕ) →
+    AreChunksBegun type n a b t u → HasRead c × IsHeadRead b c head → head.header ≡ header.Break →
+    v ≡ u ++ (if n == 0 then empty_text type else codes ")") → IsPushed (AreOpenChunks type) a c t v
+all-chunks type n a b c head t u v (r, x, before, are, e) is ends f = (
   r ++ (break_byte ∷ []),
-  open_text kind n x,
+  open_text type n x,
   passed-break a b c r head before is ends,
   (n, r, x, refl, are, refl),
   f ∙ rw e (closed (n == 0)),
 )
   where
     closed : (none : Bool) →
-        (t ++ (if none then [] else codes "(_ " ++ x)) ++ (if none then empty_text kind else codes ")")
-        ≡ t ++ (if none then empty_text kind else codes "(_ " ++ (x ++ codes ")"))
+        (t ++ (if none then [] else codes "(_ " ++ x)) ++ (if none then empty_text type else codes ")")
+        ≡ t ++ (if none then empty_text type else codes "(_ " ++ (x ++ codes ")"))
     closed true = simp append_assoc refl
     closed false = simp append_assoc refl
 
@@ -177,11 +177,11 @@ pub leaf-pushed : (head : ItemHead) (h : ItemHeads) (t v : List ℕ) → HasRead
     (u : List ℕ) × IsExactly (head_bytes head) u × (v ≡ t ++ u) → IsItemPushed head h h t v
 leaf-pushed head h t v read (u, is, e) = ([], u, passed-none h read, rw (append-nil (head_bytes head)) is, e)
 
-pub as-open-string : (kind : StringType) (head : ItemHead) (a c : ItemHeads) (t v : List ℕ) → head.payload.now ≡ [] →
-    head.bytes.now ≡ open_byte (string_major kind) ∷ [] → IsPushed (AreOpenChunks kind) a c t v →
+pub as-open-string : (type : StringType) (head : ItemHead) (a c : ItemHeads) (t v : List ℕ) → head.payload.now ≡ [] →
+    head.bytes.now ≡ open_byte (string_major type) ∷ [] → IsPushed (AreOpenChunks type) a c t v →
     IsItemPushed head a c t v
-as-open-string kind head a c t v bare opens (b, u, passed, (n, r, x, ends, are, same), e) =
-    with-parts head a c b u t v bare passed (rw (opens, ends, same) (IsExactly.open_string kind n r x are)) e
+as-open-string type head a c t v bare opens (b, u, passed, (n, r, x, ends, are, same), e) =
+    with-parts head a c b u t v bare passed (rw (opens, ends, same) (IsExactly.open_string type n r x are)) e
 
 -- between two brackets, for what any text between them shows
 pub bracketed : (Shows : List ℕ → List ℕ → Type 0) (head : ItemHead) (a c : ItemHeads)

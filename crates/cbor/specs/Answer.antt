@@ -82,7 +82,7 @@ refusal_behind skipped (Syntax p) = Syntax (skipped + p)
 refusal_behind skipped (Semantic p kind) = Semantic (skipped + p) kind
 refusal_behind skipped other = other
 
--- whether memory was refused
+-- whether an allocation failed
 abbrev pub wants_memory : LineRefusal → Bool
 wants_memory Memory = true
 wants_memory other = false

@@ -40,13 +40,13 @@ pub record IsEntryAt (levels : List Level) (p : ℕ) (e : Entry) (more : List Le
 -- b begins with these heads, the first at offset p where these levels are unfinished; behind the last
 -- others are unfinished, and rest is left
 abbrev pub AreHeadsAt : List Level → ℕ → List ℕ → List Entry → List Level → List ℕ → Type 0
-AreHeadsAt levels p b [] open_ rest = (open_ ≡ levels) × (b ≡ rest)
-AreHeadsAt levels p b (e ∷ es) open_ rest = (more : List Level) × (left : List ℕ) × IsEntryAt levels p e more ×
-    (b ≡ entry_bytes e ++ left) × AreHeadsAt more (p + length (entry_bytes e)) left es open_ rest
+AreHeadsAt levels p b [] unfinished rest = (unfinished ≡ levels) × (b ≡ rest)
+AreHeadsAt levels p b (e ∷ es) unfinished rest = (more : List Level) × (left : List ℕ) × IsEntryAt levels p e more ×
+    (b ≡ entry_bytes e ++ left) × AreHeadsAt more (p + length (entry_bytes e)) left es unfinished rest
 
 -- b begins with these heads of one item; behind the last these levels are unfinished, and rest is left
 abbrev pub AreHeads : List ℕ → List Entry → List Level → List ℕ → Type 0
-AreHeads b es open_ rest = AreHeadsAt (Items 1 ∷ []) 0 b es open_ rest
+AreHeads b es unfinished rest = AreHeadsAt (Items 1 ∷ []) 0 b es unfinished rest
 
 -- ---- what a head says
 
@@ -129,8 +129,8 @@ pub data IsBrokenDump (b : List ℕ) (text : List ℕ) : Type 0 where
   trailing : (es : List Entry) (s rest : List ℕ) → AreItem s → b ≡ s ++ rest → AreHeads b es [] rest →
       0 < length rest → text ≡ flat_map line_of es ++ trailing_text (length rest) → IsBrokenDump b text
   -- none is at the front, and this shows right behind the heads
-  none : (es : List Entry) (open_ : List Level) (rest : List ℕ) (e : NoItem) →
-      AreHeads b es open_ rest → IsNoItem b e → ShowsAt (length (flat_map entry_bytes es)) rest e →
+  none : (es : List Entry) (unfinished : List Level) (rest : List ℕ) (e : NoItem) →
+      AreHeads b es unfinished rest → IsNoItem b e → ShowsAt (length (flat_map entry_bytes es)) rest e →
       text ≡ flat_map line_of es ++ reason_text e → IsBrokenDump b text
 
 -- the text is the dump of b, and says whether b is one item
@@ -150,5 +150,6 @@ TellsNoDump line text = MatchResult (decode_of line) (λ b. IsBrokenDump b text)
 abbrev pub AreLinesOf : List ℕ → Result ℕ NoItem → List ℕ → Type 0
 AreLinesOf b (Ok n) text = (es : List Entry) × (s : List ℕ) × (rest : List ℕ) × AreItem s ×
     (b ≡ s ++ rest) × AreHeads b es [] rest × (n ≡ length rest) × (text ≡ flat_map line_of es)
-AreLinesOf b (Err e) text = (es : List Entry) × (open_ : List Level) × (rest : List ℕ) × AreHeads b es open_ rest ×
-    IsNoItem b e × ShowsAt (length (flat_map entry_bytes es)) rest e × (text ≡ flat_map line_of es)
+AreLinesOf b (Err e) text = (es : List Entry) × (unfinished : List Level) × (rest : List ℕ) ×
+    AreHeads b es unfinished rest × IsNoItem b e × ShowsAt (length (flat_map entry_bytes es)) rest e ×
+    (text ≡ flat_map line_of es)

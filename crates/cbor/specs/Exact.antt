@@ -55,28 +55,28 @@ payload_text StringType.Text payload = quoted payload
 
 -- b is a definite string, and the text shows it
 abbrev pub IsStringExactly : StringType → List ℕ → List ℕ → Type 0
-IsStringExactly kind b text = (h : List ℕ) × (payload : List ℕ) × IsHead h (string_major kind) (length payload) ×
-    IsAllowed kind payload × (b ≡ h ++ payload) × (text ≡ payload_text kind payload ++ mark (length h) (length payload))
+IsStringExactly type b text = (h : List ℕ) × (payload : List ℕ) × IsHead h (string_major type) (length payload) ×
+    IsAllowed type payload × (b ≡ h ++ payload) × (text ≡ payload_text type payload ++ mark (length h) (length payload))
 
 -- what stands before a part that n others precede: nothing before the first, a comma before each
 -- other, but in a map a colon before the value of a key
 abbrev pub lead : Bool → ℕ → List ℕ
 lead is_map n = if n == 0 then [] else if is_map && (n % 2 == 1) then codes ": " else codes ", "
 
--- b are n definite strings in a row, the parts of an open one, and the text shows them
-pub data AreChunksExactly (kind : StringType) : ℕ → List ℕ → List ℕ → Type 0 where
-  none : AreChunksExactly kind 0 [] []
-  next : (n : ℕ) (b t s u : List ℕ) → AreChunksExactly kind n b t → IsStringExactly kind s u →
-      AreChunksExactly kind (suc n) (b ++ s) (t ++ (lead false n ++ u))
+-- b are n definite strings in a row, the chunks of an open one, and the text shows them
+pub data AreChunksExactly (type : StringType) : ℕ → List ℕ → List ℕ → Type 0 where
+  none : AreChunksExactly type 0 [] []
+  next : (n : ℕ) (b t s u : List ℕ) → AreChunksExactly type n b t → IsStringExactly type s u →
+      AreChunksExactly type (suc n) (b ++ s) (t ++ (lead false n ++ u))
 
--- an open string of no parts
+-- an open string of no chunks
 abbrev pub empty_text : StringType → List ℕ
 empty_text StringType.Bytes = codes "''_"
 empty_text StringType.Text = codes "\"\"_"
 
--- an open string of n parts, which the text t shows
+-- an open string of n chunks, which the text t shows
 abbrev pub open_text : StringType → ℕ → List ℕ → List ℕ
-open_text kind n t = if n == 0 then empty_text kind else codes "(_ " ++ (t ++ codes ")")
+open_text type n t = if n == 0 then empty_text type else codes "(_ " ++ (t ++ codes ")")
 
 -- ---- items
 
@@ -86,22 +86,22 @@ simple_text n = if n == 20 then codes "false" else if n == 21 then codes "true" 
     else if n == 23 then codes "undefined" else codes "simple(" ++ (decimal n ++ codes ")")
 
 -- b between the initial byte of an open item and the break (section 3.2)
-abbrev pub opened : ℕ → List ℕ → List ℕ
-opened major b = open_byte major ∷ (b ++ (break_byte ∷ []))
+abbrev pub open_bytes : ℕ → List ℕ → List ℕ
+open_bytes major b = open_byte major ∷ (b ++ (break_byte ∷ []))
 
 mutual
   -- b is one item, and the text shows it
   pub data IsExactly : List ℕ → List ℕ → Type 0 where
     unsigned : (h : List ℕ) (n : ℕ) → IsHead h 0 n → IsExactly h (decimal n ++ mark (length h) n)
     negative : (h : List ℕ) (n : ℕ) → IsHead h 1 n → IsExactly h (codes "-" ++ (decimal (n + 1) ++ mark (length h) n))
-    string : (kind : StringType) (b t : List ℕ) → IsStringExactly kind b t → IsExactly b t
-    open_string : (kind : StringType) (n : ℕ) (b t : List ℕ) → AreChunksExactly kind n b t →
-        IsExactly (opened (string_major kind) b) (open_text kind n t)
+    string : (type : StringType) (b t : List ℕ) → IsStringExactly type b t → IsExactly b t
+    open_string : (type : StringType) (n : ℕ) (b t : List ℕ) → AreChunksExactly type n b t →
+        IsExactly (open_bytes (string_major type) b) (open_text type n t)
     parts : (is_map : Bool) (h : List ℕ) (n : ℕ) (b t : List ℕ) → IsHead h (parts_major is_map) n →
         AreExactly is_map (part_count is_map n) b t →
         IsExactly (h ++ b) (opening is_map ++ (spaced (mark (length h) n) ++ (t ++ closing is_map)))
     open_parts : (is_map : Bool) (n : ℕ) (b t : List ℕ) → AreExactly is_map (part_count is_map n) b t →
-        IsExactly (opened (parts_major is_map) b) (opening is_map ++ (codes "_ " ++ (t ++ closing is_map)))
+        IsExactly (open_bytes (parts_major is_map) b) (opening is_map ++ (codes "_ " ++ (t ++ closing is_map)))
     tag : (h : List ℕ) (n : ℕ) (b t : List ℕ) → IsHead h 6 n →
         IsExactly b t → IsExactly (h ++ b) (decimal n ++ (mark (length h) n ++ (codes "(" ++ (t ++ codes ")"))))
     simple : (h : List ℕ) (n : ℕ) → IsSimple h n → IsExactly h (simple_text n)
@@ -166,10 +166,10 @@ abbrev pub AreOpenParts : Bool → List ℕ → List ℕ → Type 0
 AreOpenParts is_map b t = (n : ℕ) × (r : List ℕ) × (b ≡ r ++ (break_byte ∷ [])) ×
     AreExactly is_map (part_count is_map n) r t
 
--- the parts of a string before a break
+-- the chunks of a string before a break
 abbrev pub AreOpenChunks : StringType → List ℕ → List ℕ → Type 0
-AreOpenChunks kind b t = (n : ℕ) × (r : List ℕ) × (u : List ℕ) × (b ≡ r ++ (break_byte ∷ [])) ×
-    AreChunksExactly kind n r u × (t ≡ open_text kind n u)
+AreOpenChunks type b t = (n : ℕ) × (r : List ℕ) × (u : List ℕ) × (b ≡ r ++ (break_byte ∷ [])) ×
+    AreChunksExactly type n r u × (t ≡ open_text type n u)
 
 -- ---- levels
 

@@ -16,7 +16,7 @@ is_input name = (length name == 1) && (get_or name 0 0 == 45)
 -- the bytes that a name stands for, where they are known: what is left of the standard input, or
 -- what the file of this name holds
 abbrev pub given_by : (List ℕ → Option (List ℕ)) → Option (List ℕ) → List ℕ → Option (List ℕ)
-given_by held input name = if is_input name then input else held name
+given_by contents input name = if is_input name then input else contents name
 
 -- and what is known of the standard input behind it, which is read once
 abbrev pub left_by : Option (List ℕ) → List ℕ → Option (List ℕ)
@@ -24,8 +24,9 @@ left_by input name = if is_input name then None else input
 
 -- in order, the names stand for these bytes
 abbrev pub AreInputs : (List ℕ → Option (List ℕ)) → Option (List ℕ) → List Input → Type 0
-AreInputs held input [] = Unit {0}
-AreInputs held input (i ∷ inputs) = (given_by held input i.0 ≡ Some i.1) × AreInputs held (left_by input i.0) inputs
+AreInputs contents input [] = Unit {0}
+AreInputs contents input (i ∷ inputs) = (given_by contents input i.0 ≡ Some i.1) ×
+    AreInputs contents (left_by input i.0) inputs
 
 -- what is written for an input by a command that takes files
 abbrev pub IsInputShown : Command → Input → List ℕ → Bool → Option (List ℕ) → Type 0

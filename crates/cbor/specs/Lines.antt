@@ -56,11 +56,11 @@ AnswersLine reading line is_ok text = MatchBool is_ok (IsOkText reading line tex
 abbrev pub text_line : List ℕ → List ℕ
 text_line text = text ++ (10 ∷ [])
 
--- the answer to a line for which memory was refused
+-- the answer to a line for which an allocation failed
 abbrev pub memory_text : List ℕ
 memory_text = codes "memory"
 
--- the text answers a line that is read so, or says that memory was refused for it
+-- the text answers a line that is read so, or says that an allocation failed for it
 abbrev pub MayBeAnswer : Reading → List ℕ → Bool → List ℕ → Type 0
 MayBeAnswer reading line is_ok text = AnswersLine reading line is_ok text ⊎ ((is_ok ≡ false) × (text ≡ memory_text))
 

@@ -21,7 +21,7 @@ AreSortedLines order b limit w after = (came : List Tree) × (sorted : List Tree
 abbrev pub refused_line_text : ℕ → List ℕ → List ℕ
 refused_line_text n reason = codes "line " ++ (decimal n ++ (codes ": " ++ reason))
 
--- a line of b is no item, or memory was refused for it, and those before it are items; this is its
+-- a line of b is no item, or an allocation failed for it, and those before it are items; this is its
 -- number
 abbrev pub IsFirstRefused : List ℕ → ℕ → ℕ → LineRefusal → Type 0
 IsFirstRefused b limit n e = (came : List Tree) × (rest : List ℕ) × AreMeant Any b limit rest came ×

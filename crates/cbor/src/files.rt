@@ -20,7 +20,7 @@ pub trait Opener {
     type File: Read + Drop;
 
     // The bytes of the file of a name, where they are known.
-    ghost held: { Self → List ℕ → Option (List ℕ) } = { λ opener name. None };
+    ghost contents: { Self → List ℕ → Option (List ℕ) } = { λ opener name. None };
 
     /// Opens the file of this name, to be read from its beginning.
     ///
@@ -28,7 +28,7 @@ pub trait Opener {
     ///
     /// That of the device.
     fn open(&self, name: &str) -> io::Result<Self::File>
-        ensures { IfOk result (λ file. IfSome (held self.now name.now)
+        ensures { IfOk result (λ file. IfSome (contents self.now name.now)
             (λ b. Self.File.remaining file ≡ Some b)) };
 }
 
@@ -52,7 +52,7 @@ pub fn show_files<R: Read, O: Opener, W: Write, E: Write>(
     requires { IsTrue (takes_files command) }
     ensures { (inputs : List Input) (w : List ℕ) →
         map string_bytes names.now ≡ map (λ i. i.0) inputs →
-        AreInputs (O.held opener.now) (R.remaining input.old) inputs →
+        AreInputs (O.contents opener.now) (R.remaining input.old) inputs →
         W.contents output.old ≡ Some w →
         IfOk result (λ all. AreFilesShown command inputs w all (W.contents output.new)) }
 {
@@ -80,7 +80,7 @@ fn show_file<R: Read, O: Opener, W: Write>(
 ) -> Result<bool, Fault>
     requires { IsTrue (takes_files command) }
     ensures shown { (b w : List ℕ) →
-        given_by (O.held opener.now) (R.remaining input.old) name.now ≡ Some b →
+        given_by (O.contents opener.now) (R.remaining input.old) name.now ≡ Some b →
         W.contents output.old ≡ Some w →
         IfOk result (λ all. IsInputShown command (name.now, b) w all (W.contents output.new)) }
     ensures kept { is_input name.now ≡ false → R.remaining input.new ≡ R.remaining input.old }

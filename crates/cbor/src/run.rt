@@ -99,7 +99,7 @@ pub fn run<R: Read, O: Opener, W: Write, E: Write>(
         AskForFiles (map string_bytes words.now) command names → IsStatusOf command result }
     ensures files { (command : Command) (inputs : List Input) (w : List ℕ) →
         AskForFiles (map string_bytes words.now) command (map (λ i. i.0) inputs) →
-        AreInputs (O.held opener.now) (R.remaining input.old) inputs →
+        AreInputs (O.contents opener.now) (R.remaining input.old) inputs →
         W.contents output.old ≡ Some w → result ≡ 0 →
         AreFilesShown command inputs w true (W.contents output.new) }
 {
@@ -128,7 +128,7 @@ fn run_on_files<R: Read, O: Opener, W: Write, E: Write>(
         AskForFiles (map string_bytes words.now) command names → IsStatusOf command result }
     ensures files { (command : Command) (inputs : List Input) (w : List ℕ) →
         AskForFiles (map string_bytes words.now) command (map (λ i. i.0) inputs) →
-        AreInputs (O.held opener.now) (R.remaining input.old) inputs →
+        AreInputs (O.contents opener.now) (R.remaining input.old) inputs →
         W.contents output.old ≡ Some w → result ≡ 0 →
         AreFilesShown command inputs w true (W.contents output.new) }
 {
@@ -227,7 +227,7 @@ fn perform_on_files<R: Read, O: Opener, W: Write, E: Write>(
     requires { IsTrue (takes_files command) }
     ensures { (inputs : List Input) (w : List ℕ) →
         map string_bytes names.now ≡ map (λ i. i.0) inputs →
-        AreInputs (O.held opener.now) (R.remaining input.old) inputs →
+        AreInputs (O.contents opener.now) (R.remaining input.old) inputs →
         W.contents output.old ≡ Some w →
         IfOk result (λ all. AreFilesShown command inputs w all (W.contents output.new)) }
 {

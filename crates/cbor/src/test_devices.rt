@@ -96,7 +96,7 @@ impl<'a> SameFile<'a> {
 impl<'a> Opener for SameFile<'a> {
     type File = &'a [u8];
 
-    ghost held = { λ files name. Some files.bytes.now };
+    ghost contents = { λ files name. Some files.bytes.now };
 
     fn open(&self, _name: &str) -> io::Result<&'a [u8]> {
         Ok(self.bytes)

@@ -25,7 +25,7 @@ pub data RefusesSpelling {E : Type 0} (o : KeyOrder) (l : ℕ) (b : List ℕ) (k
       RefusesSpelling o l b k (Semantic (Some p) kind)
 
 -- bytes that give a value which names this are refused: it has no form; they are not the encoding
--- of the form; or memory was refused
+-- of the form; or an allocation failed
 pub data RefusesOther {E : Type 0} (o : KeyOrder) (l : ℕ) (b : List ℕ) (named : Named) :
     Error E → Type 0 where
   no_form : (kind : Kind) → named_form o named ≡ refuses kind → RefusesOther o l b named (Semantic None kind)

@@ -11,7 +11,7 @@ use Rattle.ciborium.specs.declared.de.{byte_source.ByteSource.ByteSource, error.
 use Rattle.ciborium.specs.declared.de.error.Error.TheVariants.{Semantic, RecursionLimitExceeded, Memory, TooLong}
 use Rattle.ciborium.specs.inner.ByteSources.{HasTakenSince, IsUnread, ReadsValue, StandsBefore, fault_at}
 
--- ---- the clauses of a call that reads the next item: what the reader held before it, what it is
+-- ---- the clauses of a call that reads the next item: what the reader had left before it, what it is
 -- left with, and the answer
 
 -- P holds of the answer, unless it is the end

@@ -22,7 +22,7 @@ abbrev pub IsRefusedThen : {A E : Type 0} → Limit → Given A → List ℕ →
 IsRefusedThen {A} l taken b after e = (cs : List A) × (u : List ℕ) × GivesThen l taken b cs u ×
     IsFaultAhead 0 l taken u (fault_of after e) × (u ≡ [] → IsOutsideFault 0 (fault_of None e))
 
--- ---- what the reader held before, what it is left with, and the answer
+-- ---- what the reader had left before, what it is left with, and the answer
 
 -- at Ok all that was there is a sequence that gives the answer, and nothing is left
 abbrev pub TakesSequence : {A E : Type 0} → Limit → Given A → Option (List ℕ) → Option (List ℕ) →

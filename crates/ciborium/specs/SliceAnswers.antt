@@ -12,7 +12,7 @@ use Rattle.ciborium.specs.declared.de.error.Error.TheVariants.{Memory, Semantic}
 abbrev pub IsAllTaken : {A E : Type 0} → ℕ → Given A → List ℕ → Result A (Error E) → Type 0
 IsAllTaken l taken b r = IfOk r (λ v. (i : Item) × Spells b i × (outcome (Some l) (taken i) ≡ gives v))
 
--- bytes that are one item, which gives a value, answer it, unless memory was refused
+-- bytes that are one item, which gives a value, answer it, unless an allocation failed
 abbrev pub GivesAll : {A E : Type 0} → ℕ → Given A → List ℕ → Result A (Error E) → Type 0
 GivesAll {A} l taken b r = (i : Item) (v : A) → Spells b i → outcome (Some l) (taken i) ≡ gives v →
     (r ≡ Ok v) ⊎ (r ≡ Err Memory)
@@ -37,7 +37,7 @@ abbrev pub AreAllRead : {E : Type 0} → ℕ → List ℕ → Result Tree (Error
 AreAllRead l b (Ok v) = IsReadAs any b 0 (Some l) v
 AreAllRead l b (Err e) = IsRefusedBy (Some []) e (Refuses any b 0 (Some l)) ⊎ RefusesTrailing l b e
 
--- bytes that are read as a value answer it, unless memory was refused
+-- bytes that are read as a value answer it, unless an allocation failed
 abbrev pub AnswersAll : {E : Type 0} → ℕ → List ℕ → Result Tree (Error E) → Type 0
 AnswersAll l b r = (v : Tree) → IsReadAs any b 0 (Some l) v → (r ≡ Ok v) ⊎ (r ≡ Err Memory)
 

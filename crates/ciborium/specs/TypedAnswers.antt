@@ -10,7 +10,7 @@ use Rattle.ciborium_value.specs.declared.error.Error.{Error as TreeError}
 use Rattle.ciborium.specs.{Errors.fault_of, declared.de.error.Error.Error}
 use Rattle.ciborium_value.specs.declared.error.Error.TheVariants as of_tree
 
--- ---- from bytes: what the reader held before, what it is left with, and the answer
+-- ---- from bytes: what the reader had left before, what it is left with, and the answer
 
 -- an item stood at the front that gives v within the limit, and just that item was taken
 abbrev pub TakesGiving : {A : Type 0} → Limit → Given A → List ℕ → A → Option (List ℕ) → Type 0

@@ -1,6 +1,4 @@
--- What reading a value promises: what was taken is one good item that means the answer, or is
--- refused with the error, whatever follows it, or at `Io` as if nothing did (`Memory` is no refusal);
--- and a good item at the front is read.
+-- What reading a value promises.
 use Rattle.std.specs.Prelude.{◌≡◌, ℕ, ◌+◌, ◌≤◌, List, [], ◌++◌, length, Option, Some, None, Result, Ok, Err}
 use Rattle.std.specs.Io.KnownBytes.{Consumes}
 use Rattle.ciborium_ll.specs.{Bytes.{AreBytes, greatest_offset}, Refusal.Refusal}
@@ -11,9 +9,9 @@ use Rattle.ciborium_ll.specs.Refusal as refusal
 
 -- ---- refusals
 
--- P holds of the refusal that an error is; of `Memory` nothing is said, and `Semantic` has its offset.
--- `rest` is what was not taken, and matters at `Io` alone (for which `IsTakenFrom` has a line): a
--- refusal only where that is known to be empty
+-- P holds of the refusal that an error is, which at `Semantic` has an offset; of `Memory` nothing is
+-- said. `rest`, what was not taken, matters at `Io` alone, which `IsTakenFrom` does not leave to this
+-- line
 abbrev pub IsRefusedBy : {E : Type 0} → Option (List ℕ) → Error E → (Refusal → Type 0) → Type 0
 IsRefusedBy rest (Io e) P = rest ≡ Some [] → P refusal.io
 IsRefusedBy rest (Syntax p) P = P (refusal.syntax p)
@@ -25,7 +23,7 @@ IsRefusedBy rest TooLong P = P refusal.too_long
 
 -- ---- what a call promises
 
--- A call reads one value in a spelling, within l levels. `before` is what the reader held, where
+-- A call reads one value in a spelling, within l levels. `before` is what the reader had left, where
 -- that is known, `after` what it is left with, which then is known too, and the answer stands by
 -- its tree.
 
@@ -37,15 +35,14 @@ IsTakenFrom spelling p s l (Ok v) = IsReadAs spelling s p (Some l) v
 IsTakenFrom spelling p s l (Err (Io e)) = Refuses spelling s p (Some l) refusal.io
 IsTakenFrom spelling p s l (Err e) = (c : List ℕ) → IsRefusedBy (Some c) e (Refuses spelling (s ++ c) p (Some l))
 
--- some bytes s were taken from offset p on (0 for a call), a beginning of what the reader held, if
+-- some bytes s were taken from offset p on (0 for a call), a beginning of what the reader had left, if
 -- known, within the greatest offset; they fit the answer, and each is a byte
 abbrev pub TakesBytes : {E : Type 0} → Spelling → ℕ → Option (List ℕ) → ℕ → Option (List ℕ) →
     Result Tree (Error E) → Type 0
 TakesBytes spelling p before l after r = (s : List ℕ) ×
     Consumes before after s × (p + length s ≤ greatest_offset) × IsTakenFrom spelling p s l r × AreBytes s
 
--- the answer is `Memory`, or `Io` while bytes are left, or nobody knows (at the reader's end `Io` is a
--- refusal)
+-- the answer is `Memory`, or `Io` while bytes are left (at the reader's end `Io` is a refusal)
 abbrev pub IsFailed : {E : Type 0} → Option (List ℕ) → Error E → Type 0
 IsFailed after (Io e) = ¬ (after ≡ Some [])
 IsFailed after Memory = Unit {0}

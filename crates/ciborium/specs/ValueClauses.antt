@@ -15,7 +15,7 @@ abbrev pub TakesJustItem : {E : Type 0} → Spelling → Option (List ℕ) → �
     Result Tree (Error E) → Type 0
 TakesJustItem spelling before l after r = (b : List ℕ) → before ≡ Some b → IfOk r (λ v. TakesValue spelling b l v after)
 
--- an error is the refusal of what the reader held
+-- an error is the refusal of what the reader had left
 abbrev pub RefusesBytes : {E : Type 0} → Spelling → Option (List ℕ) → ℕ → Option (List ℕ) →
     Result Tree (Error E) → Type 0
 RefusesBytes spelling before l after r = (b : List ℕ) → before ≡ Some b →

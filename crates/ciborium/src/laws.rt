@@ -178,7 +178,7 @@ pub fn one_encoding<T: WritesContent>()
 
 /// What was saved is loaded: of the bytes that `into_writer_deterministic` writes of a value, into
 /// nothing, `from_slice_deterministic` by the same order of keys gives the value's content, unless
-/// memory is refused, or reading of these bytes takes more levels than the limit, which then are
+/// an allocation fails, or reading of these bytes takes more levels than the limit, which then are
 /// fewer than the `levels` of the value (RFC 8949, section 4.2). It rests on the type's own laws
 /// (`FormReadsBack` and `WritesContent`).
 pub fn saved_is_loaded<T: FormReadsBack + WritesContent>()

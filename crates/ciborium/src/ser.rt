@@ -22,8 +22,8 @@ mod sequence;
 /// written in its one shortest definite encoding: definite lengths, the pairs of a map in their
 /// order, a key before its value, and a tag as it stands, a bignum too (section 3.4.3).
 ///
-/// Nothing is buffered, nothing is flushed, and memory is taken only where the type says so, which
-/// no type of this library does.
+/// Nothing is buffered, nothing is flushed, and memory is allocated only where the type says so,
+/// which no type of this library does.
 ///
 /// # Errors
 ///

@@ -28,7 +28,7 @@ pub fn described_come_back()
     one_encoding::<Vec<Option<KeyHeader>>>();
 }
 
-/// A header through its bytes: it comes back with its content, or memory is refused.
+/// A header through its bytes: it comes back with its content, or an allocation fails.
 pub fn header_again(alloc: Global, header: &KeyHeader) -> Result<KeyHeader, de::Error<io::Error>>
     requires valid { ⟦<KeyHeader as ReadsBack>⟧.is_valid header.now }
     requires levels { ⟦<KeyHeader as ReadsBack>⟧.levels header.now ≤ 256 }

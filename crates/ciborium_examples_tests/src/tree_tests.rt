@@ -374,7 +374,7 @@ fn holds_number(answer: Result<Value, AllocError>, number: i128) -> bool {
     }
 }
 
-// Where memory is refused at any place, the answer is the error, and what was to be copied stays.
+// Where an allocation fails at any place, the answer is the error, and what was to be copied stays.
 #[test]
 fn copies(rt: HostRuntime) -> Result<(), Fail> {
     let alloc = rt.alloc();
@@ -388,7 +388,7 @@ fn copies(rt: HostRuntime) -> Result<(), Fail> {
     expect_all(&[is_copied, stays, is_cloned, value.as_array() == Some(&same)])
 }
 
-// Whether memory was refused, or the answer is an array of these values.
+// Whether an allocation failed, or the answer is an array of these values.
 fn is_refused_or_array(answer: Result<Value, AllocError>, values: &Vec<Value>) -> bool {
     match answer {
         Ok(array) => array.as_array() == Some(values),

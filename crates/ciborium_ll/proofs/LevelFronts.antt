@@ -67,8 +67,8 @@ parts_of StringType.Text = TextChunks
 pub data FirstOf (S : Standing) (level : Level) (levels : List Level) (b z : List ℕ) : Type 0 where
   of_item : (c : List ℕ) (more : List Level) → ItemTo S (length levels) b c →
       behind_item (level ∷ levels) ≡ Some more → LevelsTo S more c z → FirstOf S level levels b z
-  of_part : (kind : StringType) (h p c : List ℕ) → IsHead h (string_major kind) (length p) → IsAllowed kind p →
-      b ≡ h ++ (p ++ c) → level ≡ parts_of kind → LevelsTo S (level ∷ levels) c z → FirstOf S level levels b z
+  of_part : (type : StringType) (h p c : List ℕ) → IsHead h (string_major type) (length p) → IsAllowed type p →
+      b ≡ h ++ (p ++ c) → level ≡ parts_of type → LevelsTo S (level ∷ levels) c z → FirstOf S level levels b z
   of_break : (c : List ℕ) → b ≡ 255 ∷ c → behind_break (level ∷ levels) ≡ Some levels → LevelsTo S levels c z →
       FirstOf S level levels b z
 
@@ -205,8 +205,8 @@ module _ (S : Standing) (b c z : List ℕ) (levels more : List Level) (behind : 
       head-first S (heads.Float (length raw)) s [] b c z levels more (raw, spelled, refl) refl split behind ends
 
 module _ (S : Standing) where
-  part-first : (kind : StringType) (level : Level) (levels : List Level) (h p c b z : List ℕ) →
-      IsHead h (string_major kind) (length p) → IsAllowed kind p → b ≡ h ++ (p ++ c) → level ≡ parts_of kind →
+  part-first : (type : StringType) (level : Level) (levels : List Level) (h p c b z : List ℕ) →
+      IsHead h (string_major type) (length p) → IsAllowed type p → b ≡ h ++ (p ++ c) → level ≡ parts_of type →
       LevelsTo S (level ∷ levels) c z → HeadTo S (level ∷ levels) b z
   part-first StringType.Bytes level levels h p c b z head allowed whole is ends =
       head-first S (heads.Bytes (Some (length p))) h p b c z (level ∷ levels) (level ∷ levels) head (refl, allowed)
@@ -222,8 +222,8 @@ module _ (S : Standing) where
       by : FirstOf S level levels b z → HeadTo S (level ∷ levels) b z
       by (of_item c more (i, s, spelled, whole, w) behind rest) =
           item-first S b c z (level ∷ levels) more behind rest i s spelled whole w
-      by (of_part kind h p c head allowed whole is rest) =
-          part-first kind level levels h p c b z head allowed whole is rest
+      by (of_part type h p c head allowed whole is rest) =
+          part-first type level levels h p c b z head allowed whole is rest
       by (of_break c whole behind rest) =
           head-first S heads.Break (255 ∷ []) [] b c z (level ∷ levels) levels refl refl whole behind rest
 

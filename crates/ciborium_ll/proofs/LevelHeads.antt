@@ -35,9 +35,9 @@ open-whole m h s y c e f = ap (λ (x : List ℕ). x ++ y) e ∙
     ap (λ (x : List ℕ). open_byte m ∷ x) (f ∙ sym (append_assoc s (255 ∷ []) c))
 
 -- one part more in front of the others
-chunk-more : (kind : StringType) (h p y c : List ℕ) → IsHead h (string_major kind) (length p) →
-    IsAllowed kind p → ChunksTo kind y c → ChunksTo kind (h ++ (p ++ y)) c
-chunk-more kind h p y c head allowed (ps, r, parts, e) = (
+chunk-more : (type : StringType) (h p y c : List ℕ) → IsHead h (string_major type) (length p) →
+    IsAllowed type p → ChunksTo type y c → ChunksTo type (h ++ (p ++ y)) c
+chunk-more type h p y c head allowed (ps, r, parts, e) = (
   p ∷ ps,
   (h ++ p) ++ r,
   (h ++ p, r, (h, head, allowed, refl), parts, refl),

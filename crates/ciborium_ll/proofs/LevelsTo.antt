@@ -35,8 +35,8 @@ pub record Standing : Type 1 where
 
 -- parts of a string and the break begin b, and z follows them
 abbrev pub ChunksTo : StringType → List ℕ → List ℕ → Type 0
-ChunksTo kind b z = (payloads : List (List ℕ)) × (r : List ℕ) ×
-    AreChunks (string_major kind) (IsAllowed kind) r payloads × (b ≡ r ++ (255 ∷ z))
+ChunksTo type b z = (payloads : List (List ℕ)) × (r : List ℕ) ×
+    AreChunks (string_major type) (IsAllowed type) r payloads × (b ≡ r ++ (255 ∷ z))
 
 -- the levels around the innermost
 abbrev pub around : List Level → ℕ
@@ -178,8 +178,8 @@ module _ (S : Standing) where
   break-longer : (b z : List ℕ) → length (255 ∷ z) ≤ length b → length z ≤ length b
   break-longer b z le = omega arith
 
-  chunks-longer : (kind : StringType) (b z : List ℕ) → ChunksTo kind b z → length z ≤ length b
-  chunks-longer kind b z (ps, r, parts, e) =
+  chunks-longer : (type : StringType) (b z : List ℕ) → ChunksTo type b z → length z ≤ length b
+  chunks-longer type b z (ps, r, parts, e) =
       let long : length b ≡ length r + suc (length z) = ap length e ∙ length-append r (255 ∷ z) in
       omega arith
 

@@ -27,44 +27,44 @@ joined-more (q ∷ ps) p = ap (λ (c : List ℕ). q ++ c) (joined-more ps p) ∙
 
 -- good parts were taken between the offsets p and q, and their payloads appended
 abbrev pub GoodParts : StringType → Option (List ℕ) → Option (List ℕ) → ℕ → ℕ → List ℕ → List ℕ → Type 0
-GoodParts kind a b p q old new = (payloads : List (List ℕ)) × (s : List ℕ) × AreChunks (string_major kind)
-    (IsAllowed kind) s payloads × (new ≡ old ++ joined payloads) × Advances a b p q (λ x. x ≡ s) × (q ≤ greatest_offset)
+GoodParts type a b p q old new = (payloads : List (List ℕ)) × (s : List ℕ) × AreChunks (string_major type)
+    (IsAllowed type) s payloads × (new ≡ old ++ joined payloads) × Advances a b p q (λ x. x ≡ s) × (q ≤ greatest_offset)
 
-string-head : (kind : StringType) (h : List ℕ) (n : ℕ) → SpellsHeader h (string_header kind n) →
-    IsHead h (string_major kind) n
+string-head : (type : StringType) (h : List ℕ) (n : ℕ) → SpellsHeader h (string_header type n) →
+    IsHead h (string_major type) n
 string-head StringType.Bytes h n s = s
 string-head StringType.Text h n s = s
 
 -- a payload of n bytes was taken and appended
 abbrev pub WholePayload : StringType → ℕ → List ℕ → List ℕ → Type 0
-WholePayload kind n b added = (length b ≡ n) × IsAllowed kind b × (added ≡ b)
+WholePayload type n b added = (length b ≡ n) × IsAllowed type b × (added ≡ b)
 
 -- all parts were taken and appended, from offset p on
 abbrev pub WholeParts : StringType → List ℕ → ℕ → List ℕ → Type 0
-WholeParts kind b p added =
-    (payloads : List (List ℕ)) × (s : List ℕ) × AreChunks (string_major kind) (IsAllowed kind) s payloads ×
+WholeParts type b p added =
+    (payloads : List (List ℕ)) × (s : List ℕ) × AreChunks (string_major type) (IsAllowed type) s payloads ×
     (p + length b ≤ greatest_offset) × (b ≡ s ++ break_byte ∷ []) × (added ≡ joined payloads)
 
 -- a part was taken
-pub parts-more : {E : Type 0} (kind : StringType) (a b c d : Option (List ℕ)) (p q r t n : ℕ) (old mid new : List ℕ)
-    (h : Header) → h ≡ string_header kind n →
-    GoodParts kind a b p q old mid → Advances b c q r (λ x. IsHeadTaken {E = E} x q (Ok h)) →
-    Advances c d r t (λ x. (added : List ℕ) × (new ≡ mid ++ added) × WholePayload kind n x added) →
-    t ≤ greatest_offset → GoodParts kind a d p t old new
-parts-more {E} kind a b c d p q r t n old mid new h is (ps, s, parts, was, taken, below) head payload fits =
+pub parts-more : {E : Type 0} (type : StringType) (a b c d : Option (List ℕ)) (p q r t n : ℕ) (old mid new : List ℕ)
+    (h : Header) → h ≡ string_header type n →
+    GoodParts type a b p q old mid → Advances b c q r (λ x. IsHeadTaken {E = E} x q (Ok h)) →
+    Advances c d r t (λ x. (added : List ℕ) × (new ≡ mid ++ added) × WholePayload type n x added) →
+    t ≤ greatest_offset → GoodParts type a d p t old new
+parts-more {E} type a b c d p q r t n old mid new h is (ps, s, parts, was, taken, below) head payload fits =
     let body : List ℕ = payload.0 in
     let added : List ℕ = payload.3.0 in
     let same : added ≡ body = payload.3.2.2 in
-    let spelled : IsHead head.0 (string_major kind) (length body) =
-    subst (IsHead head.0 (string_major kind)) (sym payload.3.2.0)
-    (string-head kind head.0 n (subst (SpellsHeader head.0) is head.3.answers.0)) in
+    let spelled : IsHead head.0 (string_major type) (length body) =
+    subst (IsHead head.0 (string_major type)) (sym payload.3.2.0)
+    (string-head type head.0 n (subst (SpellsHeader head.0) is head.3.answers.0)) in
     let whole : Advances b d q t (λ x. x ≡ head.0 ++ body) =
     Advances-then b c d q r t (λ x. x ≡ head.0) (λ x. x ≡ body) (λ x. x ≡ head.0 ++ body)
     (λ x y e f. ap (λ (l : List ℕ). l ++ y) e ∙ ap (λ (l : List ℕ). head.0 ++ l) f)
     (head.0, head.1, head.2, refl, head.4) (body, payload.1, payload.2, refl, payload.4) in (
       ps ++ body ∷ [],
       s ++ (head.0 ++ body),
-      AreParts-more (string_major kind) (IsAllowed kind) ps s (head.0 ++ body) body parts
+      AreParts-more (string_major type) (IsAllowed type) ps s (head.0 ++ body) body parts
           (head.0, spelled, payload.3.2.1, refl),
       payload.3.1 ∙ ap (λ (l : List ℕ). l ++ added) was ∙ append_assoc old (joined ps) added ∙
           ap (λ (l : List ℕ). old ++ (joined ps ++ l)) same ∙ ap (λ (l : List ℕ). old ++ l) (sym (joined-more ps body)),
@@ -74,17 +74,17 @@ parts-more {E} kind a b c d p q r t n old mid new h is (ps, s, parts, was, taken
     )
 
 -- the break
-pub parts-end : {E : Type 0} (kind : StringType) (a b c : Option (List ℕ)) (p q r : ℕ) (old mid : List ℕ) (h : Header) →
-    h ≡ header.Break → GoodParts kind a b p q old mid → Advances b c q r (λ x. IsHeadTaken {E = E} x q (Ok h)) →
-    Advances a c p r (λ x. (added : List ℕ) × (mid ≡ old ++ added) × WholeParts kind x p added)
-parts-end {E} kind a b c p q r old mid h is (ps, s, parts, was, taken, below) head =
+pub parts-end : {E : Type 0} (type : StringType) (a b c : Option (List ℕ)) (p q r : ℕ) (old mid : List ℕ) (h : Header) →
+    h ≡ header.Break → GoodParts type a b p q old mid → Advances b c q r (λ x. IsHeadTaken {E = E} x q (Ok h)) →
+    Advances a c p r (λ x. (added : List ℕ) × (mid ≡ old ++ added) × WholeParts type x p added)
+parts-end {E} type a b c p q r old mid h is (ps, s, parts, was, taken, below) head =
     let broken : head.0 ≡ break_byte ∷ [] = subst (SpellsHeader head.0) is head.3.answers.0 in
     let fits : q < greatest_offset = (usable-fits 255 [] q
     (subst (λ l. Rattle.ciborium_ll.specs.Refusal.IsUsable l q) broken head.3.answers.1)).0 in
     let at : q ≡ p + length s = taken.2 ∙ ap (λ (l : List ℕ). p + length l) taken.3 in
     let end : length (s ++ break_byte ∷ []) ≡ length s + 1 = length-append s (break_byte ∷ []) in
     Advances-then a b c p q r (λ x. x ≡ s) (λ x. x ≡ break_byte ∷ [])
-    (λ x. (added : List ℕ) × (mid ≡ old ++ added) × WholeParts kind x p added)
+    (λ x. (added : List ℕ) × (mid ≡ old ++ added) × WholeParts type x p added)
     (λ x y e f. let same : x ++ y ≡ s ++ break_byte ∷ [] = ap (λ (l : List ℕ). l ++ y) e ∙
     ap (λ (l : List ℕ). s ++ l) f in
     let len : length (x ++ y) ≡ length (s ++ break_byte ∷ []) = ap length same in
@@ -92,14 +92,14 @@ parts-end {E} kind a b c p q r old mid h is (ps, s, parts, was, taken, below) he
     taken (head.0, head.1, head.2, broken, head.4)
 
 -- a refusal behind some parts
-pub parts-refused : {E : Type 0} (kind : StringType) (a b c : Option (List ℕ)) (p q r : ℕ) (old mid new : List ℕ)
-    (e : Error E) → GoodParts kind a b p q old mid → new ≡ mid →
-    Advances b c q r (λ x. IsChunkTaken {E = E} kind x q e) →
-    Advances a c p r (λ x. (added : List ℕ) × (new ≡ old ++ added) × AreChunksTaken {E = E} kind x p (Err e) added)
-parts-refused {E} kind a b c p q r old mid new e (ps, s, parts, was, taken, below) same part =
+pub parts-refused : {E : Type 0} (type : StringType) (a b c : Option (List ℕ)) (p q r : ℕ) (old mid new : List ℕ)
+    (e : Error E) → GoodParts type a b p q old mid → new ≡ mid →
+    Advances b c q r (λ x. IsChunkTaken {E = E} type x q e) →
+    Advances a c p r (λ x. (added : List ℕ) × (new ≡ old ++ added) × AreChunksTaken {E = E} type x p (Err e) added)
+parts-refused {E} type a b c p q r old mid new e (ps, s, parts, was, taken, below) same part =
     let at : q ≡ p + length s = taken.2 ∙ ap (λ (l : List ℕ). p + length l) taken.3 in
-    Advances-then a b c p q r (λ x. x ≡ s) (λ x. IsChunkTaken {E = E} kind x q e)
-    (λ x. (added : List ℕ) × (new ≡ old ++ added) × AreChunksTaken {E = E} kind x p (Err e) added)
+    Advances-then a b c p q r (λ x. x ≡ s) (λ x. IsChunkTaken {E = E} type x q e)
+    (λ x. (added : List ℕ) × (new ≡ old ++ added) × AreChunksTaken {E = E} type x p (Err e) added)
     (λ x y f g. (
       joined ps,
       same ∙ was,
@@ -111,7 +111,7 @@ parts-refused {E} kind a b c p q r old mid new e (ps, s, parts, was, taken, belo
         (
           y,
           ap (λ (l : List ℕ). l ++ y) f,
-          subst (λ k. IsChunkTaken {E = E} kind y k e) at g,
+          subst (λ k. IsChunkTaken {E = E} type y k e) at g,
         ),
         refl,
       ),
@@ -119,32 +119,32 @@ parts-refused {E} kind a b c p q r old mid new e (ps, s, parts, was, taken, belo
     taken part
 
 -- a refused payload appended nothing
-pub nothing-appended : {E : Type 0} (kind : StringType) (n p : ℕ) (e : Error E) (added b : List ℕ) →
-    IsPayloadTaken {E = E} kind n p b (Err e) added → (added ≡ []) × IsPayloadTaken {E = E} kind n p b (Err e) []
-nothing-appended kind n p (Syntax at) added b h = (h.3, (h.0, h.1, h.2, refl))
-nothing-appended kind n p TooLong added b h = absurd h
-nothing-appended kind n p u added b h = (h.1, (h.0, refl))
+pub nothing-appended : {E : Type 0} (type : StringType) (n p : ℕ) (e : Error E) (added b : List ℕ) →
+    IsPayloadTaken {E = E} type n p b (Err e) added → (added ≡ []) × IsPayloadTaken {E = E} type n p b (Err e) []
+nothing-appended type n p (Syntax at) added b h = (h.3, (h.0, h.1, h.2, refl))
+nothing-appended type n p TooLong added b h = absurd h
+nothing-appended type n p u added b h = (h.1, (h.0, refl))
 
 -- the payload of a part was refused
-pub payload-refused : {E : Type 0} (kind : StringType) (b c d : Option (List ℕ)) (k q r t n : ℕ) (mid new : List ℕ)
+pub payload-refused : {E : Type 0} (type : StringType) (b c d : Option (List ℕ)) (k q r t n : ℕ) (mid new : List ℕ)
     (h : Header) (e : Error E) →
-    k ≡ q → h ≡ string_header kind n → Advances b c q r (λ x. IsHeadTaken {E = E} x q (Ok h)) →
-    Advances c d r t (λ x. (added : List ℕ) × (new ≡ mid ++ added) × IsPayloadTaken {E = E} kind n k x (Err e) added) →
-    (new ≡ mid) × Advances b d q t (λ x. IsChunkTaken {E = E} kind x q e)
-payload-refused {E} kind b c d k q r t n mid new h e here is head payload =
-    let none = nothing-appended {E = E} kind n q e payload.3.0 payload.0
-    (subst (λ j. IsPayloadTaken {E = E} kind n j payload.0 (Err e) payload.3.0) here payload.3.2) in (
+    k ≡ q → h ≡ string_header type n → Advances b c q r (λ x. IsHeadTaken {E = E} x q (Ok h)) →
+    Advances c d r t (λ x. (added : List ℕ) × (new ≡ mid ++ added) × IsPayloadTaken {E = E} type n k x (Err e) added) →
+    (new ≡ mid) × Advances b d q t (λ x. IsChunkTaken {E = E} type x q e)
+payload-refused {E} type b c d k q r t n mid new h e here is head payload =
+    let none = nothing-appended {E = E} type n q e payload.3.0 payload.0
+    (subst (λ j. IsPayloadTaken {E = E} type n j payload.0 (Err e) payload.3.0) here payload.3.2) in (
       payload.3.1 ∙ ap (λ (l : List ℕ). mid ++ l) none.0 ∙ append-nil mid,
       Advances-then b c d q r t (λ x. IsHeadTaken {E = E} x q (Ok h))
-          (λ x. IsPayloadTaken {E = E} kind n q x (Err e) []) (λ x. IsChunkTaken {E = E} kind x q e)
+          (λ x. IsPayloadTaken {E = E} type n q x (Err e) []) (λ x. IsChunkTaken {E = E} type x q e)
           (λ x y f g. inr (inr (n, x, y, refl, subst (λ k. IsHeadTaken {E = E} x q (Ok k)) is f, g)))
           head (payload.0, payload.1, payload.2, none.1, payload.4),
     )
 
 -- before the first part
-pub parts-none : (kind : StringType) (a : Option (List ℕ)) (p : ℕ) (old : List ℕ) → p ≤ greatest_offset →
-    GoodParts kind a a p p old old
-parts-none kind a p old fits = (
+pub parts-none : (type : StringType) (a : Option (List ℕ)) (p : ℕ) (old : List ℕ) → p ≤ greatest_offset →
+    GoodParts type a a p p old old
+parts-none type a p old fits = (
   [],
   [],
   refl,
@@ -154,10 +154,10 @@ parts-none kind a p old fits = (
 )
 
 -- a head that is no part's
-pub other-refused : {E : Type 0} (kind : StringType) (b c : Option (List ℕ)) (k q r : ℕ) (h : Header) → k ≡ q →
-    IsChunk kind h Other → Advances b c q r (λ x. IsHeadTaken {E = E} x q (Ok h)) →
-    Advances b c q r (λ x. IsChunkTaken {E = E} kind x q (Syntax k))
-other-refused {E} kind b c k q r h here other head = (
+pub other-refused : {E : Type 0} (type : StringType) (b c : Option (List ℕ)) (k q r : ℕ) (h : Header) → k ≡ q →
+    IsChunk type h Other → Advances b c q r (λ x. IsHeadTaken {E = E} x q (Ok h)) →
+    Advances b c q r (λ x. IsChunkTaken {E = E} type x q (Syntax k))
+other-refused {E} type b c k q r h here other head = (
   head.0,
   head.1,
   head.2,
@@ -166,16 +166,16 @@ other-refused {E} kind b c k q r h here other head = (
 )
 
 -- a head that was refused
-pub part-head-refused : {E : Type 0} (kind : StringType) (b c : Option (List ℕ)) (q r : ℕ) (e : Error E) →
-    Advances b c q r (λ x. IsHeadTaken {E = E} x q (Err e)) → Advances b c q r (λ x. IsChunkTaken {E = E} kind x q e)
-part-head-refused {E} kind b c q r e head = (head.0, head.1, head.2, inl head.3, head.4)
+pub part-head-refused : {E : Type 0} (type : StringType) (b c : Option (List ℕ)) (q r : ℕ) (e : Error E) →
+    Advances b c q r (λ x. IsHeadTaken {E = E} x q (Err e)) → Advances b c q r (λ x. IsChunkTaken {E = E} type x q e)
+part-head-refused {E} type b c q r e head = (head.0, head.1, head.2, inl head.3, head.4)
 
 -- the payload of a part fits behind its head
-pub payload-fits : {E : Type 0} (kind : StringType) (b c : Option (List ℕ)) (q r n : ℕ) (h : Header) →
-    h ≡ string_header kind n → Advances b c q r (λ x. IsHeadTaken {E = E} x q (Ok h)) → r + n ≤ greatest_offset
-payload-fits {E} kind b c q r n h is head =
-    let fits = header-fits {E = E} head.0 q (string_header kind n)
-    (subst (λ k. IsHeadTaken {E = E} head.0 q (Ok k)) is head.3) in omega (arith, fits, announced kind, head.2)
+pub payload-fits : {E : Type 0} (type : StringType) (b c : Option (List ℕ)) (q r n : ℕ) (h : Header) →
+    h ≡ string_header type n → Advances b c q r (λ x. IsHeadTaken {E = E} x q (Ok h)) → r + n ≤ greatest_offset
+payload-fits {E} type b c q r n h is head =
+    let fits = header-fits {E = E} head.0 q (string_header type n)
+    (subst (λ k. IsHeadTaken {E = E} head.0 q (Ok k)) is head.3) in omega (arith, fits, announced type, head.2)
   where
     announced : (k : StringType) → announced_length (string_header k n) ≡ n
     announced StringType.Bytes = refl

@@ -58,43 +58,43 @@ behind old mid x start at more =
     take_all (length mid - start) (drop start mid) (omega
     (arith, at, ap length more, length-append old x, ap length rest)) ∙ rest
 
-dropped : {E : Type 0} (kind : StringType) (n head start : ℕ) (old mid new x : List ℕ) (e : Error E) →
+dropped : {E : Type 0} (type : StringType) (n head start : ℕ) (old mid new x : List ℕ) (e : Error E) →
     start ≡ length old → new ≡ take start mid → IsPiecesTaken {E = E} n x (Err e) old mid →
-    Grows old new (IsPayloadTaken {E = E} kind n head x (Err e))
-dropped kind n head start old mid new x (Io e) at same h = ([], taken-off old mid new start at same h.1, (h.0, refl))
-dropped kind n head start old mid new x (Syntax o) at same h = absurd h
-dropped kind n head start old mid new x TooLong at same h = absurd h
-dropped kind n head start old mid new x Memory at same h = ([], taken-off old mid new start at same h.1, (h.0, refl))
+    Grows old new (IsPayloadTaken {E = E} type n head x (Err e))
+dropped type n head start old mid new x (Io e) at same h = ([], taken-off old mid new start at same h.1, (h.0, refl))
+dropped type n head start old mid new x (Syntax o) at same h = absurd h
+dropped type n head start old mid new x TooLong at same h = absurd h
+dropped type n head start old mid new x Memory at same h = ([], taken-off old mid new start at same h.1, (h.0, refl))
 
 -- a piece was refused
-pub payload-dropped : {E : Type 0} (kind : StringType) (a b : Option (List ℕ)) (p q n head start : ℕ)
+pub payload-dropped : {E : Type 0} (type : StringType) (a b : Option (List ℕ)) (p q n head start : ℕ)
     (old mid new : List ℕ) (e : Error E) → start ≡ length old → new ≡ take start mid →
     Advances a b p q (λ x. IsPiecesTaken {E = E} n x (Err e) old mid) →
-    Advances a b p q (λ x. Grows old new (IsPayloadTaken {E = E} kind n head x (Err e)))
-payload-dropped {E} kind a b p q n head start old mid new e at same =
+    Advances a b p q (λ x. Grows old new (IsPayloadTaken {E = E} type n head x (Err e)))
+payload-dropped {E} type a b p q n head start old mid new e at same =
     Advances-map a b p q (λ x. IsPiecesTaken {E = E} n x (Err e) old mid)
-    (λ x. Grows old new (IsPayloadTaken {E = E} kind n head x (Err e)))
-    (λ x h. dropped {E = E} kind n head start old mid new x e at same h)
+    (λ x. Grows old new (IsPayloadTaken {E = E} type n head x (Err e)))
+    (λ x h. dropped {E = E} type n head start old mid new x e at same h)
 
--- the payload is none of its kind
-pub payload-refused : (kind : StringType) (a b : Option (List ℕ)) (p q n head start : ℕ) (old mid new : List ℕ) →
-    start ≡ length old → new ≡ take start mid → ¬ IsAllowed kind (take (length mid - start) (drop start mid)) →
+-- the payload is none of its type
+pub payload-refused : (type : StringType) (a b : Option (List ℕ)) (p q n head start : ℕ) (old mid new : List ℕ) →
+    start ≡ length old → new ≡ take start mid → ¬ IsAllowed type (take (length mid - start) (drop start mid)) →
     Advances a b p q (λ x. (length x ≡ n) × (mid ≡ old ++ x)) →
-    Advances a b p q (λ x. Grows old new (λ added. (head ≡ head) × (length x ≡ n) × ¬ IsAllowed kind x × (added ≡ [])))
-payload-refused kind a b p q n head start old mid new at same not =
+    Advances a b p q (λ x. Grows old new (λ added. (head ≡ head) × (length x ≡ n) × ¬ IsAllowed type x × (added ≡ [])))
+payload-refused type a b p q n head start old mid new at same not =
     Advances-map a b p q (λ x. (length x ≡ n) × (mid ≡ old ++ x))
-    (λ x. Grows old new (λ added. (head ≡ head) × (length x ≡ n) × ¬ IsAllowed kind x × (added ≡ [])))
+    (λ x. Grows old new (λ added. (head ≡ head) × (length x ≡ n) × ¬ IsAllowed type x × (added ≡ [])))
     (λ x h. (
       [],
       taken-off old mid new start at same (x, h.1),
-      (refl, h.0, subst (λ l. ¬ IsAllowed kind l) (behind old mid x start at h.1) not, refl),
+      (refl, h.0, subst (λ l. ¬ IsAllowed type l) (behind old mid x start at h.1) not, refl),
     ))
 
 -- it is one
-pub payload-whole : (kind : StringType) (a b : Option (List ℕ)) (p q n start : ℕ) (old mid : List ℕ) →
-    start ≡ length old → IsAllowed kind (take (length mid - start) (drop start mid)) →
+pub payload-whole : (type : StringType) (a b : Option (List ℕ)) (p q n start : ℕ) (old mid : List ℕ) →
+    start ≡ length old → IsAllowed type (take (length mid - start) (drop start mid)) →
     Advances a b p q (λ x. (length x ≡ n) × (mid ≡ old ++ x)) →
-    Advances a b p q (λ x. Grows old mid (λ added. (length x ≡ n) × IsAllowed kind x × (added ≡ x)))
-payload-whole kind a b p q n start old mid at allowed = Advances-map a b p q (λ x. (length x ≡ n) × (mid ≡ old ++ x))
-    (λ x. Grows old mid (λ added. (length x ≡ n) × IsAllowed kind x × (added ≡ x)))
-    (λ x h. (x, h.1, (h.0, subst (IsAllowed kind) (behind old mid x start at h.1) allowed, refl)))
+    Advances a b p q (λ x. Grows old mid (λ added. (length x ≡ n) × IsAllowed type x × (added ≡ x)))
+payload-whole type a b p q n start old mid at allowed = Advances-map a b p q (λ x. (length x ≡ n) × (mid ≡ old ++ x))
+    (λ x. Grows old mid (λ added. (length x ≡ n) × IsAllowed type x × (added ≡ x)))
+    (λ x h. (x, h.1, (h.0, subst (IsAllowed type) (behind old mid x start at h.1) allowed, refl)))

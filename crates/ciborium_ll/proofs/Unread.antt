@@ -81,16 +81,16 @@ pulls-head {E} old new last count b q p (Err e) (at, known) here taken =
 -- ---- strings
 
 -- where a payload was refused, what was left refuses so
-pub payload-refuses : {E : Type 0} (kind : StringType) (n p : ℕ) (left : Option (List ℕ)) (e : Error E)
-    (added x r b : List ℕ) → IsPayloadTaken {E = E} kind n p x (Err e) added →
-    b ≡ x ++ r → left ≡ Some r → IsRefusalOf left e (PayloadRefuses kind n p b)
-payload-refuses kind n p left (Io e) added x r b t is rest =
+pub payload-refuses : {E : Type 0} (type : StringType) (n p : ℕ) (left : Option (List ℕ)) (e : Error E)
+    (added x r b : List ℕ) → IsPayloadTaken {E = E} type n p x (Err e) added →
+    b ≡ x ++ r → left ≡ Some r → IsRefusalOf left e (PayloadRefuses type n p b)
+payload-refuses type n p left (Io e) added x r b t is rest =
     λ end. PayloadRefuses.ends_early (subst (λ (c : List ℕ). length c < n) (sym (taken-whole x r b left is rest end))
     t.0)
-payload-refuses kind n p left (Syntax at) added x r b t is rest = subst (λ k. PayloadRefuses kind n p b (syntax k))
-    (sym t.0) (subst (λ c. PayloadRefuses kind n p c (syntax p)) (sym is) (PayloadRefuses.not_allowed x r t.1 t.2))
-payload-refuses kind n p left TooLong added x r b t is rest = absurd t
-payload-refuses kind n p left Memory added x r b t is rest = tt
+payload-refuses type n p left (Syntax at) added x r b t is rest = subst (λ k. PayloadRefuses type n p b (syntax k))
+    (sym t.0) (subst (λ c. PayloadRefuses type n p c (syntax p)) (sym is) (PayloadRefuses.not_allowed x r t.1 t.2))
+payload-refuses type n p left TooLong added x r b t is rest = absurd t
+payload-refuses type n p left Memory added x r b t is rest = tt
 
 -- one refusal in place of another that follows from it
 pub refused-map : {E : Type 0} (left : Option (List ℕ)) (e : Error E) (P Q : Refusal → Type 0) →
@@ -100,14 +100,14 @@ refused-map left (Syntax at) P Q f h = f (syntax at) h
 refused-map left TooLong P Q f h = f too_long h
 refused-map left Memory P Q f h = tt
 
-string-stands : (kind : StringType) (n : ℕ) (x r b : List ℕ) → SpellsHeader x (string_header kind n) → b ≡ x ++ r →
-    HasHead b (string_major kind) n (length x) r
+string-stands : (type : StringType) (n : ℕ) (x r b : List ℕ) → SpellsHeader x (string_header type n) → b ≡ x ++ r →
+    HasHead b (string_major type) n (length x) r
 string-stands StringType.Bytes n x r b s is = (x, s, refl, is)
 string-stands StringType.Text n x r b s is = (x, s, refl, is)
 
 -- a string begins here only where its head was read
-string-begun : (kind : StringType) (x r b : List ℕ) (h : Header) → SpellsHeader x h → b ≡ x ++ r →
-    HasStringHead kind b → (n : ℕ) × (h ≡ string_header kind n)
+string-begun : (type : StringType) (x r b : List ℕ) (h : Header) → SpellsHeader x h → b ≡ x ++ r →
+    HasStringHead type b → (n : ℕ) × (h ≡ string_header type n)
 string-begun StringType.Bytes x r b h s is (n, k, q, (y, head, len, whole)) =
     (n, (one_header_at_front x y r q h (header.Bytes (Some n)) s head (sym is ∙ whole)).2)
 string-begun StringType.Text x r b h s is (n, k, q, (y, head, len, whole)) =
@@ -118,58 +118,58 @@ break-begun x r b h s is (q, whole) = (one_header_at_front x (break_byte ∷ [])
     (sym is ∙ whole)).2
 
 -- where a part was refused, what was left refuses so
-pub part-refuses : {E : Type 0} (kind : StringType) (x r b : List ℕ) (p : ℕ) (left : Option (List ℕ)) (e : Error E) →
-    IsChunkTaken {E = E} kind x p e → b ≡ x ++ r → left ≡ Some r → IsRefusalOf left e (ChunkRefuses kind b p)
-part-refuses {E} kind x r b p left e (inl t) is rest = refused-map left e (HeadRefuses b p)
-    (ChunkRefuses kind b p) (λ f h. ChunkRefuses.no_head h) (head-refuses {E = E} x r b p left e t is rest)
-part-refuses {E} kind x r b p left e (inr (inl (h, t, other, here))) is rest =
-    subst (λ k. IsRefusalOf left k (ChunkRefuses kind b p)) (sym here)
+pub part-refuses : {E : Type 0} (type : StringType) (x r b : List ℕ) (p : ℕ) (left : Option (List ℕ)) (e : Error E) →
+    IsChunkTaken {E = E} type x p e → b ≡ x ++ r → left ≡ Some r → IsRefusalOf left e (ChunkRefuses type b p)
+part-refuses {E} type x r b p left e (inl t) is rest = refused-map left e (HeadRefuses b p)
+    (ChunkRefuses type b p) (λ f h. ChunkRefuses.no_head h) (head-refuses {E = E} x r b p left e t is rest)
+part-refuses {E} type x r b p left e (inr (inl (h, t, other, here))) is rest =
+    subst (λ k. IsRefusalOf left k (ChunkRefuses type b p)) (sym here)
     (ChunkRefuses.other (subst (λ c. IsUsable c p) (sym is) (usable-more x r p t.answers.1))
-    (λ begun. let k = string-begun kind x r b h t.answers.0 is begun in other.1 k.0 k.1)
+    (λ begun. let k = string-begun type x r b h t.answers.0 is begun in other.1 k.0 k.1)
     (λ begun. other.0 (break-begun x r b h t.answers.0 is begun)))
-part-refuses {E} kind x r b p left e (inr (inr (n, s, y, split, t, payload))) is rest =
+part-refuses {E} type x r b p left e (inr (inr (n, s, y, split, t, payload))) is rest =
     let whole : b ≡ s ++ (y ++ r) = is ∙ ap (λ (c : List ℕ). c ++ r) split ∙ append_assoc s y r in
-    refused-map left e (PayloadRefuses kind n p (y ++ r)) (ChunkRefuses kind b p)
+    refused-map left e (PayloadRefuses type n p (y ++ r)) (ChunkRefuses type b p)
     (λ f h. ChunkRefuses.chunk (subst (λ c. IsUsable c p) (sym whole) (usable-more s (y ++ r) p t.answers.1))
-    (n, length s, y ++ r, string-stands kind n s (y ++ r) b t.answers.0 whole, h))
-    (payload-refuses {E = E} kind n p left e [] y r (y ++ r) payload refl rest)
+    (n, length s, y ++ r, string-stands type n s (y ++ r) b t.answers.0 whole, h))
+    (payload-refuses {E = E} type n p left e [] y r (y ++ r) payload refl rest)
 
-pub parts-refuse : {E : Type 0} (kind : StringType) (x r b : List ℕ) (q : ℕ) (left : Option (List ℕ)) (e : Error E)
-    (added : List ℕ) → AreChunksTaken {E = E} kind x q (Err e) added → b ≡ x ++ r →
-    left ≡ Some r → IsRefusalOf left e (ChunksRefuse kind b q)
-parts-refuse {E} kind x r b q left e added (ps, s, parts, fits, (y, split, part), same) is rest =
-    refused-map left e (ChunkRefuses kind (y ++ r) (q + length s)) (ChunksRefuse kind b q)
+pub parts-refuse : {E : Type 0} (type : StringType) (x r b : List ℕ) (q : ℕ) (left : Option (List ℕ)) (e : Error E)
+    (added : List ℕ) → AreChunksTaken {E = E} type x q (Err e) added → b ≡ x ++ r →
+    left ≡ Some r → IsRefusalOf left e (ChunksRefuse type b q)
+parts-refuse {E} type x r b q left e added (ps, s, parts, fits, (y, split, part), same) is rest =
+    refused-map left e (ChunkRefuses type (y ++ r) (q + length s)) (ChunksRefuse type b q)
     (λ f h. (s, ps, y ++ r, parts, fits, is ∙ ap (λ (c : List ℕ). c ++ r) split ∙ append_assoc s y r, h))
-    (part-refuses {E = E} kind y r (y ++ r) (q + length s) left e part refl rest)
+    (part-refuses {E = E} type y r (y ++ r) (q + length s) left e part refl rest)
 
-pub string-refuses : {E : Type 0} (kind : StringType) (len : Option ℕ) (p : ℕ) (x r b : List ℕ) (q : ℕ)
-    (left : Option (List ℕ)) (e : Error E) (added : List ℕ) → IsStringTaken {E = E} kind len p x q (Err e) added →
-    b ≡ x ++ r → left ≡ Some r → IsRefusalOf left e (ContentRefuses kind len p b q)
-string-refuses {E} kind (Some n) p x r b q left (Io e) added (inl (over, is, none, nothing)) split rest = absurd cc
-string-refuses {E} kind (Some n) p x r b q left (Syntax at) added (inl (over, is, none, nothing)) split rest = absurd cc
-string-refuses {E} kind (Some n) p x r b q left TooLong added (inl (over, is, none, nothing)) split rest =
+pub string-refuses : {E : Type 0} (type : StringType) (len : Option ℕ) (p : ℕ) (x r b : List ℕ) (q : ℕ)
+    (left : Option (List ℕ)) (e : Error E) (added : List ℕ) → IsStringTaken {E = E} type len p x q (Err e) added →
+    b ≡ x ++ r → left ≡ Some r → IsRefusalOf left e (ContentRefuses type len p b q)
+string-refuses {E} type (Some n) p x r b q left (Io e) added (inl (over, is, none, nothing)) split rest = absurd cc
+string-refuses {E} type (Some n) p x r b q left (Syntax at) added (inl (over, is, none, nothing)) split rest = absurd cc
+string-refuses {E} type (Some n) p x r b q left TooLong added (inl (over, is, none, nothing)) split rest =
     inl (over, refl)
-string-refuses {E} kind (Some n) p x r b q left Memory added (inl t) split rest = tt
-string-refuses {E} kind (Some n) p x r b q left e added (inr (fits, t)) split rest =
-    refused-map left e (PayloadRefuses kind n p b) (ContentRefuses kind (Some n) p b q) (λ f h. inr (fits, h))
-    (payload-refuses {E = E} kind n p left e added x r b t split rest)
-string-refuses {E} kind None p x r b q left e added t split rest =
-    parts-refuse {E = E} kind x r b q left e added t split rest
+string-refuses {E} type (Some n) p x r b q left Memory added (inl t) split rest = tt
+string-refuses {E} type (Some n) p x r b q left e added (inr (fits, t)) split rest =
+    refused-map left e (PayloadRefuses type n p b) (ContentRefuses type (Some n) p b q) (λ f h. inr (fits, h))
+    (payload-refuses {E = E} type n p left e added x r b t split rest)
+string-refuses {E} type None p x r b q left e added t split rest =
+    parts-refuse {E = E} type x r b q left e added t split rest
 
 -- the same, where the bytes were known
-pub reads-string : {E : Type 0} (kind : StringType) (len : Option ℕ) (p q t : ℕ) (old new : Option (List ℕ))
+pub reads-string : {E : Type 0} (type : StringType) (len : Option ℕ) (p q t : ℕ) (old new : Option (List ℕ))
     (e : Error E) (b : List ℕ) (A : List ℕ → List ℕ → Type 0) →
-    Advances old new q t (λ x. (added : List ℕ) × A added x × IsStringTaken {E = E} kind len p x q (Err e) added) →
-    old ≡ Some b → IsRefusalOf new e (ContentRefuses kind len p b q)
-reads-string {E} kind len p q t old new e b A (x, taken, count, (added, h, s), bytes) is =
-    let k = rest-of old new b x is taken in string-refuses {E = E} kind len p x k.0 b q new e added s k.2 k.1
+    Advances old new q t (λ x. (added : List ℕ) × A added x × IsStringTaken {E = E} type len p x q (Err e) added) →
+    old ≡ Some b → IsRefusalOf new e (ContentRefuses type len p b q)
+reads-string {E} type len p q t old new e b A (x, taken, count, (added, h, s), bytes) is =
+    let k = rest-of old new b x is taken in string-refuses {E = E} type len p x k.0 b q new e added s k.2 k.1
 
-pub refused-string : {E : Type 0} (kind : StringType) (len : Option ℕ) (p q t : ℕ) (old new : Option (List ℕ))
+pub refused-string : {E : Type 0} (type : StringType) (len : Option ℕ) (p q t : ℕ) (old new : Option (List ℕ))
     (result : Result (Unit {0}) (Error E)) (b : List ℕ) (A : List ℕ → List ℕ → Type 0) →
-    Advances old new q t (λ x. (added : List ℕ) × A added x × IsStringTaken {E = E} kind len p x q result added) →
-    old ≡ Some b → IfErr result (λ e. IsRefusalOf new e (ContentRefuses kind len p b q))
-refused-string {E} kind len p q t old new (Ok u) b A h is = tt
-refused-string {E} kind len p q t old new (Err e) b A h is = reads-string {E = E} kind len p q t old new e b A h is
+    Advances old new q t (λ x. (added : List ℕ) × A added x × IsStringTaken {E = E} type len p x q result added) →
+    old ≡ Some b → IfErr result (λ e. IsRefusalOf new e (ContentRefuses type len p b q))
+refused-string {E} type len p q t old new (Ok u) b A h is = tt
+refused-string {E} type len p q t old new (Err e) b A h is = reads-string {E = E} type len p q t old new e b A h is
 
 -- ---- what is appended of a text is UTF-8
 

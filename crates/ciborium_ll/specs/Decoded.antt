@@ -61,7 +61,7 @@ pub record HasVisited {S W V E : Type 0} (can_fail : Bool) (remaining : S → Op
 
 -- what the last head, that of a string, announces was put behind `before`, whole or up to what is
 -- refused
-pub record HasAppended {S W E : Type 0} (kind : StringType) (len : Option ℕ) (can_fail : Bool)
+pub record HasAppended {S W E : Type 0} (type : StringType) (len : Option ℕ) (can_fail : Bool)
     (remaining : S → Option (List ℕ)) (old new : Decoder S W) (before after : List ℕ)
     (result : Result (Unit {0}) (Error E)) : Type 0 where
   pub same_reader : HasSameReader old new
@@ -69,9 +69,9 @@ pub record HasAppended {S W E : Type 0} (kind : StringType) (len : Option ℕ) (
   pub last : last_of new ≡ last_of old
   pub head_len : head_len_of new ≡ head_len_of old
   pub taken : Takes remaining old new (λ b. Grows before after
-      (IsStringTaken kind len (last_of old) b (count_of old) result))
+      (IsStringTaken type len (last_of old) b (count_of old) result))
   -- the same, said of all that is unread
   pub refused : (b : List ℕ) → left_of remaining old ≡ Some b →
-      IfErr result (λ e. IsRefusalOf (left_of remaining new) e (ContentRefuses kind len (last_of old) b (count_of old)))
+      IfErr result (λ e. IsRefusalOf (left_of remaining new) e (ContentRefuses type len (last_of old) b (count_of old)))
   -- a reader that cannot fail before its end has nothing left at `Io`
   pub ended : IfErr result (λ e. HasEndedFor can_fail remaining new e)

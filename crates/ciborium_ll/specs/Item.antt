@@ -15,7 +15,7 @@ mutual
     array : Bool → Items → Item
     map : Bool → Pairs → Item
     tag : ℕ → Item → Item
-    -- false is 20, true 21, null 22, undefined 23
+    -- a simple value: false is 20, true 21, null 22, undefined 23
     simple : ℕ → Item
     -- its raw bytes
     float : List ℕ → Item

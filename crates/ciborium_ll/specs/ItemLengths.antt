@@ -12,7 +12,7 @@ use Rattle.ciborium_ll.specs.declared.levels.Level.{Level, TheVariants.{ByteChun
 abbrev pub BeginText : ℕ → List ℕ → Type 0
 BeginText n b = (t : List ℕ) × (length (b ++ t) ≡ n) × IsUtf8 (b ++ t)
 
--- the major type of the parts of which a level consists, where it is an open string
+-- the major type of the chunks of which a level consists, where it is an open string
 abbrev pub chunk_major : List Level → Option ℕ
 chunk_major (ByteChunks ∷ levels) = Some 2
 chunk_major (TextChunks ∷ levels) = Some 3
@@ -22,10 +22,10 @@ chunk_major _ = None
 pub data Misfits (levels : List Level) (b : List ℕ) : Type 0 where
   -- no well-formed head stands there (section 3)
   ill_formed : is_ill_formed b ≡ true → Misfits levels b
-  -- a head that may not stand there: a break, or no part of an open string (section 3.2)
+  -- a head that may not stand there: a break, or no chunk of an open string (section 3.2)
   misplaced : (header : Header) (h r : List ℕ) → SpellsHeader h header → b ≡ h ++ r →
       behind_head header levels ≡ None → Misfits levels b
-  -- the initial byte of no part of an open string, nor the break (section 3.2.3)
+  -- the initial byte of no chunk of an open string, nor the break (section 3.2.3)
   no_chunk : (x major : ℕ) (r : List ℕ) → b ≡ x ∷ r → chunk_major levels ≡ Some major →
       ¬ (x / 32 ≡ major) → ¬ (x ≡ break_byte) → Misfits levels b
   -- a text of which the payload, as far as it is there, begins no UTF-8 of its length (section 3.1)

@@ -16,10 +16,10 @@ use Rattle.ciborium_ll.specs.Item as item
 abbrev pub EndsPairs : List ℕ → Type 0
 EndsPairs b = (ps : item.Pairs) × (r : List ℕ) × SpellsPairs r ps × (b ≡ r ++ (break_byte ∷ []))
 
--- parts of a string and the break behind them
+-- chunks of a string and the break behind them
 abbrev pub EndsChunks : StringType → List ℕ → Type 0
-EndsChunks kind b = (payloads : List (List ℕ)) × (r : List ℕ) ×
-    AreChunks (string_major kind) (IsAllowed kind) r payloads × (b ≡ r ++ (break_byte ∷ []))
+EndsChunks type b = (payloads : List (List ℕ)) × (r : List ℕ) ×
+    AreChunks (string_major type) (IsAllowed type) r payloads × (b ≡ r ++ (break_byte ∷ []))
 
 -- b are the bytes that end a level
 abbrev pub Ends : Level → List ℕ → Type 0
@@ -61,7 +61,7 @@ behind_item (TextChunks ∷ levels) = None
 abbrev pub entered : Level → List Level → Option (List Level)
 entered level levels = option_map (λ rest. level ∷ rest) (behind_item levels)
 
--- the levels behind a definite byte string, which may be a part of an open one
+-- the levels behind a definite byte string, which may be a chunk of an open one
 abbrev pub behind_bytes : List Level → Option (List Level)
 behind_bytes (ByteChunks ∷ levels) = Some (ByteChunks ∷ levels)
 behind_bytes levels = behind_item levels

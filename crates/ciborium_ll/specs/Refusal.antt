@@ -65,7 +65,7 @@ head_refusal (x ∷ b) p =
 abbrev pub HeadRefuses : List ℕ → ℕ → Refusal → Type 0
 HeadRefuses b p e = head_refusal b p ≡ Some e
 
--- a usable head stands at the front
+-- a usable head, or break, stands at the front
 abbrev pub IsUsable : List ℕ → ℕ → Type 0
 IsUsable b p = head_refusal b p ≡ None
 

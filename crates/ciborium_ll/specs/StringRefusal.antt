@@ -15,7 +15,7 @@ IsAllowed StringType.Bytes payload = AreBytes payload
 IsAllowed StringType.Text payload = IsUtf8 payload
 
 -- what is left refuses as the payload, of n bytes, of a definite string whose head is at offset p:
--- it ends early, or it was read whole and is a text that is not UTF-8 (every byte string is allowed)
+-- it ends early, or it was read whole and is a text that is not UTF-8 (bytes always are)
 pub data PayloadRefuses (type : StringType) (n p : ℕ) : List ℕ → Refusal → Type 0 where
   ends_early : {r : List ℕ} → length r < n → PayloadRefuses type n p r io
   not_allowed : (payload r : List ℕ) → length payload ≡ n → ¬ IsAllowed type payload →
@@ -38,7 +38,7 @@ pub data ChunkRefuses (type : StringType) : List ℕ → ℕ → Refusal → Typ
   other : {b p : _} →
       IsUsable b p → ¬ HasStringHead type b → ¬ IsAtFront break_byte b → ChunkRefuses type b p (syntax p)
 
--- what is left, from offset p on, refuses as the chunks of an open string: behind good chunks,
+-- what is left, from offset p on, refuses as the chunks of an open string: behind whole chunks,
 -- which end within the greatest offset, a chunk refuses
 abbrev pub ChunksRefuse : StringType → List ℕ → ℕ → Refusal → Type 0
 ChunksRefuse type b p e = (good : List ℕ) ×

@@ -42,7 +42,7 @@ pub struct ItemHead<'b> {
 }
 
 /// Reads the heads of the item at the front of some bytes, one by one, in their order: floats and
-/// simple values too, the parts of a string of indefinite length, and breaks. It takes no memory.
+/// simple values too, the chunks of a string of indefinite length, and breaks. It takes no memory.
 ///
 /// It is no `Iterator`, since it may be refused: call `next` until it answers `Ok(None)`.
 #[derive(Drop)]
@@ -148,7 +148,7 @@ impl<'b> ItemHeads<'b> {
         &self.bytes[self.offset..]
     }
 
-    // Whether this begins no part of the string of indefinite length that is read, and no break.
+    // Whether this begins no chunk of the string of indefinite length that is read, and no break.
     fn is_no_chunk(&self, rest: &[u8]) -> bool
         ensures yes { IsTrue result → IsNoChunk (levels_of self.now) rest.now }
         ensures no { IsFalse result → MayBeChunk (levels_of self.now) rest.now }

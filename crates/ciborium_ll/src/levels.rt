@@ -17,9 +17,9 @@ pub enum Level {
     OpenKeys,
     /// A value, and then pairs up to a break.
     OpenValues,
-    /// Parts of a byte string up to a break.
+    /// Chunks of a byte string up to a break.
     ByteChunks,
-    /// Parts of a text up to a break.
+    /// Chunks of a text up to a break.
     TextChunks,
 }
 
@@ -203,7 +203,7 @@ impl Levels {
         MOST_LEVELS - self.free
     }
 
-    // The major type of the parts of the innermost level, where it is an open string.
+    // The major type of the chunks of the innermost level, where it is an open string.
     pub(crate) fn chunk_major(&self) -> Option<u8>
         ensures { result ≡ chunk_major (levels_in self.now) }
     {

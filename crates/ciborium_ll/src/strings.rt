@@ -23,10 +23,10 @@ const OWN_SCRATCH: usize = 64;
 
 // Whether a string of this type may hold these bytes.
 #[inline(always)]
-fn is_allowed(kind: StringType, payload: &[u8]) -> bool
-    ensures { IsTrue result ↔ IsAllowed kind payload.now }
+fn is_allowed(string_type: StringType, payload: &[u8]) -> bool
+    ensures { IsTrue result ↔ IsAllowed string_type payload.now }
 {
-    match kind {
+    match string_type {
         StringType::Bytes => true,
         StringType::Text => str::from_utf8(payload).is_ok(),
     }
@@ -39,10 +39,10 @@ enum Chunk {
     Other,
 }
 
-fn chunk_of(kind: StringType, header: Header) -> Chunk
-    ensures { IsChunk kind header result }
+fn chunk_of(string_type: StringType, header: Header) -> Chunk
+    ensures { IsChunk string_type header result }
 {
-    match (kind, header) {
+    match (string_type, header) {
         (_, Header::Break) => Chunk::End,
         (StringType::Bytes, Header::Bytes(Some(n))) => Chunk::Definite(n),
         (StringType::Text, Header::Text(Some(n))) => Chunk::Definite(n),
@@ -136,7 +136,7 @@ impl<'c, R, A: Access<R>, K: Keep> Cursor<'c, R, A, K> {
     #[inline(always)]
     fn append_payload(
         &mut self,
-        kind: StringType,
+        string_type: StringType,
         n: usize,
         head: usize,
         scratch: &mut [u8],
@@ -145,7 +145,7 @@ impl<'c, R, A: Access<R>, K: Keep> Cursor<'c, R, A, K> {
         requires { count_at self.old + n ≤ usize.MAX }
         ensures same { IsSameCursor self.old self.new }
         ensures bytes { Moves A.remaining self.old self.new (λ b. Grows out.old.items out.new.items
-            (IsPayloadTaken kind n head b result)) }
+            (IsPayloadTaken string_type n head b result)) }
         ensures ended { IfErr result (λ e. HasEndedAt A.can_fail A.remaining self.new e) }
     {
         let start = out.len();
@@ -153,7 +153,7 @@ impl<'c, R, A: Access<R>, K: Keep> Cursor<'c, R, A, K> {
             out.truncate(start);
             return Err(e);
         }
-        if !is_allowed(kind, &out[start..]) {
+        if !is_allowed(string_type, &out[start..]) {
             out.truncate(start);
             return Err(Error::Syntax(head));
         }
@@ -164,21 +164,21 @@ impl<'c, R, A: Access<R>, K: Keep> Cursor<'c, R, A, K> {
     #[inline(never)]
     fn append_chunks(
         &mut self,
-        kind: StringType,
+        string_type: StringType,
         scratch: &mut [u8],
         out: &mut Vec<u8>,
     ) -> Result<(), Error<K::Kept>>
         ensures same { IsSameCursor self.old self.new }
         ensures bytes { Moves A.remaining self.old self.new (λ b. Grows out.old.items out.new.items
-            (AreChunksTaken kind b (count_at self.old) result)) }
+            (AreChunksTaken string_type b (count_at self.old) result)) }
         ensures ended { IfErr result (λ e. HasEndedAt A.can_fail A.remaining self.new e) }
     {
         let mut head = self.counter.count;
         'chunks: loop {
             let header = self.read_head()?;
-            match chunk_of(kind, header) {
+            match chunk_of(string_type, header) {
                 Chunk::End => return Ok(()),
-                Chunk::Definite(n) => self.append_payload(kind, n, head, scratch, out)?,
+                Chunk::Definite(n) => self.append_payload(string_type, n, head, scratch, out)?,
                 Chunk::Other => return Err(Error::Syntax(head)),
             }
             head = self.counter.count;
@@ -190,7 +190,7 @@ impl<'c, R, A: Access<R>, K: Keep> Cursor<'c, R, A, K> {
     #[inline(always)]
     pub(crate) fn append_string(
         &mut self,
-        kind: StringType,
+        string_type: StringType,
         len: Option<usize>,
         head: usize,
         scratch: &mut [u8],
@@ -198,7 +198,7 @@ impl<'c, R, A: Access<R>, K: Keep> Cursor<'c, R, A, K> {
     ) -> Result<(), Error<K::Kept>>
         ensures same { IsSameCursor self.old self.new }
         ensures bytes { Moves A.remaining self.old self.new (λ b. Grows out.old.items out.new.items
-            (IsStringTaken kind len head b (count_at self.old) result)) }
+            (IsStringTaken string_type len head b (count_at self.old) result)) }
         ensures ended { IfErr result (λ e. HasEndedAt A.can_fail A.remaining self.new e) }
     {
         match len {
@@ -206,9 +206,9 @@ impl<'c, R, A: Access<R>, K: Keep> Cursor<'c, R, A, K> {
                 if usize::MAX - self.counter.count < n {
                     return Err(Error::TooLong);
                 }
-                self.append_payload(kind, n, head, scratch, out)
+                self.append_payload(string_type, n, head, scratch, out)
             }
-            None => self.append_chunks(kind, scratch, out),
+            None => self.append_chunks(string_type, scratch, out),
         }
     }
 }

@@ -22,7 +22,7 @@ impl Alike {
     ///
     /// # Errors
     ///
-    /// `AllocError` where memory is refused for a text.
+    /// `AllocError` where an allocation fails for a text.
     pub fn compare(
         &mut self,
         alloc: Global,

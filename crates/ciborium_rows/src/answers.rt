@@ -21,11 +21,11 @@ use std::alloc::{AllocError, Global};
 use std::io::{self, BufReader, ErrorKind, Read, Write};
 
 /// Answers each line of the input by `LINE = ANSWER` on the output. An empty line, and one that
-/// begins with `#`, is written as it is. The answer to a line of no known form is `unknown line`.
+/// begins with `#`, is written as it is. The answer to any other is `unknown line`.
 ///
 /// # Errors
 ///
-/// The first one: the input or the output fails, or memory is refused for a line.
+/// The first one: the input or the output fails, or an allocation fails for a line.
 pub fn answer_lines<R: Read, W: Write>(
     alloc: Global,
     input: &mut R,
@@ -70,7 +70,7 @@ fn split_word(line: &[u8]) -> Option<(&str, &str)> {
     str::from_utf8(line).ok()?.split_once(' ')
 }
 
-// The answer to a line by its first word, or none where the line is of no known form.
+// The answer to a line by its first word, or none where the line is another.
 fn answer_words(alloc: Global, word: &str, rest: &str) -> Result<Option<String>, AllocError> {
     match answer_head_line(alloc, word, rest)? {
         Some(answer) => Ok(Some(answer)),

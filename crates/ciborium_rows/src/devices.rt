@@ -135,7 +135,7 @@ impl<'a> Read for Source<'a> {
 ///
 /// # Errors
 ///
-/// `AllocError` where memory is refused for the buffer.
+/// `AllocError` where an allocation fails for the buffer.
 pub fn buffer<'a>(
     alloc: Global,
     capacity: usize,

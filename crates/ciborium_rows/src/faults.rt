@@ -30,7 +30,7 @@ impl Job for FailedReads<'_> {
 ///
 /// # Errors
 ///
-/// `AllocError` where memory is refused for the text.
+/// `AllocError` where an allocation fails for the text.
 pub fn fail_reads<T: Deserialize + Serialize>(
     alloc: Global,
     call: Call,
@@ -138,7 +138,7 @@ fn fail_read<T: Deserialize + Serialize>(
 ///
 /// # Errors
 ///
-/// `AllocError` where memory is refused for the text.
+/// `AllocError` where an allocation fails for the text.
 pub fn judge_fault(
     alloc: Global,
     answer: &str,

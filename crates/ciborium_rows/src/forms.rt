@@ -15,7 +15,7 @@ use std::io;
 ///
 /// # Errors
 ///
-/// `AllocError` where memory is refused.
+/// `AllocError` where an allocation fails.
 pub fn answer_form(
     alloc: Global,
     rest: &str,
@@ -118,7 +118,7 @@ fn encode(alloc: Global, value: &Value) -> Result<Vec<u8>, AllocError> {
 ///
 /// # Errors
 ///
-/// `AllocError` where memory is refused.
+/// `AllocError` where an allocation fails.
 pub fn answer_falling(
     alloc: Global,
     rest: &str,

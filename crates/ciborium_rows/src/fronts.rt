@@ -59,7 +59,7 @@ impl Job for Reading<'_> {
 ///
 /// # Errors
 ///
-/// `AllocError` where memory is refused for the text.
+/// `AllocError` where an allocation fails for the text.
 pub fn read_alike<T: Deserialize + Serialize>(
     alloc: Global,
     call: Call,
@@ -173,7 +173,7 @@ fn read_alone<T: Deserialize + Serialize>(
 ///
 /// # Errors
 ///
-/// `AllocError` where memory is refused for the text.
+/// `AllocError` where an allocation fails for the text.
 pub fn ask_buffer<T: Deserialize + Serialize, R: BufRead>(
     alloc: Global,
     call: Call,
@@ -195,7 +195,7 @@ pub fn ask_buffer<T: Deserialize + Serialize, R: BufRead>(
 ///
 /// # Errors
 ///
-/// `AllocError` where memory is refused for the text.
+/// `AllocError` where an allocation fails for the text.
 pub fn ask_call<T: Deserialize + Serialize, R: Read>(
     alloc: Global,
     call: Call,
@@ -229,7 +229,7 @@ fn ask_with_scratch<T: Deserialize + Serialize, R: Read>(
 ///
 /// # Errors
 ///
-/// `AllocError` where memory is refused for the text.
+/// `AllocError` where an allocation fails for the text.
 pub fn show_front<T: Serialize + Drop>(
     alloc: Global,
     answer: Result<T, de::Error<io::Error>>,
@@ -244,7 +244,7 @@ pub fn show_front<T: Serialize + Drop>(
 ///
 /// # Errors
 ///
-/// `AllocError` where memory is refused for the text.
+/// `AllocError` where an allocation fails for the text.
 pub fn describe_front(alloc: Global, front: Front, left: usize) -> Result<String, AllocError> {
     match front {
         Ok(digits) => format!(in alloc; "ok {digits} {left}"),
@@ -282,7 +282,7 @@ fn show_tree<T: Serialize + Drop>(
 ///
 /// # Errors
 ///
-/// `AllocError` where memory is refused.
+/// `AllocError` where an allocation fails.
 pub fn encode_to_hex<T: Serialize>(alloc: Global, value: &T) -> Result<String, AllocError> {
     let mut bytes = Vec::new(alloc);
     if into_writer(value, &mut bytes).is_err() {

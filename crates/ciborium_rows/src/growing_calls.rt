@@ -115,7 +115,7 @@ pub fn read_map(alloc: Global) -> Result<(), Failure> {
     expect(map.len() == 1 && map.get(&1) == Some(&3))
 }
 
-/// Writes the deterministic form of a value, which stays as it was. Where memory is refused,
+/// Writes the deterministic form of a value, which stays as it was. Where an allocation fails,
 /// nothing goes out.
 ///
 /// # Errors

@@ -1,4 +1,4 @@
-//! Calls that are made once, for runs in which one growth of memory is refused.
+//! Calls that are made once, for runs in which one allocation fails.
 
 use crate::growing_calls::{
     clone_value, make_literal, make_text, make_tree, read_as_value, read_map, read_value,

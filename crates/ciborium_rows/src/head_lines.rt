@@ -8,7 +8,7 @@ use crate::payloads::write_failing;
 use crate::pieces::{decode_pieces, parse_limited};
 use std::alloc::{AllocError, Global};
 
-/// The answer to a line whose first word is this one, or none where the line is of another form.
+/// The answer to a line whose first word is this one, or none where the line is another.
 ///
 /// - `head OFFSET HEX`, `heads OFFSET HEX`: the first head at that offset, with its payload and as
 ///   it is written again, or each of the heads, with its offset and length
@@ -21,7 +21,7 @@ use std::alloc::{AllocError, Global};
 ///
 /// # Errors
 ///
-/// `AllocError` where memory is refused for the answer.
+/// `AllocError` where an allocation fails for the answer.
 pub fn answer_head_line(
     alloc: Global,
     word: &str,

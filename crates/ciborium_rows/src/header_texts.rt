@@ -25,7 +25,7 @@ pub struct Front {
 ///
 /// # Errors
 ///
-/// `AllocError` where memory is refused for the text.
+/// `AllocError` where an allocation fails for the text.
 pub fn show_front(alloc: Global, front: &Front) -> Result<String, AllocError> {
     let mut text = name_header(alloc, front.header)?;
     if !front.payload.is_empty() {
@@ -45,7 +45,7 @@ pub fn show_front(alloc: Global, front: &Front) -> Result<String, AllocError> {
 ///
 /// # Errors
 ///
-/// `AllocError` where memory is refused for the text.
+/// `AllocError` where an allocation fails for the text.
 pub fn describe_front(
     alloc: Global,
     pulled: Pulled,
@@ -62,7 +62,7 @@ pub fn describe_front(
 ///
 /// # Errors
 ///
-/// `AllocError` where memory is refused for the text.
+/// `AllocError` where an allocation fails for the text.
 pub fn describe_refusal(alloc: Global, error: Error<io::Error>) -> Result<String, AllocError> {
     match error {
         Error::Io(e) => String::from_str(alloc, name_io(e.kind())),

@@ -37,7 +37,7 @@ const CAPACITIES: [usize; 4] = [1, 2, 3, 4096];
 ///
 /// # Errors
 ///
-/// `AllocError` where memory is refused for the text.
+/// `AllocError` where an allocation fails for the text.
 pub fn ask_alike(
     alloc: Global,
     question: Question,
@@ -120,7 +120,7 @@ fn ask_buffer(
 ///
 /// # Errors
 ///
-/// `AllocError` where memory is refused for the text.
+/// `AllocError` where an allocation fails for the text.
 pub fn ask_failing(alloc: Global, question: Question, bytes: &[u8]) -> Result<String, AllocError> {
     let interrupted = Failure::Kind(ErrorKind::Interrupted);
     let text = fail_by(alloc, question, bytes, interrupted, Held::Nothing)?;

@@ -12,7 +12,7 @@ use std::convert::TryFrom;
 ///
 /// # Errors
 ///
-/// `AllocError` where memory is refused for the text.
+/// `AllocError` where an allocation fails for the text.
 pub fn describe_number(alloc: Global, digits: &str) -> Result<Option<String>, AllocError> {
     let Some(found) = find_integer(digits) else {
         return Ok(None);
@@ -102,7 +102,7 @@ fn push_width(
 ///
 /// # Errors
 ///
-/// `AllocError` where memory is refused for the text.
+/// `AllocError` where an allocation fails for the text.
 pub fn compare_in_row(alloc: Global, numbers: &str) -> Result<Option<String>, AllocError> {
     let mut text = String::new(alloc);
     let mut before: Option<Integer> = None;

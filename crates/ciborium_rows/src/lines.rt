@@ -6,7 +6,7 @@ use std::io::{self, BufRead, BufReader, Read};
 ///
 /// # Errors
 ///
-/// The input fails, or memory is refused for the line.
+/// The input fails, or an allocation fails for the line.
 pub fn read_line<R: Read>(input: &mut BufReader<R>, line: &mut Vec<u8>) -> io::Result<bool> {
     line.clear();
     if input.read_until(b'\n', line)? == 0 {

@@ -24,7 +24,7 @@ type Made = Option<Result<Value, value::Error>>;
 ///
 /// # Errors
 ///
-/// `AllocError` where memory is refused for the answer.
+/// `AllocError` where an allocation fails for the answer.
 pub fn write_literal(alloc: Global, text: &str) -> Result<Option<String>, AllocError> {
     let bytes = ByteBuf(vec![in alloc; 1u8, 2]?);
     match find_literal(alloc, text, &bytes) {

@@ -21,7 +21,7 @@ pub enum Lines {
 ///
 /// # Errors
 ///
-/// `AllocError` where memory is refused.
+/// `AllocError` where an allocation fails.
 pub fn answer_notation(
     alloc: Global,
     rest: &str,

@@ -44,11 +44,11 @@ fn read_slowly<T: Deserialize + Serialize>(
     }
 }
 
-/// The answer to `OFFSET TYPE LIMIT HEX`, or none where the words are of another form.
+/// The answer to `OFFSET TYPE LIMIT HEX`, or none where these are other words.
 ///
 /// # Errors
 ///
-/// `AllocError` where memory is refused for the answer.
+/// `AllocError` where an allocation fails for the answer.
 pub fn read_at_offset(alloc: Global, rest: &str) -> Result<Option<String>, AllocError> {
     let Some((offset, behind)) = split_number(rest) else {
         return Ok(None);

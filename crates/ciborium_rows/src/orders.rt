@@ -24,7 +24,7 @@ impl SortKey for BytewiseValue {}
 ///
 /// # Errors
 ///
-/// `AllocError` where memory is refused.
+/// `AllocError` where an allocation fails.
 pub fn answer_sort<K: SortKey>(alloc: Global, rest: &str) -> Result<Option<String>, AllocError> {
     let Some(values) = read_values(alloc, rest)? else {
         return Ok(None);
@@ -58,7 +58,7 @@ fn show_sorted<K: SortKey>(
 ///
 /// # Errors
 ///
-/// `AllocError` where memory is refused.
+/// `AllocError` where an allocation fails.
 pub fn answer_visits(
     alloc: Global,
     rest: &str,

@@ -74,7 +74,7 @@ pub fn judge_head<T: Drop>(error: ll::Error<T>) -> Failure {
 ///
 /// # Errors
 ///
-/// `Preparing` where memory is refused, `Wrong` where they are no value.
+/// `Preparing` where an allocation fails, `Wrong` where they are no value.
 pub fn prepare_value(alloc: Global, bytes: &[u8]) -> Result<Value, Failure> {
     let mut reader = bytes;
     match from_reader(alloc, &mut reader) {

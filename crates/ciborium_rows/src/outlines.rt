@@ -8,7 +8,7 @@ use std::alloc::{AllocError, Global};
 ///
 /// # Errors
 ///
-/// `AllocError` where memory is refused for the answer.
+/// `AllocError` where an allocation fails for the answer.
 pub fn outline(alloc: Global, bytes: &[u8]) -> Result<String, AllocError> {
     let length = item_len(bytes);
     let (heads, end) = read_heads(alloc, bytes)?;

@@ -15,7 +15,7 @@ const MOST: usize = 3;
 ///
 /// # Errors
 ///
-/// `AllocError` where memory is refused for the text.
+/// `AllocError` where an allocation fails for the text.
 pub fn write_failing(alloc: Global, bytes: &[u8]) -> Result<String, AllocError> {
     let mut alike = Alike::new(fail_by(alloc, bytes, Failure::End)?);
     for failure in FAILURES {

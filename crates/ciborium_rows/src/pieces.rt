@@ -7,11 +7,11 @@ use std::alloc::{AllocError, Global};
 const MOST: usize = 1_000_000;
 
 /// The bytes that pieces joined by commas name, each hex digits, or `COUNT*HEX` for so many times
-/// those bytes; or none where the text is of another form. No text at all is no byte.
+/// those bytes; or none where the text is another. No text at all is no byte.
 ///
 /// # Errors
 ///
-/// `AllocError` where memory is refused for the bytes.
+/// `AllocError` where an allocation fails for the bytes.
 pub fn decode_pieces(alloc: Global, text: &str) -> Result<Option<Vec<u8>>, AllocError> {
     let mut bytes = Vec::new(alloc);
     for piece in text.split(',') {
@@ -28,11 +28,11 @@ pub fn decode_pieces(alloc: Global, text: &str) -> Result<Option<Vec<u8>>, Alloc
     Ok(Some(bytes))
 }
 
-/// `LIMIT HEX`: the limit and the bytes, or none where the text is of another form.
+/// `LIMIT HEX`: the limit and the bytes, or none where the text is another.
 ///
 /// # Errors
 ///
-/// `AllocError` where memory is refused for the bytes.
+/// `AllocError` where an allocation fails for the bytes.
 pub fn parse_limited(alloc: Global, text: &str) -> Result<Option<(usize, Vec<u8>)>, AllocError> {
     let Some((limit, digits)) = split_number(text) else {
         return Ok(None);
@@ -43,12 +43,12 @@ pub fn parse_limited(alloc: Global, text: &str) -> Result<Option<(usize, Vec<u8>
     }
 }
 
-/// `TYPE LIMIT HEX`: the type's name, the limit and the bytes, or none where the text is of another
-/// form.
+/// `TYPE LIMIT HEX`: the type's name, the limit and the bytes, or none where the text is
+/// another.
 ///
 /// # Errors
 ///
-/// `AllocError` where memory is refused for the bytes.
+/// `AllocError` where an allocation fails for the bytes.
 pub fn parse_typed(
     alloc: Global,
     text: &str,

@@ -9,7 +9,7 @@ use std::io::{self, ErrorKind};
 ///
 /// # Errors
 ///
-/// `AllocError` where memory is refused for the text.
+/// `AllocError` where an allocation fails for the text.
 pub fn describe_read(alloc: Global, error: de::Error<io::Error>) -> Result<String, AllocError> {
     match error {
         de::Error::Io(e) => String::from_str(alloc, name_io(e.kind())),
@@ -28,7 +28,7 @@ pub fn describe_read(alloc: Global, error: de::Error<io::Error>) -> Result<Strin
 ///
 /// # Errors
 ///
-/// `AllocError` where memory is refused for the text.
+/// `AllocError` where an allocation fails for the text.
 pub fn describe_tree(alloc: Global, error: value::Error) -> Result<String, AllocError> {
     match error {
         value::Error::Custom(kind) => format!(in alloc; "custom {}", name_kind(kind)),
@@ -40,7 +40,7 @@ pub fn describe_tree(alloc: Global, error: value::Error) -> Result<String, Alloc
 ///
 /// # Errors
 ///
-/// `AllocError` where memory is refused for the text.
+/// `AllocError` where an allocation fails for the text.
 pub fn describe_write(alloc: Global, error: ser::Error<io::Error>) -> Result<String, AllocError> {
     match error {
         ser::Error::Io(e) => String::from_str(alloc, name_io(e.kind())),

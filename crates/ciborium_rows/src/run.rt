@@ -9,7 +9,7 @@ use std::io::{self, Read, Write};
 /// exit status. `typed` answers each line of the input by a line on the output; the status is 0.
 /// `growth CALL` makes a call, and names what came of it: `value`, `memory`, `preparing` or
 /// `wrong`, with status 0, 3, 4 or 1. It is 2 for any other words: the usage is then written to
-/// `errors`. Where the input or the output fails, or memory is refused for a line, the run ends
+/// `errors`. Where the input or the output fails, or an allocation fails for a line, the run ends
 /// with status 1, and `errors` names the error.
 pub fn run<R: Read, W: Write, E: Write>(
     alloc: Global,

@@ -21,7 +21,7 @@ pub trait Job {
     ///
     /// # Errors
     ///
-    /// `AllocError` where memory is refused for the answer.
+    /// `AllocError` where an allocation fails for the answer.
     fn answer<T: Deserialize + Serialize>(&self, alloc: Global) -> Result<String, AllocError>;
 }
 
@@ -30,7 +30,7 @@ pub trait Job {
 ///
 /// # Errors
 ///
-/// `AllocError` where memory is refused for the answer.
+/// `AllocError` where an allocation fails for the answer.
 pub fn ask_type<J: Job>(alloc: Global, name: &str, job: &J) -> Result<Option<String>, AllocError> {
     if let Some(answer) = ask_number(alloc, name, job)? {
         return Ok(Some(answer));

@@ -47,7 +47,7 @@ pub fn read_whole<T: Deserialize>(alloc: Global, bytes: &[u8]) -> Option<T> {
 ///
 /// # Errors
 ///
-/// `AllocError` where memory is refused for the text.
+/// `AllocError` where an allocation fails for the text.
 pub fn no_value(alloc: Global) -> Result<String, AllocError> {
     String::from_str(alloc, "no value")
 }
@@ -59,7 +59,7 @@ pub fn no_value(alloc: Global) -> Result<String, AllocError> {
 ///
 /// # Errors
 ///
-/// `AllocError` where memory is refused for the text.
+/// `AllocError` where an allocation fails for the text.
 pub fn write_by<T: Serialize>(
     alloc: Global,
     writing: Writing,

@@ -15,7 +15,7 @@ use std::collections::BTreeMap;
 ///
 /// # Errors
 ///
-/// `AllocError` where memory is refused for the answer.
+/// `AllocError` where an allocation fails for the answer.
 pub fn write_type(
     alloc: Global,
     name: &str,

@@ -25,7 +25,7 @@ use Rattle.ciborium_uses.specs.declared.envelopes.wrapping.OtherMessage.TheVaria
 abbrev pub IsAllOf : List ℕ → Tree → Type 0
 IsAllOf bs t = (i : Item) × Spells bs i × (outcome (Some 256) (given_value i) ≡ gives t)
 
--- no bytes are to blame: memory was refused
+-- no bytes are to blame: an allocation failed
 abbrev pub IsOutside : EnvelopeError → Type 0
 IsOutside errors.Memory = Unit {0}
 IsOutside _ = ⊥

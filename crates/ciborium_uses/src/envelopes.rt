@@ -91,12 +91,12 @@ pub fn read_wrapped(alloc: Global, bytes: &[u8]) -> Result<(Wrapping, Envelope),
 {
     let value = read_all(alloc, bytes, Part::Message)?;
     let (wrapping, message) = unwrapped(value)?;
-    let envelope = open(alloc, message)?;
+    let envelope = envelope_of(alloc, message)?;
     Ok((wrapping, envelope))
 }
 
 // Opens a message whose tags were read.
-fn open(alloc: Global, message: Value) -> Result<Envelope, EnvelopeError>
+fn envelope_of(alloc: Global, message: Value) -> Result<Envelope, EnvelopeError>
     ensures ok { IfOk result (λ e. IsMessage (tree_of message) e) }
     ensures refused { IfErr result
         (λ e. (v : Envelope) → IsMessage (tree_of message) v → IsOutside e) }

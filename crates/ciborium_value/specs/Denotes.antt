@@ -51,7 +51,7 @@ abbrev pub Denotes : List ℕ → Tree → Type 0
 Denotes t v = (l : ℕ) × DenotesWithin l t v
 
 -- why a text that denotes a tree within l levels may be refused: l is more than the limit, or
--- memory was refused
+-- an allocation failed
 abbrev pub MayRefuse : ℕ → NotationError → ℕ → Type 0
 MayRefuse limit (At p TooDeep) l = limit < l
 MayRefuse limit (At p fault) l = ⊥

@@ -77,8 +77,7 @@ tree_pairs_more (Some k) None ps = None
 tree_pairs_more (Some k) (Some v) ps = option_map (tree_pair k v) ps
 
 abbrev mutual
-  -- an open item means what the definite one means, but that no tag folds over an open byte
-  -- string; a map keeps every pair in order, and a float has no meaning
+  -- of an item
   pub meaning : Item → Option Tree
   meaning (item.unsigned n) = Some (integer (pos n))
   meaning (item.negative n) = Some (integer (negsuc n))

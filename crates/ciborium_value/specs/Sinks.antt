@@ -70,7 +70,7 @@ named_value v = Ok (item_of (tree_of v))
 
 -- ---- why a sink refused
 
--- the value has no item, memory was refused, or the device failed
+-- the value has no item, an allocation failed, or the device failed
 pub data Cause : Type 0 where
   value : Kind → Cause
   memory : Cause

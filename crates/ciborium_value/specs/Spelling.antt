@@ -31,7 +31,7 @@ is_long major info b = nat_lt info 28 &&
     nat_lt (length (shortest_head major (argument info b))) (1 + argument_length info)
 
 -- why a usable head is not accepted: it is of indefinite length (sections 3.2 and 4.2.1), or not
--- the shortest (section 4.1); undefined is read as null, so f7 is another spelling of f6
+-- the shortest (section 4.1); undefined is read as null, which is f6 at its shortest
 abbrev pub deterministic_fault : ℕ → ℕ → List ℕ → Option Kind
 deterministic_fault major info b = if nat_le 2 major && nat_le major 5 && (info == 31) then Some Open
     else if nat_lt major 7 && is_long major info b then Some NotShortest
@@ -45,13 +45,13 @@ spelling_fault (deterministic order) (x ∷ b) = deterministic_fault (x / 32) (x
 
 -- a folding tag's bytes could be written shorter: as an integer of 64 bits, or with a zero less
 -- (section 3.4.3)
-abbrev pub IsFoldable : List ℕ → Type 0
-IsFoldable payload = (length payload ≤ 8) ⊎ ((s : List ℕ) × (payload ≡ 0 ∷ s))
+abbrev pub IsShortenable : List ℕ → Type 0
+IsShortenable payload = (length payload ≤ 8) ⊎ ((s : List ℕ) × (payload ≡ 0 ∷ s))
 
 -- a bignum of these bytes is not accepted
 abbrev pub IsUnwanted : Spelling → List ℕ → Type 0
 IsUnwanted any payload = ⊥
-IsUnwanted (deterministic order) payload = IsFoldable payload
+IsUnwanted (deterministic order) payload = IsShortenable payload
 
 abbrev mutual
   -- the keys among keys and values in turn, a key first

@@ -1,5 +1,5 @@
--- The tree that a `Value` stands for: its content, whatever capacity a list or text has. A text
--- stands by the bytes of its UTF-8.
+-- The tree that a `Value` stands for: its content, whatever capacity a list or text has. A text is
+-- the bytes of its UTF-8.
 use Rattle.std.specs.Prelude.{ℕ, ℤ, List, Bool}
 
 mutual

@@ -14,8 +14,8 @@ abbrev pub tree_pairs_from : List (Tree × Tree) → TreePairs
 tree_pairs_from [] = trees.no_tree_pairs
 tree_pairs_from (p ∷ ps) = trees.tree_pair p.0 p.1 (tree_pairs_from ps)
 
--- one level: `Value-F Tree` is the declared `Value` with trees in place of the values inside; an
--- `Integer` stands by its number, a list by its `items`
+-- one constructor: `Value-F Tree` is the declared `Value` with trees in place of the values inside;
+-- an `Integer` is its number, a list its `items`
 abbrev pub level_tree : Value-F Tree → Tree
 level_tree (Value-F.Integer z) = trees.integer z
 level_tree (Value-F.Bytes b) = trees.bytes b.items
@@ -26,7 +26,7 @@ level_tree (Value-F.Tag t v) = trees.tag t (box_value v)
 level_tree (Value-F.Array vs) = trees.array (trees_from vs.items)
 level_tree (Value-F.Map ps) = trees.map (tree_pairs_from ps.items)
 
--- the tree of a value: `level_tree` of each level, from the innermost outwards
+-- the tree of a value: `level_tree` of each constructor, from the innermost outwards
 abbrev pub tree_of : Value → Tree
 tree_of = fold-Value Tree level_tree
 

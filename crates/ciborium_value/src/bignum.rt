@@ -1,8 +1,8 @@
 //! Bignums: the number n is tag 2 over the bytes of n, and the number -1 - n is tag 3 over them,
 //! the most significant first (RFC 8949, section 3.4.3).
 
-ghost use Rattle.std.specs.Prelude.{◌≡◌, ◌^◌, ◌≤◌, IfErr, IfNone, IfOk, MatchOption, None, Some};
-ghost use Rattle.std.specs.Prelude.{Err, Ok, length, true};
+ghost use Rattle.std.specs.Prelude.{◌≡◌, ◌^◌, ◌≤◌, ◌⊎◌, Err, IfErr, IfNone, IfOk, MatchOption};
+ghost use Rattle.std.specs.Prelude.{None, Ok, Some, length, true};
 ghost use Rattle.ciborium_value.specs.Folded.{tree_folding_bytes};
 ghost use Rattle.ciborium_value.specs.Meaning.{big_endian, bignum_meaning, is_bignum_tag};
 ghost use Rattle.ciborium_value.specs.Meaning.{without_zeros};
@@ -10,8 +10,9 @@ ghost use Rattle.ciborium_value.specs.Given.{magnitude};
 ghost use Rattle.ciborium_value.specs.Tree as trees;
 ghost use Rattle.ciborium_value.specs.View.{tree_of};
 ghost use Rattle.ciborium_ll.specs.declared.kind.Kind.TheVariants as kinds;
-ghost use Rattle.ciborium_value.specs.declared.bignum.FoldError.TheVariants.{TooLarge};
+ghost use Rattle.ciborium_value.specs.declared.error.Error.TheVariants.{Custom, Memory};
 
+use crate::error::Error;
 use crate::tree::Value;
 use ciborium_ll::tag::{BIGNEG, BIGPOS};
 use ciborium_ll::{Integer, Kind};
@@ -19,15 +20,6 @@ use std::alloc::{AllocError, Global};
 
 /// A bignum's tag folds over a definite byte string of at most this many bytes.
 pub const GREATEST_FOLDED_SIZE: usize = 16;
-
-/// Why a bignum's tag folds to no value.
-#[derive(Clone, Copy)]
-pub enum FoldError {
-    /// The number is negative, and no `i128` holds it.
-    TooLarge,
-    /// An allocation failed.
-    Memory,
-}
 
 /// The bytes over which a tag folds (RFC 8949, section 3.4.3).
 pub(crate) fn find_folding(tag: u64, content: &Value) -> Option<&[u8]>
@@ -101,22 +93,23 @@ pub(crate) fn fold_number(tag: u64, bytes: &[u8]) -> Result<Option<Integer>, Kin
 ///
 /// # Errors
 ///
-/// `TooLarge` where the number is negative and no `i128` holds it; `Memory` where an allocation
-/// failed.
-pub fn fold(alloc: Global, tag: u64, bytes: &[u8]) -> Result<Value, FoldError>
+/// `Custom(TooLarge)` where the number is negative and no `i128` holds it; `Memory` where an
+/// allocation failed.
+pub fn fold(alloc: Global, tag: u64, bytes: &[u8]) -> Result<Value, Error>
     requires tag { is_bignum_tag tag ≡ true }
     requires short { length bytes.now ≤ 16 }
     ensures ok { IfOk result (λ v. bignum_meaning tag bytes.now ≡ Some (tree_of v)) }
-    ensures too_large { IfErr result (λ e. e ≡ TooLarge → bignum_meaning tag bytes.now ≡ None) }
+    ensures refused { IfErr result (λ e. (e ≡ Memory)
+        ⊎ ((e ≡ Custom kinds.TooLarge) × (bignum_meaning tag bytes.now ≡ None))) }
     ensures large { IfErr result (λ e. 2 ^ 64 ≤ big_endian bytes.now) }
 {
     match fold_number(tag, bytes) {
         Ok(Some(number)) => Ok(Value::Integer(number)),
         Ok(None) => match tag_over(alloc, tag, without_leading_zeros(bytes)) {
             Ok(value) => Ok(value),
-            Err(AllocError) => Err(FoldError::Memory),
+            Err(AllocError) => Err(Error::Memory),
         },
-        Err(_) => Err(FoldError::TooLarge),
+        Err(kind) => Err(Error::Custom(kind)),
     }
 }
 

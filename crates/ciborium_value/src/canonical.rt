@@ -6,7 +6,7 @@
 //! canonical order the sizes come first, and such a walk follows only where these are equal.
 //! `cmp_value` measures both values whole. `cmp_keys` counts only until it knows which is the
 //! shorter, so that its work stays within a constant factor of the shorter size. No bytes are made,
-//! and no memory is taken.
+//! and nothing is allocated.
 
 ghost use Rattle.std.specs.Prelude.{◌≡◌, ◌+◌, ◌-◌, ◌*◌, ◌^◌, ◌<◌, ◌≤◌, IfSome, length, vec_len};
 ghost use Rattle.std.specs.declared.cmp.Ordering.TheVariants.{Equal};

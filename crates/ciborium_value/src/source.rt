@@ -122,8 +122,8 @@ pub trait Source {
 
     /// The place among these labels of a key: of an integer, or tag 2 or 3, as a number that
     /// `integer` reads; of a string, or any other tag, as a name that `name` reads; of another item
-    /// as neither, and that is passed over as `skip` does it. Memory is taken for a name only where
-    /// it is of indefinite length, a byte string, or long.
+    /// as neither, and that is passed over as `skip` does it. Memory is allocated for a name only
+    /// where it is of indefinite length, a byte string, or long.
     fn label<N: Labels>(&mut self, alloc: Global, labels: &N) -> Result<N::Place, Self::Error>
         ensures takes { TakesOneItem stands_before is_unread has_taken left cause self.old self.new
             (label_place (N.place_of labels.now)) (λ v. v) result };
@@ -228,8 +228,8 @@ pub trait Source {
         ensures reads { reads self.old self.new (result_map tree_of result) };
 
     /// Passes over the item ahead, of any kind, also one that no `Value` holds, as a float. Nothing
-    /// is made of it: memory is taken only for the levels around a place in it. It takes the levels
-    /// that `value` takes.
+    /// is made of it: memory is allocated only for the levels around a place in it. It takes the
+    /// levels that `value` takes.
     fn skip(&mut self, alloc: Global) -> Result<(), Self::Error>
         ensures takes { TakesOneItem stands_before is_unread has_taken left cause self.old self.new
             given_skip (λ v. v) result };

@@ -289,11 +289,11 @@ module _ {S W A : Type 0} {can_fail : Bool} {remaining : S → Option (List ℕ)
         nested ts i all same))
 
     -- the payload of the string that it begins was refused
-    pub string-refuses : (fault : Fault) (kind : StringType) (len : Option ℕ) → h ≡ head_of kind len →
-        DeniesContent (IsUnread remaining mid) (end_at remaining mid) kind len fault →
+    pub string-refuses : (fault : Fault) (type : StringType) (len : Option ℕ) → h ≡ head_of type len →
+        DeniesContent (IsUnread remaining mid) (end_at remaining mid) type len fault →
         RefusesAhead (StandsBefore remaining) old taken fault
-    string-refuses fault kind len is denied = refuses-denied remaining old taken fault
-        (string-denied remaining old taken mid h head kind len is reads.kept.only fault denied)
+    string-refuses fault type len is denied = refuses-denied remaining old taken fault
+        (string-denied remaining old taken mid h head type len is reads.kept.only fault denied)
 
 -- ---- what is answered to a call for one item
 
@@ -394,29 +394,29 @@ module _ {S W T A : Type 0} {can_fail : Bool} {remaining : S → Option (List �
         (kept.levels ∙ reads.kept.levels) kept.pending (kept-fewer old mid new h reads.fewer reads.kept.pending kept)
 
     -- the payload of the string that it begins was read
-    pub string-given : {v : T} → TakesBare (IsUnread remaining) old mid false h → (kind : StringType) (len : Option ℕ) →
-        h ≡ head_of kind len → KeepsSource remaining mid new → (payload : List ℕ) →
-        TakesContent (IsUnread remaining mid) (IsUnread remaining new) kind len payload → ((ts : List ℕ) → AreSkipped
+    pub string-given : {v : T} → TakesBare (IsUnread remaining) old mid false h → (type : StringType) (len : Option ℕ) →
+        h ≡ head_of type len → KeepsSource remaining mid new → (payload : List ℕ) →
+        TakesContent (IsUnread remaining mid) (IsUnread remaining new) type len payload → ((ts : List ℕ) → AreSkipped
         false ts →
-        outcome (Some old.levels) (taken (under ts (string_item kind len payload))) ≡ gives (content v)) →
+        outcome (Some old.levels) (taken (under ts (string_item type len payload))) ≡ gives (content v)) →
         TakesOne can_fail remaining old new taken content (Ok v)
-    string-given {v} head kind len is kept payload took give = behind-given kept
-        (string-read remaining old taken mid h head kind len is new payload (content v) took give)
+    string-given {v} head type len is kept payload took give = behind-given kept
+        (string-read remaining old taken mid h head type len is new payload (content v) took give)
 
     -- or refused
     pub string-one : (r : Result T (Error (Unit {0}))) (payload : T → List ℕ) →
-        TakesBare (IsUnread remaining) old mid false h → (kind : StringType) (len : Option ℕ) → h ≡ head_of kind len →
+        TakesBare (IsUnread remaining) old mid false h → (type : StringType) (len : Option ℕ) → h ≡ head_of type len →
         KeepsSource remaining mid new →
-        IfOk r (λ v. TakesContent (IsUnread remaining mid) (IsUnread remaining new) kind len (payload v)) →
-        IfErr r (λ e. DeniesContent (IsUnread remaining mid) (end_at remaining mid) kind len
+        IfOk r (λ v. TakesContent (IsUnread remaining mid) (IsUnread remaining new) type len (payload v)) →
+        IfErr r (λ e. DeniesContent (IsUnread remaining mid) (end_at remaining mid) type len
         (fault_at can_fail remaining new e)) →
         ((v : T) (ts : List ℕ) → AreSkipped false ts →
-        outcome (Some old.levels) (taken (under ts (string_item kind len (payload v)))) ≡ gives (content v)) →
+        outcome (Some old.levels) (taken (under ts (string_item type len (payload v)))) ≡ gives (content v)) →
         TakesOne can_fail remaining old new taken content r
-    string-one (Ok v) payload head kind len is kept took denied give =
-        string-given head kind len is kept (payload v) took (give v)
-    string-one (Err e) payload head kind len is kept took denied give =
-        behind-refused kept.only kept.no_more (string-refuses taken reads head _ kind len is denied)
+    string-one (Ok v) payload head type len is kept took denied give =
+        string-given head type len is kept (payload v) took (give v)
+    string-one (Err e) payload head type len is kept took denied give =
+        behind-refused kept.only kept.no_more (string-refuses taken reads head _ type len is denied)
 
   -- just a head was taken
   module _ {h : Header} {offset : ℕ} (reads : ReadsBareHead can_fail remaining old new false (Ok (h, offset))) where

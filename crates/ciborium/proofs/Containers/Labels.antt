@@ -123,9 +123,9 @@ module _ {S W P : Type 0} (can_fail : Bool) {remaining : S → Option (List ℕ)
       )
 
   pub told-key : {none : mid.decoder.pushed ≡ None} {new : ByteSource S W} (r : Result P (Error (Unit {0}))) →
-      PassesItem remaining (aside none) new r → (kind : LabelType) → kind ≡ head_label_type h →
-      AnswersItem can_fail remaining (aside none) new (Some mid.levels) (placed place kind) (λ v. v) r → Answered new r
-  told-key (Ok v) keeps kind is read = takes-given can_fail remaining
+      PassesItem remaining (aside none) new r → (type : LabelType) → type ≡ head_label_type h →
+      AnswersItem can_fail remaining (aside none) new (Some mid.levels) (placed place type) (λ v. v) r → Answered new r
+  told-key (Ok v) keeps type is read = takes-given can_fail remaining
       (keeps.kept.same_reader ∙ k.kept.same_reader, λ first t. keeps.kept.only first (k.kept.only first t))
       (keeps.kept.levels ∙ k.kept.levels) keeps.kept.pending (omega (arith, k.fewer, keeps.fewer)) (λ b u.
       let (un, tells) = told b u in
@@ -139,7 +139,7 @@ module _ {S W P : Type 0} (can_fail : Bool) {remaining : S → Option (List ℕ)
             (subst (λ t. outcome (Some mid.levels) (placed place t i) ≡ gives v) (is ∙ tells i s z sp f) give),
         un',
       ))
-  told-key {new = new} (Err e) keeps kind is denied = takes-denied can_fail remaining
+  told-key {new = new} (Err e) keeps type is denied = takes-denied can_fail remaining
       (λ first t. keeps.kept.only first (k.kept.only first t)) (omega (arith, k.fewer, keeps.kept.no_more)) (λ b s z i
       end u sp f
       fits.

@@ -35,30 +35,30 @@ module _ {S W A : Type 0} (remaining : S → Option (List ℕ)) (old : ByteSourc
         (end_at remaining) old mid (fault_at can_fail remaining new e) (ap (fault_at can_fail remaining new) err)
         (subst (TakesBare (IsUnread remaining) old mid false) is head) nested
 
-    module _ (kind : StringType) (len : Option ℕ) (is : h ≡ head_of kind len) where
+    module _ (type : StringType) (len : Option ℕ) (is : h ≡ head_of type len) where
       -- the payload of the string that it begins was refused
       pub string-denied : TakesOnly (HasTaken remaining) old.decoder mid.decoder → (fault : Fault) →
-          DeniesContent (IsUnread remaining mid) (end_at remaining mid) kind len fault → IsDenied fault
+          DeniesContent (IsUnread remaining mid) (end_at remaining mid) type len fault → IsDenied fault
       string-denied only fault content =
-          denies-string (IsUnread remaining) (end_at remaining) (Some old.levels) taken old mid kind len fault
+          denies-string (IsUnread remaining) (end_at remaining) (Some old.levels) taken old mid type len fault
           (same-end remaining old mid only) (subst (TakesBare (IsUnread remaining) old mid false) is head) content
 
       -- it was taken, and the string gives v
       pub string-read : (new : ByteSource S W) (payload : List ℕ) (v : A) → TakesContent (IsUnread remaining mid)
-          (IsUnread remaining new) kind len payload → ((ts : List ℕ) → AreSkipped false ts →
-          outcome (Some old.levels) (taken (under ts (string_item kind len payload))) ≡ gives v) →
+          (IsUnread remaining new) type len payload → ((ts : List ℕ) → AreSkipped false ts →
+          outcome (Some old.levels) (taken (under ts (string_item type len payload))) ≡ gives v) →
           Reads (IsUnread remaining) old new (Some old.levels) taken v
-      string-read new payload v content give = reads-string (IsUnread remaining) old mid new kind len (Some old.levels)
+      string-read new payload v content give = reads-string (IsUnread remaining) old mid new type len (Some old.levels)
           taken payload v (subst (TakesBare (IsUnread remaining) old mid false) is head) content give
 
       -- either
       pub string-answered : {T : Type 0} {P : T → Type 0} (can_fail : Bool) (new : ByteSource S W) (content : T → A)
           (r : Result T (Error Unit)) → TakesOnly (HasTaken remaining) old.decoder mid.decoder → IfOk r P →
           ((v : T) → P v → (payload : List ℕ) ×
-          TakesContent (IsUnread remaining mid) (IsUnread remaining new) kind len payload ×
+          TakesContent (IsUnread remaining mid) (IsUnread remaining new) type len payload ×
           ((ts : List ℕ) → AreSkipped false ts →
-          outcome (Some old.levels) (taken (under ts (string_item kind len payload))) ≡ gives (content v))) →
-          IfErr r (λ e. DeniesContent (IsUnread remaining mid) (end_at remaining mid) kind len
+          outcome (Some old.levels) (taken (under ts (string_item type len payload))) ≡ gives (content v))) →
+          IfErr r (λ e. DeniesContent (IsUnread remaining mid) (end_at remaining mid) type len
           (fault_at can_fail remaining new e)) →
           AnswersItem can_fail remaining old new (Some old.levels) taken content r
       string-answered can_fail new content (Ok v) only took give denied =

@@ -63,29 +63,29 @@ head-faults b p end e i s z o h sp f fits =
     let size : length b ≡ length x + length (y ++ z) = ap length split ∙ length-append x (y ++ z) in
     long-faults end e o is (omega (arith, past, there, more, size, fits))
 
-string-faults : {A : Type 0} (kind : StringType) (b : List ℕ) (p end : ℕ) (e : Refusal) (i : Item) (s z : List ℕ)
-    (o : Outcome A) → StringRefuses kind b p e → Spells s i → b ≡ s ++ z → IsFaultOf end (fault_of e) o
-string-faults kind b p end e i s z o (n, k, r, (h, hd, len, g), w) sp f =
-    let spelled : SpellsHeader h (head_of kind (Some n)) = string-spells kind n h hd in
-    let (payload, is) = string-only kind (Some n) i (same-head s z h r i (head_of kind (Some n)) sp spelled
+string-faults : {A : Type 0} (type : StringType) (b : List ℕ) (p end : ℕ) (e : Refusal) (i : Item) (s z : List ℕ)
+    (o : Outcome A) → StringRefuses type b p e → Spells s i → b ≡ s ++ z → IsFaultOf end (fault_of e) o
+string-faults type b p end e i s z o (n, k, r, (h, hd, len, g), w) sp f =
+    let spelled : SpellsHeader h (head_of type (Some n)) = string-spells type n h hd in
+    let (payload, is) = string-only type (Some n) i (same-head s z h r i (head_of type (Some n)) sp spelled
     (sym f ∙ g)).0 in
-    absurd (definite-never kind n p e r h s z payload spelled (subst (Spells s) is sp) (sym g ∙ f) w)
+    absurd (definite-never type n p e r h s z payload spelled (subst (Spells s) is sp) (sym g ∙ f) w)
 
-open-head : (kind : StringType) → SpellsHeader (open_byte (string_major kind) ∷ []) (head_of kind None)
+open-head : (type : StringType) → SpellsHeader (open_byte (string_major type) ∷ []) (head_of type None)
 open-head StringType.Bytes = refl
 open-head StringType.Text = refl
 
-open-faults : {A : Type 0} (kind : StringType) (b : List ℕ) (p end : ℕ) (e : Refusal) (i : Item) (s z : List ℕ)
-    (o : Outcome A) → OpenStringRefuses kind b p e → Spells s i → b ≡ s ++ z → p + length b ≤ end + length z →
+open-faults : {A : Type 0} (type : StringType) (b : List ℕ) (p end : ℕ) (e : Refusal) (i : Item) (s z : List ℕ)
+    (o : Outcome A) → OpenStringRefuses type b p e → Spells s i → b ≡ s ++ z → p + length b ≤ end + length z →
     IsFaultOf end (fault_of e) o
-open-faults kind b p end e i s z o (r, g, w) sp f fits =
-    let h : List ℕ = open_byte (string_major kind) ∷ [] in
-    let (payload, is) = string-only kind None i (same-head s z h r i (head_of kind None) sp (open-head kind)
+open-faults type b p end e i s z o (r, g, w) sp f fits =
+    let h : List ℕ = open_byte (string_major type) ∷ [] in
+    let (payload, is) = string-only type None i (same-head s z h r i (head_of type None) sp (open-head type)
     (sym f ∙ g)).0 in
-    let same = content-only kind None p (p + 1) e r h s z payload (open-head kind) (subst (Spells s) is sp)
+    let same = content-only type None p (p + 1) e r h s z payload (open-head type) (subst (Spells s) is sp)
     (sym g ∙ f) w in
-    let long = content-long kind None p (p + 1) r h s z payload (open-head kind) (subst (Spells s) is sp)
-    (sym g ∙ f) (subst (ChunksRefuse kind r (p + 1)) same w) in
+    let long = content-long type None p (p + 1) r h s z payload (open-head type) (subst (Spells s) is sp)
+    (sym g ∙ f) (subst (ChunksRefuse type r (p + 1)) same w) in
     let size : length b ≡ 1 + length r = (let k : length b ≡ suc (length r) = ap length g in omega (arith, k)) in
     long-faults end e o same (omega (arith, long, size, fits))
 
@@ -342,9 +342,9 @@ items-faults o (v ∷ vs) (item i is) w now c good r end z p l f (s', t', si, ts
 
 usable-or-not : {b : List ℕ} {p : ℕ} {l : Limit} {e : Refusal} → Refuses any b p l e → HeadRefuses b p e ⊎ IsUsable b p
 usable-or-not (Refuses.no_head h) = inl h
-usable-or-not (Refuses.bad_head kind u bad) = inr u
-usable-or-not (Refuses.string kind u w) = inr u.0
-usable-or-not (Refuses.open_string kind u w) = inr u.0
+usable-or-not (Refuses.bad_head type u bad) = inr u
+usable-or-not (Refuses.string type u w) = inr u.0
+usable-or-not (Refuses.open_string type u w) = inr u.0
 usable-or-not (Refuses.float u lo hi) = inr u
 usable-or-not (Refuses.simple s n r u si none g) = inr u
 usable-or-not (Refuses.break u) = inr u
@@ -457,11 +457,11 @@ pub value-faults : {b : List ℕ} {p : ℕ} {l : Limit} {e : Refusal} → Refuse
     IsFaultOf end (fault_of e) (outcome l (given_value i))
 value-faults {b} {p} {l} {e} (Refuses.no_head h) i s z end sp f fits =
     head-faults b p end e i s z (outcome l (given_value i)) h sp f fits
-value-faults (Refuses.bad_head kind u bad) i s z end sp f fits = cc
-value-faults {b} {p} {l} {e} (Refuses.string kind u w) i s z end sp f fits =
-    string-faults kind b p end e i s z (outcome l (given_value i)) w sp f
-value-faults {b} {p} {l} {e} (Refuses.open_string kind u w) i s z end sp f fits =
-    open-faults kind b p end e i s z (outcome l (given_value i)) w sp f fits
+value-faults (Refuses.bad_head type u bad) i s z end sp f fits = cc
+value-faults {b} {p} {l} {e} (Refuses.string type u w) i s z end sp f fits =
+    string-faults type b p end e i s z (outcome l (given_value i)) w sp f
+value-faults {b} {p} {l} {e} (Refuses.open_string type u w) i s z end sp f fits =
+    open-faults type b p end e i s z (outcome l (given_value i)) w sp f fits
 value-faults {l = l} (Refuses.float {x} {b = b} u lo hi) i s z end sp f fits =
     let (raw, is) = float-only x b s z i sp f lo hi in
     ap (λ j. outcome l (given_value j)) is

@@ -8,9 +8,9 @@ use Rattle.ciborium.proofs.Payloads.SpelledStrings.{definite-payload}
 
 module _ (P : List ℕ → Type 0) (end n : ℕ) (fault : Fault) where
   -- its bytes were refused, or those of any string
-  pub just-denied : (kind : StringType) → DeniesJust P end n fault → DeniesContent P end kind (Some n) fault
-  just-denied kind denied y x s z payload o u hd sp e fits =
-      let (size, allowed, split) = definite-payload kind n y x s z payload hd sp e in
+  pub just-denied : (type : StringType) → DeniesJust P end n fault → DeniesContent P end type (Some n) fault
+  just-denied type denied y x s z payload o u hd sp e fits =
+      let (size, allowed, split) = definite-payload type n y x s z payload hd sp e in
       let more : length y ≡ length payload + length z = ap length split ∙ length-append payload z in
       denied y (length z) o u (omega (arith, more, size)) fits
 

@@ -35,10 +35,10 @@ module _ {S W X E : Type 0} (remaining : S → Option (List ℕ)) (old new : Byt
   payload-denied-then h (Err x) denied = λ y p r m e u pay split there fits. denied y p r m e (none y u) pay split there
       (subst (λ k. k ≤ e + m) (sym (same-end remaining old new only y u)) fits)
 
-  pub content-denied-then : (kind : StringType) (len : Option ℕ) (result : Result X E) →
-      IfErr result (λ e. DeniesContent (IsUnread remaining new) (end_at remaining new) kind len (fault_of e)) →
-      IfErr result (λ e. DeniesContent (IsUnread remaining old) (end_at remaining old) kind len (fault_of e))
-  content-denied-then kind len (Ok v) denied = tt
-  content-denied-then kind len (Err r) denied = λ y x s z payload e u hd sp split fits.
+  pub content-denied-then : (type : StringType) (len : Option ℕ) (result : Result X E) →
+      IfErr result (λ e. DeniesContent (IsUnread remaining new) (end_at remaining new) type len (fault_of e)) →
+      IfErr result (λ e. DeniesContent (IsUnread remaining old) (end_at remaining old) type len (fault_of e))
+  content-denied-then type len (Ok v) denied = tt
+  content-denied-then type len (Err r) denied = λ y x s z payload e u hd sp split fits.
       denied y x s z payload e (none y u) hd sp split
       (subst (λ k. k ≤ e + length z) (sym (same-end remaining old new only y u)) fits)

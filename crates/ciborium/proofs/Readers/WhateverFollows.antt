@@ -105,86 +105,86 @@ PullsAll {W} {E} d e x = (xs : List ℕ) (p : ℕ) → IsAhead Some d xs p → P
 -- what the calls that read a string answer
 abbrev pub StringSo : {W E : Type 0} → StringType → Option ℕ → ℕ → Decoder (List ℕ) W → Decoder (List ℕ) W →
     Result Value (Error E) → Type 0
-StringSo {W} {E} kind len at d e x = (xs : List ℕ) (p : ℕ) → IsAt Some d xs p →
-    IsStringRead {S = List ℕ} {E = E} kind Some e len at xs p x
+StringSo {W} {E} type len at d e x = (xs : List ℕ) (p : ℕ) → IsAt Some d xs p →
+    IsStringRead {S = List ℕ} {E = E} type Some e len at xs p x
 
 abbrev pub PartSo : {W E : Type 0} → StringType → Option ℕ → ℕ → Decoder (List ℕ) W → Decoder (List ℕ) W →
     Result Part (Error E) → Type 0
-PartSo {W} {E} kind len at d e x = (xs : List ℕ) (p : ℕ) → IsAt Some d xs p →
-    IsStringPart {S = List ℕ} {E = E} kind Some e len at xs p x
+PartSo {W} {E} type len at d e x = (xs : List ℕ) (p : ℕ) → IsAt Some d xs p →
+    IsStringPart {S = List ℕ} {E = E} type Some e len at xs p x
 
-string-read : (E : Type 0) {S W : Type 0} (kind : StringType) (remaining : S → Option (List ℕ)) (d e : Decoder S W)
+string-read : (E : Type 0) {S W : Type 0} (type : StringType) (remaining : S → Option (List ℕ)) (d e : Decoder S W)
     (len : Option ℕ) (xs : List ℕ) (p : ℕ) (old new : List ℕ) (v : Value) →
-    old ≡ [] → tree_of v ≡ string_tree kind new → Takes remaining d e (λ b. (added : List ℕ) × (new ≡ old ++ added) ×
-    IsStringTaken {E = E} kind len d.last b d.counter.count (Ok tt) added) →
-    IsAt remaining d xs p → IsStringRead {S = S} {E = E} kind remaining e len d.last xs p (Ok v)
-string-read E kind remaining d e len xs p old new v none tree (x, taken, count, (added, is, s), bytes) at =
+    old ≡ [] → tree_of v ≡ string_tree type new → Takes remaining d e (λ b. (added : List ℕ) × (new ≡ old ++ added) ×
+    IsStringTaken {E = E} type len d.last b d.counter.count (Ok tt) added) →
+    IsAt remaining d xs p → IsStringRead {S = S} {E = E} type remaining e len d.last xs p (Ok v)
+string-read E type remaining d e len xs p old new v none tree (x, taken, count, (added, is, s), bytes) at =
     let k = rest-of (left_of remaining d) (left_of remaining e) xs x at.1 taken in
     let less = e.counter.fits in
     let start : d.counter.count ≡ p = at.0 in (
       x,
       added,
       k.0,
-      subst (λ q. IsStringTaken {E = E} kind len d.last x q (Ok tt) added) start s,
-      tree ∙ ap (string_tree kind) (is ∙ ap (λ (z : List ℕ). z ++ added) none),
+      subst (λ q. IsStringTaken {E = E} type len d.last x q (Ok tt) added) start s,
+      tree ∙ ap (string_tree type) (is ∙ ap (λ (z : List ℕ). z ++ added) none),
       k.2,
       (count ∙ ap (λ q. q + length x) start, k.1),
       omega (arith, less, count, start),
     )
 
 -- a string that was appended to an empty one
-pub string-taken : (E : Type 0) {S W : Type 0} (remaining : S → Option (List ℕ)) (a b : Decoder S W) (kind : StringType)
-    (len : Option ℕ) (old new : List ℕ) (v : Value) → old ≡ [] → tree_of v ≡ string_tree kind new →
+pub string-taken : (E : Type 0) {S W : Type 0} (remaining : S → Option (List ℕ)) (a b : Decoder S W) (type : StringType)
+    (len : Option ℕ) (old new : List ℕ) (v : Value) → old ≡ [] → tree_of v ≡ string_tree type new →
     Takes remaining a b (λ y. (added : List ℕ) × (new ≡ old ++ added) ×
-    IsStringTaken {E = E} kind len a.last y a.counter.count (Ok tt) added) →
-    TakesBeforeAny remaining a b (λ d e. StringSo {E = E} kind len a.last d e (Ok v))
-string-taken E remaining a b kind len old new v none tree t = (
+    IsStringTaken {E = E} type len a.last y a.counter.count (Ok tt) added) →
+    TakesBeforeAny remaining a b (λ d e. StringSo {E = E} type len a.last d e (Ok v))
+string-taken E remaining a b type len old new v none tree t = (
   t.0,
   t.1,
   t.2,
-  λ z xs p at. string-read E kind Some (with_left a (t.0 ++ z)) (with_left b z) len xs p old new v none tree
+  λ z xs p at. string-read E type Some (with_left a (t.0 ++ z)) (with_left b z) len xs p old new v none tree
       (t.0, refl, t.2, t.3, t.4) at,
   t.4,
 )
 
 -- a string that was refused
 pub string-refused : (E : Type 0) {S W : Type 0} (remaining : S → Option (List ℕ)) (a b : Decoder S W)
-    (kind : StringType) (len : Option ℕ) (x : LlError E) (A : List ℕ → List ℕ → Type 0) →
+    (type : StringType) (len : Option ℕ) (x : LlError E) (A : List ℕ → List ℕ → Type 0) →
     Takes remaining a b (λ y. (added : List ℕ) × A added y ×
-    IsStringTaken {E = E} kind len a.last y a.counter.count (Err x) added) →
-    TakesBeforeAny remaining a b (λ d e. StringSo {E = E} kind len a.last d e (Err (from_ll x)))
-string-refused E remaining a b kind len x A (y, taken, count, h, bytes) = (
+    IsStringTaken {E = E} type len a.last y a.counter.count (Err x) added) →
+    TakesBeforeAny remaining a b (λ d e. StringSo {E = E} type len a.last d e (Err (from_ll x)))
+string-refused E remaining a b type len x A (y, taken, count, h, bytes) = (
   y,
   taken,
   count,
-  λ c xs p s. refused-from (Some c) x (λ f. ContentRefuses kind len a.last xs p f)
-      (subst (λ q. reading.IsRefusalOf (Some c) x (λ f. ContentRefuses kind len a.last xs q f)) s.0
-      (reads-string {E = E} kind len a.last a.counter.count b.counter.count (Some (y ++ c)) (Some c) x xs A
+  λ c xs p s. refused-from (Some c) x (λ f. ContentRefuses type len a.last xs p f)
+      (subst (λ q. reading.IsRefusalOf (Some c) x (λ f. ContentRefuses type len a.last xs q f)) s.0
+      (reads-string {E = E} type len a.last a.counter.count b.counter.count (Some (y ++ c)) (Some c) x xs A
       (y, refl, count, h, bytes) s.1)),
   bytes,
 )
 
 -- a string whose payload could not be looked at where it stands
 pub held-refused : (E : Type 0) {S W V : Type 0} (remaining : S → Option (List ℕ)) (a b : Decoder S W)
-    (kind : StringType) (n : ℕ) (Makes : List ℕ → V → Type 0) (x : LlError E) →
+    (type : StringType) (n : ℕ) (Makes : List ℕ → V → Type 0) (x : LlError E) →
     Takes remaining a b (λ y. IsVisited n Makes y a.counter.count (Some (Err x))) →
-    TakesBeforeAny remaining a b (λ d e. StringSo {E = E} kind (Some n) a.last d e (Err (from_ll x)))
-held-refused E remaining a b kind n Makes x (y, taken, count, h, bytes) =
-    string-refused E remaining a b kind (Some n) x (λ _ _. Unit {0}) (y, taken, count, ([], tt, by x h), bytes)
+    TakesBeforeAny remaining a b (λ d e. StringSo {E = E} type (Some n) a.last d e (Err (from_ll x)))
+held-refused E remaining a b type n Makes x (y, taken, count, h, bytes) =
+    string-refused E remaining a b type (Some n) x (λ _ _. Unit {0}) (y, taken, count, ([], tt, by x h), bytes)
   where
     by : (x : LlError E) → IsVisited n Makes y a.counter.count (Some (Err x)) →
-        IsStringTaken {E = E} kind (Some n) a.last y a.counter.count (Err x) []
+        IsStringTaken {E = E} type (Some n) a.last y a.counter.count (Err x) []
     by (Io e) (none, some, fits) = inr (fits, (subst (λ (z : List ℕ). length z < n) (sym none) some, refl))
     by (Syntax at) h = absurd h
     by TooLong h = absurd h
     by Memory h = absurd h
 
 -- a text whose payload is none
-pub held-no-text : (E : Type 0) {S W : Type 0} (remaining : S → Option (List ℕ)) (a b : Decoder S W) (kind : StringType)
-    (n : ℕ) → Takes remaining a b (λ y. (length y ≡ n) × (a.counter.count + n ≤ greatest_offset) × ¬ IsAllowed kind y) →
-    TakesBeforeAny remaining a b (λ d e. StringSo {E = E} kind (Some n) a.last d e (Err (from_ll (Syntax a.last))))
-held-no-text E remaining a b kind n (y, taken, count, (size, fits, unlike), bytes) =
-    string-refused E remaining a b kind (Some n) (Syntax a.last) (λ _ _. Unit {0})
+pub held-no-text : (E : Type 0) {S W : Type 0} (remaining : S → Option (List ℕ)) (a b : Decoder S W) (type : StringType)
+    (n : ℕ) → Takes remaining a b (λ y. (length y ≡ n) × (a.counter.count + n ≤ greatest_offset) × ¬ IsAllowed type y) →
+    TakesBeforeAny remaining a b (λ d e. StringSo {E = E} type (Some n) a.last d e (Err (from_ll (Syntax a.last))))
+held-no-text E remaining a b type n (y, taken, count, (size, fits, unlike), bytes) =
+    string-refused E remaining a b type (Some n) (Syntax a.last) (λ _ _. Unit {0})
     (y, taken, count, ([], tt, inr (fits, (refl, size, unlike, refl))), bytes)
 
 -- ---- what was taken of a reader

@@ -14,7 +14,7 @@ use Rattle.ciborium.proofs.{Readers.WhateverFollows.so-both, Turns.Fronts.{Front
 use Rattle.ciborium.proofs.Turns.{Fronts.{head-no-break, ahead-at, offset-at, PullsSo}, Pulled.refused-map}
 use Rattle.ciborium.specs.{ValueAnswers.IsRefusedBy, declared.de.error.Error.{Error, TheVariants.Semantic}}
 use Rattle.ciborium.specs.inner.{Parts.{IsHeadAccepted, IsHeadMeasured, RefusesPart}, Rules.{long_fault, counted_fault}}
-use Rattle.ciborium.specs.inner.{Rules.{deterministic_fault, head_fault}, ValuesInBytes.{IsAt, IsPulled, StandsAt}}
+use Rattle.ciborium.specs.inner.{Rules.{header_fault, head_fault}, ValuesInBytes.{IsAt, IsPulled, StandsAt}}
 use Rattle.std.proofs.Common.{Result}
 use Rattle.ciborium.specs.inner.Parts.{IsHeadRead}
 use Rattle.ciborium_ll.specs.declared.header.Header.TheVariants as header
@@ -101,7 +101,7 @@ module _ (order : KeyOrder) (b r : List ℕ) (size : ℕ) (len : length b ≡ si
   float-found j raw h e = ap (λ (c : List ℕ). spelling_fault (deterministic order) (c ++ r)) e ∙
       fault-float (deterministic order) j (raw ++ r) h
 
-  head-found : (h : Header) → SpellsHeader b h → IsFaultAt order (b ++ r) (deterministic_fault h size)
+  head-found : (h : Header) → SpellsHeader b h → IsFaultAt order (b ++ r) (header_fault h size)
   head-found (header.Positive n) is = long-found 0 n (omega arith) is
   head-found (header.Negative n) is = long-found 1 n (omega arith) is
   head-found (header.Bytes n) is = counted-found 2 n (omega arith) (omega arith) is
@@ -121,10 +121,10 @@ module _ (order : KeyOrder) (b r : List ℕ) (size : ℕ) (len : length b ≡ si
 module _ {S W : Type 0} (remaining : S → Option (List ℕ)) (d : Decoder S W) (h : Header) (xs : List ℕ) (p : ℕ)
     (a : IsPulled remaining d h xs p) where
   found-at : (order : KeyOrder) → d.counter.count ≡ p + d.head_len → IsFaultAt order xs
-      (deterministic_fault h d.head_len)
+      (header_fault h d.head_len)
   found-at order size =
       let count = a.6.0 in
-      subst (λ z. IsFaultAt order z (deterministic_fault h d.head_len)) (sym a.4)
+      subst (λ z. IsFaultAt order z (header_fault h d.head_len)) (sym a.4)
       (head-found order a.0 a.1 d.head_len (omega (arith, size, count)) h a.2)
 
   pub good-at : (spelling : Spelling) → head_fault spelling h d.head_len ≡ None → IsHeadMeasured spelling d p →
@@ -144,7 +144,7 @@ module _ {S W : Type 0} (remaining : S → Option (List ℕ)) (d : Decoder S W) 
       other : ¬ Rattle.ciborium.specs.inner.ValuesInBytes.IsBreakAt xs p
       other = no-break (faulty h wrong) (front-of remaining d h h xs p refl a)
         where
-          faulty : (k : Header) → deterministic_fault k d.head_len ≡ Some kind → IsNoBreak k
+          faulty : (k : Header) → header_fault k d.head_len ≡ Some kind → IsNoBreak k
           faulty header.Break e = absurd cc
           faulty k e = tt
 

@@ -13,7 +13,7 @@ use Rattle.ciborium_value.specs.inner.Frames.{TreeFrame, array, map, tag, Placed
 use Rattle.ciborium_value.specs.{inner.ReadItems.ReadsItem, declared.key_order.KeyOrder.KeyOrder}
 use Rattle.ciborium_value.proofs.GoodItems.Introduced.{inside-more, IsNoKey, no-key-order, order-now, never-open}
 use Rattle.ciborium_value.proofs.GoodItems.Introduced.{parts_of, reads-container, reads-tag}
-use Rattle.ciborium.specs.{inner.Around.{trees_in_turn, map_due, IsAround}, inner.Rules.HasKeysInOrder}
+use Rattle.ciborium.specs.{inner.Around.{trees_in_turn, map_due, IsAround}, inner.Rules.HasKeyInOrder}
 use Rattle.ciborium.specs.{inner.Rules.HasKeyOutOfOrder, inner.ValuesInBytes.IsBreakAt}
 use Rattle.ciborium.proofs.Turns.Paired.{in_turn-key, in_turn-value, turns-paired}
 use Rattle.ciborium_ll.specs.declared.kind.Kind.TheVariants as kinds
@@ -153,7 +153,7 @@ module _ (spelling : Spelling) where
 
   -- in order, the key goes on
   pub kept : (l : ℕ) (xs : List ℕ) (p : ℕ) (os : List TreeFrame) (zs : List ℕ) (r : ℕ) → LandsIn os l xs p zs r →
-      HasKeysInOrder spelling os → (m : ℕ) × IsAround spelling l xs p os m zs r
+      HasKeyInOrder spelling os → (m : ℕ) × IsAround spelling l xs p os m zs r
   kept l xs p [] zs r a o = absurd a
   kept l xs p (array vs b ∷ os) zs r a o = a
   kept l xs p (map ps b None ∷ os) zs r a o = a
@@ -171,7 +171,7 @@ module _ (spelling : Spelling) where
   )
     where
       in-order : (s : Spelling) → AreInOrder s (keys_in (trees_in_turn ps None)) →
-          HasKeysInOrder s (map ps behind (Some k) ∷ os) → AreInOrder s (keys_in (trees_in_turn ps None ++ k ∷ []))
+          HasKeyInOrder s (map ps behind (Some k) ∷ os) → AreInOrder s (keys_in (trees_in_turn ps None ++ k ∷ []))
       in-order any h o = tt
       in-order (deterministic order) h o = subst (λ us. AreRising order (keys_in us)) (sym (in_turn-key ps k))
           (rises-with order ps k h o)

@@ -24,8 +24,8 @@ takes_one _ = false
 
 -- parts of a string and the break begin b, and z follows them
 abbrev pub ChunksTo : StringType → List ℕ → List ℕ → Type 0
-ChunksTo kind b z = (payloads : List (List ℕ)) × (r : List ℕ) ×
-    AreChunks (string_major kind) (IsAllowed kind) r payloads × (b ≡ r ++ (break_byte ∷ z))
+ChunksTo type b z = (payloads : List (List ℕ)) × (r : List ℕ) ×
+    AreChunks (string_major type) (IsAllowed type) r payloads × (b ≡ r ++ (break_byte ∷ z))
 
 module _ (l : Limit) where
   -- where n levels are unfinished, an item that nests within those that are left begins b, and z follows

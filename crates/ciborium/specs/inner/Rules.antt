@@ -18,22 +18,22 @@ abbrev pub counted_fault : ℕ → Option ℕ → ℕ → Option Kind
 counted_fault major (Some n) size = long_fault major n size
 counted_fault major None size = Some kinds.Open
 
-abbrev pub deterministic_fault : Header → ℕ → Option Kind
-deterministic_fault (header.Positive n) size = long_fault 0 n size
-deterministic_fault (header.Negative n) size = long_fault 1 n size
-deterministic_fault (header.Bytes n) size = counted_fault 2 n size
-deterministic_fault (header.Text n) size = counted_fault 3 n size
-deterministic_fault (header.Array n) size = counted_fault 4 n size
-deterministic_fault (header.Map n) size = counted_fault 5 n size
-deterministic_fault (header.Tag n) size = long_fault 6 n size
-deterministic_fault (header.Simple n) size = if n == 23 then Some kinds.NotShortest else None
-deterministic_fault (header.Float size) k = None
-deterministic_fault header.Break size = None
+abbrev pub header_fault : Header → ℕ → Option Kind
+header_fault (header.Positive n) size = long_fault 0 n size
+header_fault (header.Negative n) size = long_fault 1 n size
+header_fault (header.Bytes n) size = counted_fault 2 n size
+header_fault (header.Text n) size = counted_fault 3 n size
+header_fault (header.Array n) size = counted_fault 4 n size
+header_fault (header.Map n) size = counted_fault 5 n size
+header_fault (header.Tag n) size = long_fault 6 n size
+header_fault (header.Simple n) size = if n == 23 then Some kinds.NotShortest else None
+header_fault (header.Float size) k = None
+header_fault header.Break size = None
 
 -- why a head of so many bytes is not accepted
 abbrev pub head_fault : Spelling → Header → ℕ → Option Kind
 head_fault any h size = None
-head_fault (deterministic order) h size = deterministic_fault h size
+head_fault (deterministic order) h size = header_fault h size
 
 -- ---- keys in order
 
@@ -46,9 +46,9 @@ abbrev pub IsKeyOutOfOrder : KeyOrder → List TreeFrame → ℕ → ℕ → Typ
 IsKeyOutOfOrder order os r at = (before : Tree) × (key : Tree) ×
     (waiting_keys os ≡ Some (before, key)) × ¬ (key_order order before key ≡ Less) × (at ≡ r - encoded_size key)
 
-abbrev pub HasKeysInOrder : Spelling → List TreeFrame → Type 0
-HasKeysInOrder any os = Unit {0}
-HasKeysInOrder (deterministic order) os = IsKeyInOrder order os
+abbrev pub HasKeyInOrder : Spelling → List TreeFrame → Type 0
+HasKeyInOrder any os = Unit {0}
+HasKeyInOrder (deterministic order) os = IsKeyInOrder order os
 
 abbrev pub HasKeyOutOfOrder : Spelling → List TreeFrame → ℕ → ℕ → Type 0
 HasKeyOutOfOrder any os r at = ⊥

@@ -18,8 +18,8 @@ string_item StringType.Text len b = text (is_open len) b
 
 -- c, behind any head of the string, makes the string with this payload
 abbrev pub IsContent : StringType → Option ℕ → List ℕ → List ℕ → Type 0
-IsContent kind len c payload = (x : List ℕ) → SpellsHeader x (head_of kind len) →
-    Spells (x ++ c) (string_item kind len payload)
+IsContent type len c payload = (x : List ℕ) → SpellsHeader x (head_of type len) →
+    Spells (x ++ c) (string_item type len payload)
 
 -- the number so far and one byte more, where 128 bits hold it
 abbrev pub one_digit_more : Option ℕ → ℕ → Option ℕ
@@ -38,12 +38,12 @@ module _ (P Q : List ℕ → Type 0) where
 
   -- the payload was taken
   abbrev pub TakesContent : StringType → Option ℕ → List ℕ → Type 0
-  TakesContent kind len payload = (y : List ℕ) → P y → (c : List ℕ) × (z : List ℕ) ×
-      IsContent kind len c payload × (y ≡ c ++ z) × Q z
+  TakesContent type len payload = (y : List ℕ) → P y → (c : List ℕ) × (z : List ℕ) ×
+      IsContent type len c payload × (y ≡ c ++ z) × Q z
 
   -- the payload was taken, and its place is this
   abbrev pub TakesPlace : {X : Type 0} → StringType → Option ℕ → (List ℕ → X) → X → Type 0
-  TakesPlace kind len place x = (payload : List ℕ) × TakesContent kind len payload × (x ≡ place payload)
+  TakesPlace type len place x = (payload : List ℕ) × TakesContent type len payload × (x ≡ place payload)
 
   -- n bytes were taken, which make the number start this one
   abbrev pub TakesDigits : ℕ → Option ℕ → Option ℕ → Type 0
@@ -64,8 +64,8 @@ module _ (P Q : List ℕ → Type 0) where
 -- where a string with this head is spelled, and what is there ends at this offset, it is refused
 -- for what the string does not decide: as too long only where the string ends too far
 abbrev pub DeniesContent : (List ℕ → Type 0) → ℕ → StringType → Option ℕ → Fault → Type 0
-DeniesContent P all kind len fault = (y x s z payload : List ℕ) (end : ℕ) → P y → SpellsHeader x (head_of kind len) →
-    Spells s (string_item kind len payload) → x ++ y ≡ s ++ z → all ≤ end + length z → IsOutsideFault end fault
+DeniesContent P all type len fault = (y x s z payload : List ℕ) (end : ℕ) → P y → SpellsHeader x (head_of type len) →
+    Spells s (string_item type len payload) → x ++ y ≡ s ++ z → all ≤ end + length z → IsOutsideFault end fault
 
 -- where n bytes are there, and m more
 abbrev pub DeniesJust : (List ℕ → Type 0) → ℕ → ℕ → Fault → Type 0

@@ -5,7 +5,7 @@ use Rattle.ciborium_value.specs.{Refuses.Refuses, Spelling.Spelling, Tree.Tree, 
 use Rattle.ciborium_value.specs.{declared.tree.Value.Value, inner.Frames.{TreeFrame, done, more, placed}}
 use Rattle.ciborium_value.specs.inner.ReadItems.{ReadsItem}
 use Rattle.ciborium.specs.{declared.de.error.Error.Error, declared.de.error.Error.TheVariants.{Memory, Semantic}}
-use Rattle.ciborium.specs.{ValueAnswers.IsRefusedBy, inner.Around.IsAround, inner.Rules.HasKeysInOrder}
+use Rattle.ciborium.specs.{ValueAnswers.IsRefusedBy, inner.Around.IsAround, inner.Rules.HasKeyInOrder}
 use Rattle.ciborium.specs.{inner.Rules.HasKeyOutOfOrder, inner.ValuesInBytes.StandsAt}
 use Rattle.ciborium_ll.specs.declared.kind.Kind.TheVariants as kinds
 
@@ -38,7 +38,7 @@ IsTurned spelling remaining d os l xs p (Err e) = IsRefusedBy (left_of remaining
 -- the answer of a call that places a value that ends before offset r
 abbrev pub IsPlacedInOrder : {E : Type 0} → Spelling → List TreeFrame → Tree → ℕ → List TreeFrame →
     Result (Option Value) (Error E) → Type 0
-IsPlacedInOrder spelling before v r after (Ok None) = (more after ≡ placed before v) × HasKeysInOrder spelling after
+IsPlacedInOrder spelling before v r after (Ok None) = (more after ≡ placed before v) × HasKeyInOrder spelling after
 IsPlacedInOrder spelling before v r after (Ok (Some w)) = done (tree_of w) ≡ placed before v
 IsPlacedInOrder spelling before v r after (Err e) = (e ≡ Memory) ⊎ ((more after ≡ placed before v) ×
     ((at : ℕ) × HasKeyOutOfOrder spelling after r at × (e ≡ Semantic (Some at) kinds.KeyOrder)))

@@ -18,7 +18,7 @@ use Rattle.ciborium.specs.{declared.ser.error.Error.Error as WriteError, Writes.
 use Rattle.ciborium_value.specs.Tree as trees
 
 -- just these bytes were taken, and `deserialized` makes the content of what is answered; or the
--- reader failed, or memory was refused
+-- reader failed, or an allocation failed
 abbrev pub IsLoaded : {C E : Type 0} → Given C → C → List ℕ → Option (List ℕ) → Result Tree (Error E) → Type 0
 IsLoaded taken c rest after (Ok t) = (after ≡ Some rest) × (outcome None (taken (item_of t)) ≡ gives c)
 IsLoaded taken c rest after (Err e) = IsFailed after e
@@ -65,7 +65,7 @@ OneEncoding {T} written reading =
 abbrev pub NestsDeeper : {T C : Type 0} → Reading T C → Outcome Tree → ℕ → Type 0
 NestsDeeper reading form l = (t : Tree) × (form ≡ gives t) × (outcome (Some l) (reading.taken (item_of t)) ≡ nests)
 
--- the content is loaded; or memory was refused, or reading of the form takes more than l levels,
+-- the content is loaded; or an allocation failed, or reading of the form takes more than l levels,
 -- and n are more
 abbrev pub IsSavedContent : {T C : Type 0} → Reading T C → Outcome Tree → ℕ → ℕ → C → Result T (Error IoError) → Type 0
 IsSavedContent reading form l n c (Ok w) = reading.content w ≡ c

@@ -34,7 +34,7 @@ IsContentReadBack IsValid written reading levels l v again bytes rest = (old new
 
 -- ---- over a tree
 
--- the content is answered; or memory was refused
+-- the content is answered; or an allocation failed
 abbrev pub IsMadeAgain : {C : Type 0} → C → Result C TreeError → Type 0
 IsMadeAgain c (Ok d) = d ≡ c
 IsMadeAgain c (Err e) = e ≡ of_tree.Memory

@@ -2,7 +2,7 @@
 
 ghost use Rattle.std.specs.Prelude.{◌≡◌, ◌≤◌, IfErr, List, None, OnOk, Some, ℕ};
 ghost use Rattle.ciborium_ll.specs.Decoding.{HasSameReader, TakesBeforeAny, last_of, pushed_of};
-ghost use Rattle.ciborium.specs.inner.StringAnswers.{IsCopied, IsHeldRead, string_kind};
+ghost use Rattle.ciborium.specs.inner.StringAnswers.{IsCopied, IsHeldRead, string_type};
 ghost use Rattle.ciborium.specs.inner.ValuesInBytes.{HasEndedAfter, IsAt, heads_left};
 
 use crate::de::error::{BareReadError, Error};
@@ -31,7 +31,7 @@ struct Copier {
 impl Visitor for Copier {
     type Value = Copied;
 
-    ghost makes = { λ self bytes copied. IsCopied (string_kind self.is_text) bytes copied };
+    ghost makes = { λ self bytes copied. IsCopied (string_type self.is_text) bytes copied };
 
     #[inline(always)]
     fn visit(&self, bytes: &[u8]) -> Copied {
@@ -71,7 +71,7 @@ pub(super) fn copy_held<R, A: Access<R>>(
         (λ e. HasEndedAfter A.can_fail A.remaining decoder.new e) }
     ensures content { TakesBeforeAny A.remaining decoder.old decoder.new
         (λ d e. (xs : List ℕ) (p : ℕ) → IsAt Some d xs p →
-        IsHeldRead (string_kind is_text) Some e len (last_of decoder.old) xs p result) }
+        IsHeldRead (string_type is_text) Some e len (last_of decoder.old) xs p result) }
 {
     let copier = Copier { alloc, is_text };
     let Some(visited) = decoder.visit_keeping(len, &copier, failure) else {

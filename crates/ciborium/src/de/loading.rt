@@ -110,7 +110,7 @@ fn compare<T: Serialize>(
     match into_writer_deterministic(alloc, value, order, &mut encoded) {
         Ok(()) => Ok(first_difference(bytes, &encoded)),
         Err(ser::Error::Value(kind)) => Err(Error::Semantic(None, kind)),
-        // A list fails to grow only where memory is refused.
+        // A list fails to grow only where an allocation fails.
         Err(ser::Error::Io(_) | ser::Error::Memory) => Err(Error::Memory),
     }
 }

@@ -7,7 +7,7 @@ ghost use Rattle.ciborium.specs.inner.ValuesInBytes.{HasEndedAfter};
 ghost use Rattle.ciborium.specs.inner.Parts.{IsContainerBegun, IsPartRead, IsWhole};
 ghost use Rattle.ciborium.specs.inner.Parts.{IsAtRest, IsSimpleRead};
 ghost use Rattle.ciborium.specs.inner.ValuesInBytes.{IsAt, StandsAt, heads_left};
-ghost use Rattle.ciborium.specs.inner.StringAnswers.{IsStringPart, string_kind};
+ghost use Rattle.ciborium.specs.inner.StringAnswers.{IsStringPart, string_type};
 
 use crate::de::error::{BareReadError, Error};
 use crate::de::front::{Part, pull};
@@ -82,7 +82,7 @@ fn read_string<R, A: Access<R>>(
         (λ e. HasEndedAfter A.can_fail A.remaining decoder.new e) }
     ensures content { TakesBeforeAny A.remaining decoder.old decoder.new
         (λ d e. (xs : List ℕ) (p : ℕ) → IsAt Some d xs p →
-        IsStringPart (string_kind is_text) Some e len (last_of decoder.old) xs p result) }
+        IsStringPart (string_type is_text) Some e len (last_of decoder.old) xs p result) }
 {
     let Some(size) = len else {
         return append_string(alloc, decoder, scratch, is_text, len, failure);
@@ -111,7 +111,7 @@ fn append_string<R, A: Access<R>>(
         (λ e. HasEndedAfter A.can_fail A.remaining decoder.new e) }
     ensures content { TakesBeforeAny A.remaining decoder.old decoder.new
         (λ d e. (xs : List ℕ) (p : ℕ) → IsAt Some d xs p →
-        IsStringPart (string_kind is_text) Some e len (last_of decoder.old) xs p result) }
+        IsStringPart (string_type is_text) Some e len (last_of decoder.old) xs p result) }
 {
     if is_text {
         let mut text = String::new(alloc);

@@ -4,7 +4,7 @@ ghost use Rattle.std.specs.Prelude.{◌≡◌, IsFalse, IsTrue, MatchOption};
 ghost use Rattle.ciborium_value.specs.inner.Stack.{frames_of};
 ghost use Rattle.ciborium.specs.Spelling as spellings;
 ghost use Rattle.ciborium_value.specs.Spelling.{IsUnwanted};
-ghost use Rattle.ciborium.specs.inner.Rules.{HasKeyOutOfOrder, HasKeysInOrder, head_fault};
+ghost use Rattle.ciborium.specs.inner.Rules.{HasKeyOutOfOrder, HasKeyInOrder, head_fault};
 
 use ciborium_ll::Header;
 use ciborium_value::Kind;
@@ -27,7 +27,7 @@ pub(crate) trait Rules {
     /// The offset of the key that waits for its value, where it is out of order. Its last byte
     /// stands before offset `end`.
     fn find_disorder(stack: &Stack, end: usize) -> Option<usize>
-        ensures { MatchOption result (HasKeysInOrder spelling (frames_of stack.now))
+        ensures { MatchOption result (HasKeyInOrder spelling (frames_of stack.now))
             (λ at. HasKeyOutOfOrder spelling (frames_of stack.now) end at) };
 }
 

@@ -14,9 +14,9 @@ use crate::de::front::{Part, pull};
 use crate::de::spelling::Rules;
 use ciborium_ll::tag::{BIGNEG, BIGPOS};
 use ciborium_ll::{Access, Decoder, Header};
-use ciborium_value::bignum::{self, FoldError, GREATEST_FOLDED_SIZE};
+use ciborium_value::bignum::{self, GREATEST_FOLDED_SIZE};
 use ciborium_value::stack::NewFrame;
-use ciborium_value::{Kind, Value};
+use ciborium_value::{Kind, Value, error};
 use std::alloc::Global;
 use std::io;
 
@@ -44,8 +44,8 @@ fn fold<E>(alloc: Global, tag: u64, payload: &[u8], offset: usize) -> Result<Val
 {
     match bignum::fold(alloc, tag, payload) {
         Ok(value) => Ok(value),
-        Err(FoldError::TooLarge) => Err(Error::Semantic(Some(offset), Kind::TooLarge)),
-        Err(FoldError::Memory) => Err(Error::Memory),
+        Err(error::Error::Custom(kind)) => Err(Error::Semantic(Some(offset), kind)),
+        Err(error::Error::Memory) => Err(Error::Memory),
     }
 }
 

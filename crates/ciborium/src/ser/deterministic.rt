@@ -75,7 +75,7 @@ fn form_of<T: Serialize>(
 }
 
 /// Writes the deterministic form of a `Value` as `into_writer_deterministic` does, and without a
-/// copy of its tree where it is its own form (`Value::is_deterministic`): no memory is taken then.
+/// copy of its tree where it is its own form (`Value::is_deterministic`), which allocates nothing.
 ///
 /// # Errors
 ///

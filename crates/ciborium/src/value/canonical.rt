@@ -138,7 +138,7 @@ impl<O> Clone for OrderedValue<O> {
     }
 }
 
-/// The definite item of the value, with no bignum folded. No memory is taken.
+/// The definite item of the value, with no bignum folded. Nothing is allocated.
 impl<O> Serialize for OrderedValue<O> {
     ghost written = { named_value };
 

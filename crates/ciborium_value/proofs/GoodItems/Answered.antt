@@ -13,8 +13,8 @@ use Rattle.ciborium_ll.specs.StringRefusal.{string_major, IsAllowed, PayloadRefu
 use Rattle.ciborium_ll.specs.{StringRefusal.HasStringHead, declared.kind.Kind.{Kind, TheVariants.{Float, Simple}}}
 use Rattle.ciborium_ll.specs.declared.{kind.Kind.TheVariants.{Break, TooLarge}, strings.StringType.StringType}
 use Rattle.ciborium_value.proofs.GoodItems.{Accepted.anyway, Bignums.{foldable-is, is-foldable, none-large}}
-use Rattle.ciborium_value.proofs.GoodItems.{Found.{kind_allowed, kind_major}, Introduced.reads-positive}
-use Rattle.ciborium_value.proofs.GoodItems.Introduced.{reads-negative, reads-string, kind-below, reads-open_string}
+use Rattle.ciborium_value.proofs.GoodItems.{Found.{type_allowed, kind_major}, Introduced.reads-positive}
+use Rattle.ciborium_value.proofs.GoodItems.Introduced.{reads-negative, reads-string, type-below, reads-open_string}
 use Rattle.ciborium_value.proofs.GoodItems.Introduced.{reads-simple, inside-more, reads-container}
 use Rattle.ciborium_value.proofs.GoodItems.{Introduced.{reads-tag, folding-reads, reads-folded}, Parts.in_order-is}
 use Rattle.ciborium_value.proofs.GoodItems.{Parts.is-in_order, Reader.{Answer, ends, refused, checked, and_then, made}}
@@ -70,7 +70,7 @@ string-meets c b p q n k r bytes st e =
       st,
       subst (λ z. PayloadRefuses c n p z (syntax p)) (sym split)
           (PayloadRefuses.not_allowed (take n r) (drop n r) ly
-          (λ a. let z = sym u ∙ kind_allowed c (take n r) a in absurd cc)),
+          (λ a. let z = sym u ∙ type_allowed c (take n r) a in absurd cc)),
     )))
   where
     P : Answer (List ℕ) → Type 0
@@ -86,7 +86,7 @@ PiecesMeet c b q (refused e) = (s : List ℕ) × (ps : List (List ℕ)) × (r : 
 
 string-begins : (c : StringType) (b : List ℕ) (f : Front) → front b ≡ f →
     ((n : ℕ) (r : List ℕ) → f ≡ counted (string_major c) n r → ⊥) → HasStringHead c b → ⊥
-string-begins c b f e h s = h s.0 s.2 (sym e ∙ stands-front b (string_major c) s.0 s.1 s.2 (kind-below c) s.3)
+string-begins c b f e h s = h s.0 s.2 (sym e ∙ stands-front b (string_major c) s.0 s.1 s.2 (type-below c) s.3)
 
 break-begins : (b : List ℕ) (f : Front) → front b ≡ f → ((r : List ℕ) → f ≡ opened 7 r → ⊥) → IsAtFront 255 b → ⊥
 break-begins b f e h s = h s.0 (sym e ∙ ap front s.1 ∙ front_open 7 s.0)
@@ -337,22 +337,22 @@ module _ (spelling : Spelling) where
         (λ z. subst (λ j. Refuses spelling b p j recursion_limit_exceeded) (sym z) (Refuses.no_level k r w good begins))
         (λ m level. recs b p l [] r (p + k) w m (IsInside.begun good begins level fits) each few)
 
-    string-item : (kind n k r : _) (a : Answer (List ℕ)) → HasHead b (string_major kind) n k r →
-        p + k + n ≤ greatest_offset → StringMeets kind b p n k r a → Meets b p l (made (string_tree kind) a)
-    string-item kind n k r (refused e) st fits f = Refuses.string kind good f
-    string-item kind n k r (ends y x u) st fits (split, size, ok, at) =
-        subst (λ z. ReadsItem spelling l b p (string_tree kind y) x z) (sym at)
-        (reads-string spelling kind b p n k l y x (subst (λ c. HasHead b (string_major kind) n k c) split st) size ok
+    string-item : (type n k r : _) (a : Answer (List ℕ)) → HasHead b (string_major type) n k r →
+        p + k + n ≤ greatest_offset → StringMeets type b p n k r a → Meets b p l (made (string_tree type) a)
+    string-item type n k r (refused e) st fits f = Refuses.string type good f
+    string-item type n k r (ends y x u) st fits (split, size, ok, at) =
+        subst (λ z. ReadsItem spelling l b p (string_tree type y) x z) (sym at)
+        (reads-string spelling type b p n k l y x (subst (λ c. HasHead b (string_major type) n k c) split st) size ok
         good.1 fits)
 
-    open-item : (kind : StringType) (r : List ℕ) (a : Answer (List ℕ)) → b ≡ (string_major kind * 32 + 31) ∷ r →
-        PiecesMeet kind r (p + 1) a → Meets b p l (made (string_tree kind) a)
-    open-item kind r (refused e) split f = Refuses.open_string kind good (r, split, f)
-    open-item kind r (ends y x u) split (c, ys, chunks, same, at, end, fits) =
-        subst (λ z. ReadsItem spelling l b p (string_tree kind z) x u) (sym same)
-        (subst (λ z. ReadsItem spelling l b p (string_tree kind (joined ys)) x z) (omega (arith, end))
-        (reads-open_string spelling kind b p l c ys x
-        (split ∙ ap (λ (z : List ℕ). (string_major kind * 32 + 31) ∷ z) at) chunks good.1 (omega (arith, end, fits))))
+    open-item : (type : StringType) (r : List ℕ) (a : Answer (List ℕ)) → b ≡ (string_major type * 32 + 31) ∷ r →
+        PiecesMeet type r (p + 1) a → Meets b p l (made (string_tree type) a)
+    open-item type r (refused e) split f = Refuses.open_string type good (r, split, f)
+    open-item type r (ends y x u) split (c, ys, chunks, same, at, end, fits) =
+        subst (λ z. ReadsItem spelling l b p (string_tree type z) x u) (sym same)
+        (subst (λ z. ReadsItem spelling l b p (string_tree type (joined ys)) x z) (omega (arith, end))
+        (reads-open_string spelling type b p l c ys x
+        (split ∙ ap (λ (z : List ℕ). (string_major type * 32 + 31) ∷ z) at) chunks good.1 (omega (arith, end, fits))))
 
     counted-meets : (m n k : ℕ) (r : List ℕ) → m < 7 → HasHead b m n k r → p + k ≤ greatest_offset →
         (IsStringMajor m → p + k + n ≤ greatest_offset) →

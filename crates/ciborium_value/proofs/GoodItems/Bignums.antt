@@ -5,9 +5,9 @@ use Rattle.std.proofs.Common.{◌∙◌, subst, lit<, arith, le-ltb, ltb-true, l
 use Rattle.std.proofs.Math.Nat.{pow-le-pow_right, pow-succ', add-mul, mul_assoc, mul_left_comm, mul-le-mul_right}
 use Rattle.ciborium_ll.proofs.UsableHeads.{EachIsByte, pass}
 use Rattle.ciborium_value.specs.Meaning.{big_endian_behind, big_endian, without_zeros, bignum_meaning, is_bignum_tag}
-use Rattle.ciborium_value.specs.{Spelling.IsFoldable, Tree.{Tree, integer, bytes, tag}, lemmas.ReadsBackBignums.stays}
-use Rattle.ciborium_value.specs.lemmas.ReadsBackBignums.{length-without_zeros}
-use Rattle.ciborium_value.proofs.GoodItems.Reader.{begins_zero, is_foldable}
+use Rattle.ciborium_value.specs.{Spelling.IsShortenable, Tree.{Tree, integer, bytes, tag}}
+use Rattle.ciborium_value.specs.lemmas.ReadsBackBignums.{length-without_zeros, stays}
+use Rattle.ciborium_value.proofs.GoodItems.Reader.{begins_zero, is_shortenable}
 
 -- ---- the bounds of a number
 
@@ -49,7 +49,7 @@ unfolding big_endian_behind
 zero_first s = refl
 
 -- a number that could be written shorter is not too large
-pub foldable-small : (y : List ℕ) → EachIsByte y → length y ≤ 16 → IsFoldable y → big_endian y < 2 ^ 127
+pub foldable-small : (y : List ℕ) → EachIsByte y → length y ≤ 16 → IsShortenable y → big_endian y < 2 ^ 127
 foldable-small y h l (inl few) =
     let less = below y 8 h few in let e : 256 ^ 8 < 2 ^ 127 = lit< tt in omega (arith, less, e)
 foldable-small y h l (inr (s, is)) =
@@ -74,18 +74,18 @@ or_left : (t u : Bool) → t ≡ true → (t || u) ≡ true
 or_left true u h = refl
 or_left false u h = absurd cc
 
-pub foldable-is : (y : List ℕ) → is_foldable y ≡ true → IsFoldable y
+pub foldable-is : (y : List ℕ) → is_shortenable y ≡ true → IsShortenable y
 foldable-is y h = by (or_true (leb (length y) 8) (begins_zero y) h)
   where
     begins : (y : List ℕ) → begins_zero y ≡ true → (s : List ℕ) × (y ≡ 0 ∷ s)
     begins [] e = absurd cc
     begins (x ∷ s) e = (s, ap (λ z. z ∷ s) (eqb-true x 0 e))
 
-    by : (leb (length y) 8 ≡ true) ⊎ (begins_zero y ≡ true) → IsFoldable y
+    by : (leb (length y) 8 ≡ true) ⊎ (begins_zero y ≡ true) → IsShortenable y
     by (inl e) = inl (leb-true (length y) 8 e)
     by (inr e) = inr (begins y e)
 
-pub is-foldable : (y : List ℕ) → IsFoldable y → is_foldable y ≡ true
+pub is-foldable : (y : List ℕ) → IsShortenable y → is_shortenable y ≡ true
 is-foldable y (inl h) = or_left _ _ (le-leb (length y) 8 h)
 is-foldable y (inr (s, e)) = or_right _ _ (ap begins_zero e)
 
@@ -98,7 +98,7 @@ IsKept t y = bignum_meaning t y ≡ Some (tag t (bytes y))
 abbrev IsGreat : List ℕ → Type 0
 IsGreat y = (without_zeros y ≡ y) × (2 ^ 64 ≤ big_endian y)
 
-great-whole : (y : List ℕ) → EachIsByte y → IsGreat y → IsFoldable y → ⊥
+great-whole : (y : List ℕ) → EachIsByte y → IsGreat y → IsShortenable y → ⊥
 great-whole y h g (inl few) = let less = below y 8 h few in let e : 256 ^ 8 ≡ 2 ^ 64 = refl in let much = g.1 in
     omega (arith, less, e, much)
 great-whole y h g (inr (s, is)) =
@@ -118,7 +118,7 @@ great-first x s h =
     let e : 256 ^ 8 ≡ 2 ^ 64 = refl in
     omega (arith, much, more, once, e)
 
-whole-great : (y : List ℕ) → (IsFoldable y → ⊥) → IsGreat y
+whole-great : (y : List ℕ) → (IsShortenable y → ⊥) → IsGreat y
 whole-great [] f = absurd (f (inl (omega arith)))
 whole-great (zero ∷ s) f = absurd (f (inr (s, refl)))
 whole-great (suc x ∷ s) f = (stays x s, great-first x s (long (leb (length (suc x ∷ s)) 8) refl))
@@ -157,7 +157,7 @@ kept-great_3 y = by (ltb (big_endian y) (2 ^ 64)) (ltb (big_endian y) (2 ^ 127))
     by false true e f h = ((cc, ltb-false _ _ e), ltb-true _ _ f)
 
 -- what a tag keeps is not foldable
-pub kept-whole : (t : ℕ) (y : List ℕ) → is_bignum_tag t ≡ true → EachIsByte y → IsKept t y → IsFoldable y → ⊥
+pub kept-whole : (t : ℕ) (y : List ℕ) → is_bignum_tag t ≡ true → EachIsByte y → IsKept t y → IsShortenable y → ⊥
 kept-whole t y is h kept f = by (bignum-tag t is)
   where
     by : (t ≡ 2) ⊎ (t ≡ 3) → ⊥
@@ -179,7 +179,7 @@ whole-kept_3 y v g h = by (ltb (big_endian y) (2 ^ 127)) (sym (pass _ _ _ (le-lt
     by false e = absurd cc
 
 -- and what is not foldable is kept, if it has a meaning
-pub whole-kept : (t : ℕ) (y : List ℕ) (v : Tree) → is_bignum_tag t ≡ true → (IsFoldable y → ⊥) →
+pub whole-kept : (t : ℕ) (y : List ℕ) (v : Tree) → is_bignum_tag t ≡ true → (IsShortenable y → ⊥) →
     bignum_meaning t y ≡ Some v → v ≡ tag t (bytes y)
 whole-kept t y v is f h = by (bignum-tag t is)
   where

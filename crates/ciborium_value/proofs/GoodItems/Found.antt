@@ -11,7 +11,7 @@ use Rattle.ciborium_ll.specs.{Spells.{AreChunks, joined, IsString, Spells}, Stri
 use Rattle.ciborium_ll.specs.declared.{kind.Kind.TheVariants.{Break, Simple, TooLarge}, strings.StringType.StringType}
 use Rattle.ciborium_value.proofs.GoodItems.{Accepted.{anyway, accepted, deterministic_tree}, Bignums.foldable-is}
 use Rattle.ciborium_value.proofs.GoodItems.{Bignums.kept-whole, Faults.{short-fault, fault-simple}}
-use Rattle.ciborium_value.proofs.GoodItems.{Introduced.kind-below, Parts.{within-zero, lower, levels-below, due-first}}
+use Rattle.ciborium_value.proofs.GoodItems.{Introduced.type-below, Parts.{within-zero, lower, levels-below, due-first}}
 use Rattle.ciborium_value.proofs.GoodItems.Parts.{is-in_order, order-before, elements, turns, elements-in, turns-in}
 use Rattle.ciborium_value.proofs.GoodItems.Parts.{due_after, AreReadAs, HasParts, empty-order, same-keys}
 use Rattle.ciborium_value.proofs.GoodItems.Parts.{elements-due, turns-due, open-elements-due, open-turns-due}
@@ -39,9 +39,9 @@ use Rattle.ciborium_value.specs.lemmas.ItemsOfTrees.{tree_is_written_as_itself}
 use Rattle.ciborium_ll.specs.Item as item
 use Rattle.ciborium_value.specs.Tree as trees
 
-pub kind_allowed : (c : StringType) (t : List ℕ) → IsAllowed c t → allowed (string_major c) t ≡ true
-kind_allowed StringType.Bytes t h = refl
-kind_allowed StringType.Text t h = is_utf8-from_IsUtf8 t h
+pub type_allowed : (c : StringType) (t : List ℕ) → IsAllowed c t → allowed (string_major c) t ≡ true
+type_allowed StringType.Bytes t h = refl
+type_allowed StringType.Text t h = is_utf8-from_IsUtf8 t h
 
 pub kind_major : (c : StringType) → IsStringMajor (string_major c)
 kind_major StringType.Bytes = inl refl
@@ -151,21 +151,21 @@ module _ (spelling : Spelling) where
       (good-head b 1 n (length s) p x (omega arith) st fine (omega (arith, k, room))
       (λ z. absurd (no-string 1 (λ i. omega (arith, i)) (λ i. omega (arith, i)) z))) k
 
-  string-read : (kind : StringType) (d p q : ℕ) (h y x b : List ℕ) (l : Limit) → IsHead h (string_major kind)
-      (length y) → IsAllowed kind y → spelling_fault spelling b ≡ None → b ≡ (h ++ y) ++ x →
-      q ≡ p + length (h ++ y) → q ≤ greatest_offset → read spelling (suc d) b p l ≡ ends (string_tree kind y) x q
-  string-read kind d p q h y x b l is ok fine e k room =
-      let m : ℕ = string_major kind in
+  string-read : (type : StringType) (d p q : ℕ) (h y x b : List ℕ) (l : Limit) → IsHead h (string_major type)
+      (length y) → IsAllowed type y → spelling_fault spelling b ≡ None → b ≡ (h ++ y) ++ x →
+      q ≡ p + length (h ++ y) → q ≤ greatest_offset → read spelling (suc d) b p l ≡ ends (string_tree type y) x q
+  string-read type d p q h y x b l is ok fine e k room =
+      let m : ℕ = string_major type in
       let n : ℕ = length y in
       let st : HasHead b m n (length h) (y ++ x) = (h, is, refl, e ∙ append_assoc h y x) in
       let both : length (h ++ y) ≡ length h + n = length-append h y in
       let u : ℕ = p + length h in
-      read-counted spelling d p u b l m n (length h) (y ++ x) (kind-below kind) st
-      (good-head b m n (length h) p (y ++ x) (kind-below kind) st fine (omega (arith, both, k, room))
+      read-counted spelling d p u b l m n (length h) (y ++ x) (type-below type) st
+      (good-head b m n (length h) p (y ++ x) (type-below type) st fine (omega (arith, both, k, room))
       (λ z. omega (arith, both, k, room))) refl ∙
-      chosen kind u ∙ ap (made (string_tree kind)) (string-good m n p u y (y ++ x) x refl refl (kind_allowed kind y ok))
+      chosen type u ∙ ap (made (string_tree type)) (string-good m n p u y (y ++ x) x refl refl (type_allowed type y ok))
       ∙
-      ap (ends (string_tree kind y) x) (omega (arith, both, k))
+      ap (ends (string_tree type y) x) (omega (arith, both, k))
     where
       chosen : (c : StringType) (u : ℕ) → counted_item spelling (read spelling d)
           (λ w. parts spelling d (Some w) []) (string_major c) (length y) (y ++ x) p u l ≡ made (string_tree c)
@@ -173,25 +173,25 @@ module _ (spelling : Spelling) where
       chosen StringType.Bytes u = refl
       chosen StringType.Text u = refl
 
-  open_string-read : (kind : StringType) (d p q : ℕ) (c : List ℕ) (ys : List (List ℕ)) (x b : List ℕ) (l : Limit) →
-      AreChunks (string_major kind) (IsAllowed kind) c ys → spelling_fault spelling b ≡ None →
-      b ≡ (string_major kind * 32 + 31) ∷ ((c ++ (255 ∷ [])) ++ x) → q ≡ p + length c + 2 → q ≤ greatest_offset →
-      length b < suc d → read spelling (suc d) b p l ≡ ends (string_tree kind (joined ys)) x q
-  open_string-read kind d p q c ys x b l chunks fine e k room fuel =
-      let m : ℕ = string_major kind in
+  open_string-read : (type : StringType) (d p q : ℕ) (c : List ℕ) (ys : List (List ℕ)) (x b : List ℕ) (l : Limit) →
+      AreChunks (string_major type) (IsAllowed type) c ys → spelling_fault spelling b ≡ None →
+      b ≡ (string_major type * 32 + 31) ∷ ((c ++ (255 ∷ [])) ++ x) → q ≡ p + length c + 2 → q ≤ greatest_offset →
+      length b < suc d → read spelling (suc d) b p l ≡ ends (string_tree type (joined ys)) x q
+  open_string-read type d p q c ys x b l chunks fine e k room fuel =
+      let m : ℕ = string_major type in
       let r : List ℕ = c ++ (255 ∷ x) in
       let is : b ≡ (m * 32 + 31) ∷ r = e ∙ ap (λ (z : List ℕ). (m * 32 + 31) ∷ z) (append_assoc c (255 ∷ []) x) in
       let lb : length b ≡ suc (length r) = ap length is in
       let lr : length r ≡ length c + suc (length x) = length-append c (255 ∷ x) in
-      let has : IsUsable b p = subst (λ z. IsUsable z p) (sym is) (opened-has m p r (free kind)
+      let has : IsUsable b p = subst (λ z. IsUsable z p) (sym is) (opened-has m p r (free type)
       (omega (arith, k, room))) in
-      read-opened spelling d p b l m r is (has, fine) ∙ chosen kind ∙
-      ap (made (string_tree kind)) (pieces-run m (IsAllowed kind) (kind-below kind) (kind_allowed kind) d ys c (255 ∷ x)
+      read-opened spelling d p b l m r is (has, fine) ∙ chosen type ∙
+      ap (made (string_tree type)) (pieces-run m (IsAllowed type) (type-below type) (type_allowed type) d ys c (255 ∷ x)
       r
       (p + 1) (p + 1 + length c) (ends [] x q) chunks refl refl (omega (arith, k, room)) (omega (arith, lb, fuel))
       (λ z lt. pieces-break m z (p + 1 + length c) q x (omega (arith, lt)) (omega (arith, k, room))
       (omega (arith, k)))) ∙
-      ap (λ (z : List ℕ). ends (string_tree kind z) x q) (append-nil (joined ys))
+      ap (λ (z : List ℕ). ends (string_tree type z) x q) (append-nil (joined ys))
     where
       free : (k : StringType) → is_reserved (string_major k) 31 ≡ false
       free StringType.Bytes = refl
@@ -352,18 +352,18 @@ open-usable m g x b p free e room = subst (λ c. IsUsable c p) (sym e) (opened-h
 -- ---- any spelling
 
 module _ (d : ℕ) (rd : ReadsAt any d) (run : RunsAt any d) (x b : List ℕ) (p q : ℕ) (l : Limit) where
-  any-string : (kind : StringType) (o : Bool) (y s : List ℕ) → IsString o (string_major kind) (IsAllowed kind) s y →
+  any-string : (type : StringType) (o : Bool) (y s : List ℕ) → IsString o (string_major type) (IsAllowed type) s y →
       b ≡ s ++ x → q ≡ p + length s → q ≤ greatest_offset → 2 * length b < suc d →
-      read any (suc d) b p l ≡ ends (string_tree kind y) x q
-  any-string kind false y s (h, is, ok, e) f k room fuel =
-      string-read any kind d p q h y x b l is ok refl (f ∙ ap (λ (c : List ℕ). c ++ x) e)
+      read any (suc d) b p l ≡ ends (string_tree type y) x q
+  any-string type false y s (h, is, ok, e) f k room fuel =
+      string-read any type d p q h y x b l is ok refl (f ∙ ap (λ (c : List ℕ). c ++ x) e)
       (k ∙ ap (λ (c : List ℕ). p + length c) e) room
-  any-string kind true y s (ys, c, chunks, same, e) f k room fuel =
+  any-string type true y s (ys, c, chunks, same, e) f k room fuel =
       let ls : length s ≡ suc (length (c ++ (255 ∷ []))) = ap length e in
       let lc : length (c ++ (255 ∷ [])) ≡ length c + 1 = length-append c (255 ∷ []) in
-      open_string-read any kind d p q c ys x b l chunks refl (f ∙ ap (λ (z : List ℕ). z ++ x) e)
+      open_string-read any type d p q c ys x b l chunks refl (f ∙ ap (λ (z : List ℕ). z ++ x) e)
       (omega (arith, k, ls, lc)) room (omega (arith, fuel)) ∙
-      ap (λ (z : List ℕ). ends (string_tree kind z) x q) (sym same)
+      ap (λ (z : List ℕ). ends (string_tree type z) x q) (sym same)
 
   any-array : (o : Bool) (is : item.Items) (ts : Trees) (s : List ℕ) → Spells s (item.array o is) →
       items_meaning is ≡ Some ts → IsWithin l (suc (items_nesting is)) → b ≡ s ++ x → q ≡ p + length s →
@@ -557,15 +557,15 @@ module _ (order : KeyOrder) (d : ℕ) (rd : ReadsAt (deterministic order) d) (ru
       map-some None us e = absurd cc
       map-some (Some ws) us e = cc
 
-  det-string : (kind : StringType) (y : List ℕ) → IsAllowed kind y → length y ≤ greatest_offset →
-      b ≡ (shortest_head (string_major kind) (length y) ++ y) ++ x →
-      q ≡ p + length (shortest_head (string_major kind) (length y) ++ y) → q ≤ greatest_offset →
-      read det (suc d) b p l ≡ ends (string_tree kind y) x q
-  det-string kind y ok few f k room =
-      let m : ℕ = string_major kind in
+  det-string : (type : StringType) (y : List ℕ) → IsAllowed type y → length y ≤ greatest_offset →
+      b ≡ (shortest_head (string_major type) (length y) ++ y) ++ x →
+      q ≡ p + length (shortest_head (string_major type) (length y) ++ y) → q ≤ greatest_offset →
+      read det (suc d) b p l ≡ ends (string_tree type y) x q
+  det-string type y ok few f k room =
+      let m : ℕ = string_major type in
       let h : List ℕ = shortest_head m (length y) in
-      let st = short m (length y) (y ++ x) (kind-below kind) (omega (arith, few)) (f ∙ append_assoc h y x) in
-      string-read det kind d p q h y x b l (shortest_is_head m (length y) (omega (arith, few))) ok st.1 f k room
+      let st = short m (length y) (y ++ x) (type-below type) (omega (arith, few)) (f ∙ append_assoc h y x) in
+      string-read det type d p q h y x b l (shortest_is_head m (length y) (omega (arith, few))) ok st.1 f k room
 
   det-simple : (n : ℕ) (v : Tree) → n < 23 → simple_meaning n ≡ Some v → b ≡ ((224 + n) ∷ []) ++ x → q ≡ p + 1 →
       q ≤ greatest_offset → read det (suc d) b p l ≡ ends v x q

@@ -44,9 +44,9 @@ so-negative : (spelling h n : _) → IsShortIn spelling h 1 n → IsSpelledSo sp
 so-negative any h n short = tt
 so-negative (deterministic order) h n short = (short, tt)
 
-so-string : (spelling : Spelling) (kind : StringType) (h y : List ℕ) →
-    IsShortIn spelling h (string_major kind) (length y) → IsSpelledSo spelling (h ++ y) (string_tree kind y)
-so-string any kind h y short = tt
+so-string : (spelling : Spelling) (type : StringType) (h y : List ℕ) →
+    IsShortIn spelling h (string_major type) (length y) → IsSpelledSo spelling (h ++ y) (string_tree type y)
+so-string any type h y short = tt
 so-string (deterministic order) StringType.Bytes h y short = (ap (λ (c : List ℕ). c ++ y) short, tt)
 so-string (deterministic order) StringType.Text h y short = (ap (λ (c : List ℕ). c ++ y) short, tt)
 
@@ -119,18 +119,18 @@ reads-negative spelling b p n k l r (h, is, len, split) none fits =
       at = omega (arith, len);
     }
 
-pub kind-below : (kind : StringType) → string_major kind < 7
-kind-below StringType.Bytes = omega arith
-kind-below StringType.Text = omega arith
+pub type-below : (type : StringType) → string_major type < 7
+type-below StringType.Bytes = omega arith
+type-below StringType.Text = omega arith
 
 -- a definite string
-pub reads-string : (spelling : Spelling) (kind : StringType) (b : List ℕ) (p n k : ℕ) (l : Limit) (y r : List ℕ) →
-    HasHead b (string_major kind) n k (y ++ r) → length y ≡ n → IsAllowed kind y → spelling_fault spelling b ≡ None →
-    p + k + n ≤ greatest_offset → ReadsItem spelling l b p (string_tree kind y) r (p + k + n)
-reads-string spelling kind b p n k l y r (h, is, len, split) size ok none fits = record {
+pub reads-string : (spelling : Spelling) (type : StringType) (b : List ℕ) (p n k : ℕ) (l : Limit) (y r : List ℕ) →
+    HasHead b (string_major type) n k (y ++ r) → length y ≡ n → IsAllowed type y → spelling_fault spelling b ≡ None →
+    p + k + n ≤ greatest_offset → ReadsItem spelling l b p (string_tree type y) r (p + k + n)
+reads-string spelling type b p n k l y r (h, is, len, split) size ok none fits = record {
   taken = h ++ y;
-  read = by kind is ok (so-string spelling kind h y (subst (IsShortIn spelling h (string_major kind)) (sym size)
-      (good-short spelling b (string_major kind) n k (y ++ r) (kind-below kind) (h, is, len, split) none)));
+  read = by type is ok (so-string spelling type h y (subst (IsShortIn spelling h (string_major type)) (sym size)
+      (good-short spelling b (string_major type) n k (y ++ r) (type-below type) (h, is, len, split) none)));
   split = split ∙ sym (append_assoc h y r);
   at = omega (arith, both, len, size);
 }
@@ -161,14 +161,14 @@ reads-string spelling kind b p n k l y r (h, is, len, split) size ok none fits =
     )
 
 -- an open one
-pub reads-open_string : (spelling : Spelling) (kind : StringType) (b : List ℕ) (p : ℕ) (l : Limit) (c : List ℕ)
-    (ys : List (List ℕ)) (r : List ℕ) → b ≡ open_byte (string_major kind) ∷ (c ++ (break_byte ∷ r)) →
-    AreChunks (string_major kind) (IsAllowed kind) c ys → spelling_fault spelling b ≡ None →
-    p + length c + 2 ≤ greatest_offset → ReadsItem spelling l b p (string_tree kind (joined ys)) r (p + length c + 2)
-reads-open_string spelling kind b p l c ys r split chunks none fits = record {
-  taken = open_byte (string_major kind) ∷ (c ++ (break_byte ∷ []));
-  read = by kind chunks split;
-  split = split ∙ ap (λ (z : List ℕ). open_byte (string_major kind) ∷ z) (sym (append_assoc c (break_byte ∷ []) r));
+pub reads-open_string : (spelling : Spelling) (type : StringType) (b : List ℕ) (p : ℕ) (l : Limit) (c : List ℕ)
+    (ys : List (List ℕ)) (r : List ℕ) → b ≡ open_byte (string_major type) ∷ (c ++ (break_byte ∷ r)) →
+    AreChunks (string_major type) (IsAllowed type) c ys → spelling_fault spelling b ≡ None →
+    p + length c + 2 ≤ greatest_offset → ReadsItem spelling l b p (string_tree type (joined ys)) r (p + length c + 2)
+reads-open_string spelling type b p l c ys r split chunks none fits = record {
+  taken = open_byte (string_major type) ∷ (c ++ (break_byte ∷ []));
+  read = by type chunks split;
+  split = split ∙ ap (λ (z : List ℕ). open_byte (string_major type) ∷ z) (sym (append_assoc c (break_byte ∷ []) r));
   at = omega (arith, len);
 }
   where

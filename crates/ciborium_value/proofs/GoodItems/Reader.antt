@@ -121,12 +121,12 @@ abbrev pub begins_zero : List ℕ → Bool
 begins_zero [] = false
 begins_zero (x ∷ s) = eqb x 0
 
-abbrev pub is_foldable : List ℕ → Bool
-is_foldable y = leb (length y) 8 || begins_zero y
+abbrev pub is_shortenable : List ℕ → Bool
+is_shortenable y = leb (length y) 8 || begins_zero y
 
 abbrev pub is_unwanted : Spelling → List ℕ → Bool
 is_unwanted any y = false
-is_unwanted (deterministic order) y = is_foldable y
+is_unwanted (deterministic order) y = is_shortenable y
 
 abbrev pub bytes_in : Tree → List ℕ
 bytes_in (bytes y) = y

@@ -13,8 +13,8 @@ use Rattle.ciborium_ll.specs.declared.kind.Kind.TheVariants.{Simple, Break, TooL
 use Rattle.ciborium_ll.specs.declared.strings.StringType.{StringType}
 use Rattle.ciborium_value.proofs.GoodItems.{Answered.{kind_ok, rest-bytes}, Bignums.{foldable-small, foldable-is}}
 use Rattle.ciborium_value.proofs.GoodItems.{Bignums.{is-foldable, large-none}, Faults.{fault-break, fault-float}}
-use Rattle.ciborium_value.proofs.GoodItems.{Faults.fault-simple, Found.{kind_allowed, simple-front, read-good}}
-use Rattle.ciborium_value.proofs.GoodItems.{Found.parts-run, Introduced.{folding-reads, kind-below, parts_of}}
+use Rattle.ciborium_value.proofs.GoodItems.{Faults.fault-simple, Found.{type_allowed, simple-front, read-good}}
+use Rattle.ciborium_value.proofs.GoodItems.{Found.parts-run, Introduced.{folding-reads, type-below, parts_of}}
 use Rattle.ciborium_value.proofs.GoodItems.{Parts.levels-below}
 use Rattle.ciborium_value.proofs.GoodItems.{Parts.in_order-is, Reader.{Answer, ends, refused, and_then, made, given}}
 use Rattle.ciborium_value.proofs.GoodItems.Reader.{past, allowed, string, chunk, piece, pieces, levels, break_at}
@@ -61,7 +61,7 @@ part-refused k zero pos f bytes = let never : ⊥ = omega (arith, pos) in absurd
 part-refused k (suc c) pos {b} {q} {e} (ChunkRefuses.no_head h) bytes = checked-some b q _ e h
 part-refused k (suc c) pos {b} {q} {e} (ChunkRefuses.chunk h (n, j, r, st, f)) bytes =
     checked-none b q _ h ∙ ap (piece (pieces c (string_major k)) (string_major k) b q)
-    (stands-front b (string_major k) n j r (kind-below k) st) ∙
+    (stands-front b (string_major k) n j r (type-below k) st) ∙
     cond-true _ _ _ (eq-eqb (string_major k) (string_major k) refl) ∙ ap (and_then (chunk (pieces c (string_major k))))
     (payload-refused k f (rest-bytes b st.0 r st.3 bytes) (past q b r))
 part-refused k (suc c) pos {b} {q} {e} (ChunkRefuses.other h x y) bytes =
@@ -99,11 +99,11 @@ due-open _ b p h = refl
 
 module _ (spelling : Spelling) where
   -- a head refuses by itself
-  string-refused : (d p : ℕ) (b : List ℕ) (l : Limit) (kind : StringType) (e : Refusal) → HasGoodHead spelling b p →
-      StringRefuses kind b p e → EachIsByte b → read spelling (suc d) b p l ≡ refused e
-  string-refused d p b l kind e h (n, k, r, st, f) bytes =
-      read-counted spelling d p (p + k) b l (string_major kind) n k r (kind-below kind) st h refl ∙ chosen kind ∙
-      ap (made (λ z. string_tree kind z)) (payload-refused kind f (rest-bytes b st.0 r st.3 bytes) (p + k))
+  string-refused : (d p : ℕ) (b : List ℕ) (l : Limit) (type : StringType) (e : Refusal) → HasGoodHead spelling b p →
+      StringRefuses type b p e → EachIsByte b → read spelling (suc d) b p l ≡ refused e
+  string-refused d p b l type e h (n, k, r, st, f) bytes =
+      read-counted spelling d p (p + k) b l (string_major type) n k r (type-below type) st h refl ∙ chosen type ∙
+      ap (made (λ z. string_tree type z)) (payload-refused type f (rest-bytes b st.0 r st.3 bytes) (p + k))
     where
       chosen : (c : StringType) → counted_item spelling (read spelling d) (λ w. parts spelling d (Some w) [])
           (string_major c) n r p (p + k) l ≡ made (string_tree c) (string (string_major c) n r p (p + k))
@@ -118,7 +118,7 @@ module _ (spelling : Spelling) where
       let lb : length b ≡ suc (length (good ++ r)) = ap length wh in
       let br : EachIsByte (((m * 32 + 31) ∷ good) ++ r) = subst EachIsByte wh bytes in
       read-opened spelling d p b l m (good ++ r) wh h ∙ chosen k ∙
-      ap (made (string_tree k)) (pieces-run m (IsAllowed k) (kind-below k) (kind_allowed k) d payloads good r
+      ap (made (string_tree k)) (pieces-run m (IsAllowed k) (type-below k) (type_allowed k) d payloads good r
       (good ++ r)
       (p + 1) (p + 1 + length good) (refused e) parts_of refl refl room (omega (arith, lb, fuel))
       (λ c lc. part-refused k c (omega (arith, lc)) f (bytes_after ((m * 32 + 31) ∷ good) r br)))
@@ -226,9 +226,9 @@ module _ (spelling : Spelling) where
   refusal-read zero f bytes fuel = let never : ⊥ = omega (arith, fuel) in absurd never
   refusal-read (suc d) {b} {p} {l} {e} (Refuses.no_head h) bytes fuel = checked-some b p _ e h
   refusal-read (suc d) {b} {p} {l} {e} (Refuses.bad_head kind h f) bytes fuel = read-fault spelling d p b l kind h f
-  refusal-read (suc d) {b} {p} {l} {e} (Refuses.string kind h f) bytes fuel = string-refused d p b l kind e h f bytes
-  refusal-read (suc d) {b} {p} {l} {e} (Refuses.open_string kind h f) bytes fuel =
-      open-refused kind d p b l e h f bytes fuel
+  refusal-read (suc d) {b} {p} {l} {e} (Refuses.string type h f) bytes fuel = string-refused d p b l type e h f bytes
+  refusal-read (suc d) {b} {p} {l} {e} (Refuses.open_string type h f) bytes fuel =
+      open-refused type d p b l e h f bytes fuel
   refusal-read (suc d) {p = p} {l = l} (Refuses.float {x} {b = b} h lo hi) bytes fuel = float-refused d p x b l h lo hi
   refusal-read (suc d) {b} {p} {l} (Refuses.simple s n r h is none f) bytes fuel =
       simple-refused d p n s b r l h is none f

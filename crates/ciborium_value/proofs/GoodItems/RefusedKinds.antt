@@ -63,8 +63,8 @@ in-fault (deterministic order) (x ∷ b) = in-byte (x / 32) (x % 32) b
 pub refusal_kinds : RefusalKinds
 refusal_kinds spelling b p l e (Refuses.no_head h) = of-head b p e h
 refusal_kinds spelling b p l e (Refuses.bad_head kind h f) = subst MayBe f (in-fault spelling b)
-refusal_kinds spelling b p l e (Refuses.string kind h (n, k, r, st, f)) = of-payload kind f
-refusal_kinds spelling b p l e (Refuses.open_string kind h (r, is, (good, ps, rest, are, m, eq, f))) = of-chunk kind f
+refusal_kinds spelling b p l e (Refuses.string type h (n, k, r, st, f)) = of-payload type f
+refusal_kinds spelling b p l e (Refuses.open_string type h (r, is, (good, ps, rest, are, m, eq, f))) = of-chunk type f
 refusal_kinds spelling b p l e (Refuses.part vs r q w below i due f) = refusal_kinds spelling r q below e f
 refusal_kinds spelling b p l e (Refuses.tag_no_head t k r h st f) = of-head r (p + k) e f
 refusal_kinds spelling b p l e (Refuses.folding t r q a g f) = refusal_kinds spelling r q l e f

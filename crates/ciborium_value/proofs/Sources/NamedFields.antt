@@ -10,7 +10,7 @@ use Rattle.ciborium_value.specs.{Given.then_take, declared.labels.LabelType.Labe
 use Rattle.ciborium_value.specs.declared.wanted.FieldPlace.TheVariants.{First, Behind}
 use Rattle.ciborium_value.proofs.Sources.Sequences.{fault_then, Follows, so, IsBlamed, IsPast, IsInside, leaves}
 use Rattle.ciborium_value.proofs.Sources.Sequences.{blames_next}
-use Rattle.ciborium_value.specs.declared.labels.LabelType.TheVariants as kind
+use Rattle.ciborium_value.specs.declared.labels.LabelType.TheVariants as types
 
 -- ---- a label by its place
 
@@ -26,9 +26,9 @@ label-placed : {P : Type 0} (place : Label → P) (l : Limit) (i : Item) →
 label-placed place l i = by (label_type i)
   where
     by : (k : LabelType) → outcome l (placed place k i) ≡ outcome_map place (outcome l (placed (λ x. x) k i))
-    by kind.Name = map-twice _ place (outcome l (given_name i))
-    by kind.Number = map-twice _ place (outcome l (given_integer i))
-    by kind.Other = map-twice _ place (outcome l (given_skip i))
+    by types.Name = map-twice _ place (outcome l (given_name i))
+    by types.Number = map-twice _ place (outcome l (given_integer i))
+    by types.Other = map-twice _ place (outcome l (given_skip i))
 
 -- what has a place is a label with this place
 name_at : {A P : Type 0} (place : A → P) {p : P} (o : Outcome A) → outcome_map place o ≡ gives p →

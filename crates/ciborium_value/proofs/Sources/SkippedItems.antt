@@ -3,7 +3,7 @@ use Rattle.std.proofs.Common.{◌≡◌, ℕ, zero, suc, ◌<◌, Some, None, re
 use Rattle.ciborium_ll.specs.Item.{Item}
 use Rattle.ciborium_value.specs.{Labels.{Label, label_type, label_place, other}, Nesting.{Limit, IsWithin, nesting}}
 use Rattle.ciborium_value.specs.Given.{gives, nests, outcome, outcome_map, give, within_levels, given_skip}
-use Rattle.ciborium_value.specs.declared.labels.LabelType.TheVariants as kind
+use Rattle.ciborium_value.specs.declared.labels.LabelType.TheVariants as types
 
 levels-gives : (n : ℕ) (l : Limit) → IsWithin l n → outcome l (within_levels n (give (tt {0}))) ≡ gives (tt {0})
 levels-gives zero l h = refl
@@ -23,6 +23,6 @@ pub skip-nests : (m : ℕ) (i : Item) → m < nesting i → outcome (Some m) (gi
 skip-nests m i h = levels-nests (nesting i) m h
 
 -- a key that is neither a name nor a number
-pub other-place : {P : Type 0} (place : Label → P) (l : Limit) (i : Item) → label_type i ≡ kind.Other →
+pub other-place : {P : Type 0} (place : Label → P) (l : Limit) (i : Item) → label_type i ≡ types.Other →
     IsWithin l (nesting i) → outcome l (label_place place i) ≡ gives (place other)
 other-place place l i is h = rw is (ap (outcome_map (λ _. place other)) (skip-gives l i h))

@@ -14,7 +14,7 @@ pub record ReadsItem (spelling : Spelling) (l : Limit) (b : List ℕ) (p : ℕ) 
   pub split : b ≡ taken ++ r
   pub at : q ≡ p + length taken
 
--- the tree of a string of a kind
+-- the tree of a string of a type
 abbrev pub string_tree : StringType → List ℕ → Tree
 string_tree StringType.Bytes payload = trees.bytes payload
 string_tree StringType.Text payload = trees.text payload

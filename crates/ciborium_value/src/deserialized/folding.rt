@@ -8,11 +8,10 @@ ghost use Rattle.ciborium_value.specs.Tree as trees;
 ghost use Rattle.ciborium_value.specs.TreeAnswers.{IsErrorOf, tree_fault, value_item};
 ghost use Rattle.ciborium_value.specs.View.{tree_of};
 
-use crate::bignum::{FoldError, find_folding, fold};
+use crate::bignum::{find_folding, fold};
 use crate::error::Error;
 use crate::stack::{NewFrame, Stack};
 use crate::tree::Value;
-use ciborium_ll::Kind;
 use std::alloc::{AllocError, Global};
 
 // What is still to be copied of a value that is unfinished.
@@ -36,11 +35,7 @@ fn begin_tag<'a>(alloc: Global, tag: u64, content: &'a Value) -> Result<Part<'a>
         (λ e. IsUnfolded (tree_fault e) (folded (trees.tag tag (tree_of content.now)))) }
 {
     match find_folding(tag, content) {
-        Some(bytes) => match fold(alloc, tag, bytes) {
-            Ok(value) => Ok(Part::Whole(value)),
-            Err(FoldError::TooLarge) => Err(Error::Custom(Kind::TooLarge)),
-            Err(FoldError::Memory) => Err(Error::Memory),
-        },
+        Some(bytes) => Ok(Part::Whole(fold(alloc, tag, bytes)?)),
         None => Ok(Part::Begun(NewFrame::Tag(tag), Coming::One(content))),
     }
 }

@@ -7,7 +7,7 @@ use super::containers::{serialize_pairs, serialize_tagged};
 use crate::sink::Sink;
 use crate::tree::Value;
 
-/// The definite item of the value, with no bignum folded. No memory is taken.
+/// The definite item of the value, with no bignum folded. Nothing is allocated.
 impl Serialize for Value {
     ghost written = { named_value };
 

@@ -1,5 +1,5 @@
 use Rattle.std.proofs.Common.{◌+◌, ◌-◌, ◌++◌, ◌∷◌, ◌∙◌, List, ℕ, ap, arith, codes, decimal, length, refl, suc}
-use Rattle.std.proofs.lemmas.Result.{on_ok_weaker}
+use Rattle.std.proofs.{Common.{◌≡◌}, lemmas.{Grind.common_steps, Result.on_ok_weaker}}
 use Rattle.ciborium_ll.specs.{Levels.incomplete, declared.levels.Level.TheVariants.Items}
 use Rattle.ciborium_ll.specs.declared.strings.StringType.{StringType}
 use Rattle.cbor.specs.Exact.{AreExactly, AreOpenParts, IsExactly, closing, mark, open_level, opening, spaced}
@@ -198,3 +198,19 @@ push_parts-returns-clause-shown t c =
     (as-parts c.args.is_map h n c.parts.place c.requires.spelled (omega (arith, c.part_count-total.ensures)))
     c.in_ok-push_opening.ensures c.parts.invariant.0
     (c.in_ok-extend_from_slice-2.ensures.items ∙ ap (λ (s : List ℕ). c.parts.text.items ++ s) c.closing.ensures)
+
+pub push_open_parts-returns-in-Break-clause-left : goal.push_open_parts-returns-in-Break-clause-left
+push_open_parts-returns-in-Break-clause-left t c = λ around begun. (parts-break c.args.is_map c.parts.place
+    c.parts.heads c.next_head.new.heads c.in_ok-head.head around (c.parts.invariant.1 around begun) c.in-Break.is
+    c.in_ok-head.ensures.read).0
+
+pub push_open_parts-overflow_step-place : goal.push_open_parts-overflow_step-place
+push_open_parts-overflow_step-place t c = omega arith
+
+pub push_open_parts-unreachable-requires : goal.push_open_parts-unreachable-requires
+push_open_parts-unreachable-requires t c = grind (arith, common_steps)
+
+pub push_parts-returns-clause-left : goal.push_parts-returns-clause-left
+push_parts-returns-clause-left t c = λ around e.
+    let none : c.part_count-total.result - c.parts.place ≡ 0 = omega (arith, c.parts-test.false) in
+    rw none at (c.parts.invariant.1 around e)

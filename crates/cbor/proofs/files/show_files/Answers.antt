@@ -11,7 +11,7 @@ as-many f names inputs e =
     sym (length-map f names) ∙ (ap (λ (ns : List (List ℕ)). length ns) e ∙ length-map (λ (i : Input). i.0) inputs)
 
 pub files-init : goal.files-init
-files-init g c inputs w e h f = none-shown c.args.command (g.O.Opener.held c.args.opener.now) inputs w _ _ h f
+files-init g c inputs w e h f = none-shown c.args.command (g.O.Opener.contents c.args.opener.now) inputs w _ _ h f
 
 pub files-preserved : goal.files-preserved
 files-preserved g c inputs w e h f =
@@ -21,7 +21,7 @@ files-preserved g c inputs w e h f =
     (sym (get_or-map string_bytes c.args.names.now c.files.name-index c.name-item.result c.as_str.result.now
     c.files-test.true) ∙
     ap (λ (ns : List (List ℕ)). get_or ns c.files.name-index c.as_str.result.now) e)) in
-    one-more c.args.command (g.O.Opener.held c.args.opener.now) inputs c.files.name-index w c.files.all c.in-Ok.one
+    one-more c.args.command (g.O.Opener.contents c.args.opener.now) inputs c.files.name-index w c.files.all c.in-Ok.one
     _ _ _ _ c.as_str.result.now (omega (arith, size, c.files-test.true)) name (c.files.invariant inputs w e h f)
     c.in-Ok.ensures.kept (λ b v p q. c.in-Ok.ensures.shown b v p q)
 

@@ -154,8 +154,8 @@ impl<'a, R, A: Access<R>> ByteSource<'a, R, A> {
         }
     }
 
-    /// The place of the text whose head, at this offset, was taken last. Memory is taken only for a
-    /// long one, and one of indefinite length.
+    /// The place of the text whose head, at this offset, was taken last. Memory is allocated only
+    /// for a long one, and one of indefinite length.
     #[inline(always)]
     pub(crate) fn text_place<N: Labels>(
         &mut self,
@@ -204,19 +204,19 @@ impl<'a, R, A: Access<R>> ByteSource<'a, R, A> {
         }
     }
 
-    /// The place among these labels of a key of this kind.
+    /// The place among these labels of a key of this type.
     #[inline(never)]
-    pub(crate) fn place_of_kind<N: Labels>(
+    pub(crate) fn place_of_type<N: Labels>(
         &mut self,
         alloc: Global,
-        kind: LabelType,
+        label: LabelType,
         labels: &N,
     ) -> Result<N::Place, BareReadError>
         ensures keeps { PassesItem A.remaining self.old self.new result }
         ensures answer { AnswersItem A.can_fail A.remaining self.old self.new (Some self.old.levels)
-            (placed (N.place_of labels.now) kind) (λ v. v) result }
+            (placed (N.place_of labels.now) label) (λ v. v) result }
     {
-        match kind {
+        match label {
             LabelType::Name => self.named_place(alloc, labels),
             LabelType::Number => {
                 let ((negative, n), _) = self.read_integer()?;

@@ -182,7 +182,7 @@ impl<'a, R, A: Access<R>> ByteSource<'a, R, A> {
     }
 
     /// Passes over the payload behind this head, which was taken last and stands at this offset:
-    /// that of a definite string. Any other head has none. No memory is taken.
+    /// that of a definite string. Any other head has none. Nothing is allocated.
     #[inline(always)]
     pub(crate) fn skip_payload(
         &mut self,

@@ -142,7 +142,7 @@ impl<'a, R, A: Access<R>> Source for ByteSource<'a, R, A> {
             Header::Negative(n) => Ok(labels.find_number(true, u128::from(n))),
             _ => {
                 self.pending = Some((header, offset));
-                self.place_of_kind(alloc, label_type(header), labels)
+                self.place_of_type(alloc, label_type(header), labels)
             }
         }
     }

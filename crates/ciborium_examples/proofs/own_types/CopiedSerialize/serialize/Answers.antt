@@ -1,4 +1,4 @@
--- Where memory is refused, nothing was written yet.
+-- Where an allocation fails, nothing was written yet.
 use Rattle.ciborium.specs.Sinks.{named_text}
 use Rattle.std.proofs.Common.{string_bytes}
 use Rattle.ciborium_value.proofs.Writing.Progress.{broken_before}

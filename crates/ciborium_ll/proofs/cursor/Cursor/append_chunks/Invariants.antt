@@ -8,7 +8,7 @@ abbrev pub invariant-chunks : goal.invariant-chunks
 invariant-chunks g l = record {
   same : IsSameCursor l.fn.self l.self;
   head : l.head ≡ count_at l.self;
-  good : GoodParts l.kind (left_at g.A.Access.remaining l.fn.self)
+  good : GoodParts l.string_type (left_at g.A.Access.remaining l.fn.self)
       (left_at g.A.Access.remaining l.self)
       (count_at l.fn.self) (count_at l.self) l.fn.out.items l.out.items;
 }

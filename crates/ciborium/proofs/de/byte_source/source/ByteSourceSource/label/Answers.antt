@@ -52,6 +52,6 @@ returns-in-Negative g c =
 pub returns-in_default : goal.returns-in_default
 returns-in_default g c = record {
   takes = told-key _ (head g (goal.at.returns-in_default g c).In_ok-header)
-      (g.N.Labels.place_of c.args.labels.now) c.place_of_kind.result c.place_of_kind.ensures.keeps _
-      c.label_type.ensures c.place_of_kind.ensures.answer;
+      (g.N.Labels.place_of c.args.labels.now) c.place_of_type.result c.place_of_type.ensures.keeps _
+      c.label_type.ensures c.place_of_type.ensures.answer;
 }

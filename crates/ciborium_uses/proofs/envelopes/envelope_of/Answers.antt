@@ -2,7 +2,7 @@ use Rattle.std.proofs.Common.{◌≡◌, subst, sym, ◌∙◌}
 use Rattle.ciborium.specs.View.{tree_of}
 use Rattle.ciborium_uses.proofs.{Exits.exit_by, WholeMessages.same-headers}
 use Rattle.ciborium_uses.specs.Envelopes.{AreClaimBytes, IsHeader, message_tree}
-use Rattle.ciborium_uses.proofs.envelopes.open.Goals as goal
+use Rattle.ciborium_uses.proofs.envelopes.envelope_of.Goals as goal
 
 pub returns-in_err-check_headers-clause-refused : goal.returns-in_err-check_headers-clause-refused
 returns-in_err-check_headers-clause-refused c =

@@ -2,7 +2,7 @@ use Rattle.std.{proofs.Common.{sym, Some, subst}, specs.Int.complement_if}
 use Rattle.ciborium_value.specs.{Given.{given_integer, given_skip}, Labels.{numbered, other, placed}}
 use Rattle.ciborium.{proofs.{Containers.Labels.denies-mapped, Exits.passed_on}, specs.inner.ByteSources.IsUnread}
 use Rattle.ciborium.specs.inner.{ByteSources.{end_at, fault_at}, FrontItems.Denies}
-use Rattle.ciborium.proofs.de.byte_source.ByteSource.place_of_kind.Goals as goal
+use Rattle.ciborium.proofs.de.byte_source.ByteSource.place_of_type.Goals as goal
 
 pub returns-in_err-negative-in-Number-clause-answer : goal.returns-in_err-negative-in-Number-clause-answer
 returns-in_err-negative-in-Number-clause-answer g c =
