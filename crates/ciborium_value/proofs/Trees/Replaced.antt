@@ -1,12 +1,12 @@
 -- What is replaced in a list of values, and in their trees.
 use Rattle.std.proofs.Common.{◌≡◌, ◌∙◌, ℕ, zero, suc, ◌<◌, List, [], ◌∷◌, length, get_or, set, drop, Some, None, Option}
 use Rattle.std.proofs.{Common.{true, if◌then◌else◌, refl, sym, ap, subst, arith}, lemmas.Bool.Decides.Decides-int_eq}
-use Rattle.std.proofs.lemmas.{List.{drop-set-lt, get_or-set_same, length-set}, Slice.Eq.bytes_eq-Decides}
-use Rattle.std.specs.{Option.option_or, Prelude.{◌≢◌, ◌&&◌, Bool, false, IsTrue, is_none}}
+use Rattle.std.proofs.lemmas.{List.{get_or-set_same, length-set}, Slice.Eq.bytes_eq-Decides}
+use Rattle.std.specs.{Option.option_or, Prelude.{◌≢◌, ◌&&◌, false, IsTrue, is_none}}
 use Rattle.ciborium_value.{proofs.Trees.LookedUp.{last_found, nth_within}, specs.Labels.{Label, named, numbered, other}}
 use Rattle.ciborium_value.specs.{Labels.is_label, Lookups.{last_with, nth_tree, replaced_last, replaced_nth}}
-use Rattle.ciborium_value.specs.{Lookups.tree_label, Tree.{Tree, tree, tree_pair}, ValueLists.{trees_of, tree_pairs_of}}
-use Rattle.ciborium_value.specs.{View.tree_of, declared.tree.Value.Value}
+use Rattle.ciborium_value.specs.{Lookups.tree_label, Tree.{Tree, TreePairs, no_tree_pairs, tree, tree_pair}}
+use Rattle.ciborium_value.specs.{ValueLists.{trees_of, tree_pairs_of}, View.tree_of, declared.tree.Value.Value}
 
 -- a pair of the label has the new value, if none behind it has that label
 pub tree_pairs_of-set : (l : Label) (w : Value) (ps : List (Value × Value)) (i : ℕ) (p : Value × Value) →
@@ -27,14 +27,22 @@ tree_pairs_of-set l w (q ∷ qs) (suc i) p h none is_it =
     (last_found l qs i p (omega (arith, h)) none is_it p))
 
 -- and is then what is found
-pub last_with-set : (l : Label) (w : Value) (ps : List (Value × Value)) (i : ℕ) (p : Value × Value) → i < length ps →
-    last_with l (tree_pairs_of (drop (suc i) ps)) ≡ None → is_label (tree_label (tree_of (get_or ps i p).0)) l ≡ true →
-    last_with l (tree_pairs_of (set ps i ((get_or ps i p).0, w))) ≡ Some (tree_of w)
-last_with-set l w ps i p h none is_it =
-    let q : Value × Value = ((get_or ps i p).0, w) in let same = get_or-set_same ps i q q h in
-    last_found l (set ps i q) i q (subst (λ n. i < n) (sym (length-set ps i q)) h)
-    (ap (λ xs. last_with l (tree_pairs_of xs)) (drop-set-lt (suc i) ps i q (omega arith)) ∙ none)
-    (ap (λ x. is_label (tree_label (tree_of x.0)) l) same ∙ is_it) q ∙ ap (λ x. Some (tree_of x.1)) same
+pub replaced-found : (l : Label) (w v : Tree) (ps : TreePairs) → last_with l ps ≡ Some v →
+    last_with l (replaced_last l w ps) ≡ Some w
+replaced-found l w v no_tree_pairs found = cc
+replaced-found l w v (tree_pair k x ps) found = elim (last_with l ps) as (λ o. last_with l ps ≡ o →
+    option_or o (if is_label (tree_label k) l then Some x else None) ≡ Some v →
+    last_with l (if is_none o && is_label (tree_label k) l then tree_pair k w ps
+    else tree_pair k x (replaced_last l w ps)) ≡ Some w) [
+      | Some y ↦ λ e h. ap (λ o. option_or o (if is_label (tree_label k) l then Some x else None))
+          (replaced-found l w y ps e)
+      | None ↦ λ e. elim (is_label (tree_label k) l) as (λ b. is_label (tree_label k) l ≡ b →
+          (if b then Some x else None) ≡ Some v → last_with l (if b then tree_pair k w ps
+          else tree_pair k x (replaced_last l w ps)) ≡ Some w) [
+            | true ↦ λ is h. rw (e, is)
+            | false ↦ λ is h. cc
+          ] refl
+    ] refl found
 
 same_label : (k l : Label) → IsTrue (is_label k l) → k ≡ l
 same_label (named a) (named b) e = ap named ((bytes_eq-Decides a b).0 e)
@@ -46,24 +54,28 @@ same_label (numbered y) other e = absurd cc
 same_label other l e = absurd cc
 
 -- no key has two labels
-pub no_other : (m k l : Label) → m ≢ l → is_label k l ≡ true → is_label k m ≡ false
+no_other : (m k l : Label) → m ≢ l → is_label k l ≡ true → is_label k m ≡ false
 no_other m k l apart e = elim (is_label k m) as (λ b. is_label k m ≡ b → b ≡ false) [
   | false ↦ λ f. refl
   | true ↦ λ f. absurd (apart (sym (same_label k m f) ∙ same_label k l e))
 ] refl
 
 -- so what is found of another label stays
-pub last_with-set_other : (m : Label) (w : Value) (ps : List (Value × Value)) (i : ℕ) (p : Value × Value) →
-    is_label (tree_label (tree_of (get_or ps i p).0)) m ≡ false →
-    last_with m (tree_pairs_of (set ps i ((get_or ps i p).0, w))) ≡ last_with m (tree_pairs_of ps)
-last_with-set_other m w [] i p apart = refl
-last_with-set_other m w (q ∷ qs) zero p apart =
-    let found : Value → Bool → Option Tree =
-    λ v b. option_or (last_with m (tree_pairs_of qs)) (if b then Some (tree_of v) else None) in
-    ap (found w) apart ∙ sym (ap (found q.1) apart)
-last_with-set_other m w (q ∷ qs) (suc i) p apart =
-    ap (λ o. option_or o (if is_label (tree_label (tree_of q.0)) m then Some (tree_of q.1) else None))
-    (last_with-set_other m w qs i p apart)
+pub replaced-other : (m l : Label) (w : Tree) (ps : TreePairs) → m ≢ l →
+    last_with m (replaced_last l w ps) ≡ last_with m ps
+replaced-other m l w no_tree_pairs apart = refl
+replaced-other m l w (tree_pair k x ps) apart =
+    let same = replaced-other m l w ps apart in let later : Option Tree → Option Tree =
+    λ o. option_or o (if is_label (tree_label k) m then Some x else None) in elim (last_with l ps) as (λ o.
+    last_with m (if is_none o && is_label (tree_label k) l then tree_pair k w ps
+    else tree_pair k x (replaced_last l w ps)) ≡ later (last_with m ps)) [
+      | Some y ↦ ap later same
+      | None ↦ elim (is_label (tree_label k) l) as (λ b. is_label (tree_label k) l ≡ b → last_with m (if b
+          then tree_pair k w ps else tree_pair k x (replaced_last l w ps)) ≡ later (last_with m ps)) [
+            | true ↦ λ is. rw (no_other m (tree_label k) l apart is)
+            | false ↦ λ is. ap later same
+          ] refl
+    ]
 
 -- the same of items
 pub trees_of-set : (i : ℕ) (w : Value) (vs : List Value) →
