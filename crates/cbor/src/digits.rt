@@ -1,13 +1,14 @@
 //! From the hex digits of a line to its bytes, and from the encoding of a value to hex digits.
 
 ghost use Rattle.std.specs.Prelude.{◌≡◌, ◌<◌, ◌≤◌, ◌++◌, ◌*◌, IfErr, IsErr, MatchOption};
-ghost use Rattle.std.specs.Prelude.{Ok, OnOk, length};
+ghost use Rattle.std.specs.Prelude.{Ok, OnOk, decimal, length};
 ghost use Rattle.std.specs.Bool.{MatchBool};
 ghost use Rattle.hex.specs.Hex.{decode_of, decode_pairs, encode_lower, hex_digit_value};
 ghost use Rattle.cbor.specs.Answer.{IsHexRefused};
 
 use crate::answer::LineRefusal;
 use std::alloc::AllocError;
+use std::io::Write;
 
 // What stands for the value of a byte that is no hex digit.
 const NO_DIGIT: u8 = 16;
@@ -67,6 +68,21 @@ fn digit_value(digit: u8) -> u8
         value = digit - b'A' + 10;
     }
     value
+}
+
+/// Appends a word to a text, and behind it a number in decimal.
+///
+/// # Errors
+///
+/// `AllocError` where an allocation fails.
+pub fn push_number(word: &[u8], number: u128, text: &mut Vec<u8>) -> Result<(), AllocError>
+    ensures { OnOk result (text.new.items ≡ text.old.items ++ (word.now ++ decimal number)) }
+{
+    text.extend_from_slice(word)?;
+    if write!(text, "{number}").is_err() {
+        return Err(AllocError);
+    }
+    Ok(())
 }
 
 /// Appends bytes in lower-case hex to a text.

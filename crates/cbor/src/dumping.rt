@@ -1,8 +1,7 @@
 //! Annotated dumps: a line for each head of an item.
 
-ghost use Rattle.std.specs.Prelude.{◌≡◌, ◌++◌, [], IfNone, IfOk, IfSome, OnOk, Some, codes};
+ghost use Rattle.std.specs.Prelude.{◌≡◌, ◌++◌, [], IfNone, IfOk, IfSome, OnOk, codes};
 ghost use Rattle.std.specs.Prelude.{decimal};
-ghost use Rattle.std.specs.Fmt.{WritesOnOk};
 ghost use Rattle.std.specs.List.{repeat};
 ghost use Rattle.ciborium_value.specs.Notation.{quoted};
 ghost use Rattle.cbor.specs.Dumped.{AreLinesOf, IsDumpOf, entry_of};
@@ -10,14 +9,12 @@ ghost use Rattle.cbor.specs.Dumped.{head_words, length_words, line_of, simple_wo
 ghost use Rattle.cbor.specs.Dumped.{payload_words, place_text, reason_text};
 ghost use Rattle.cbor.specs.Line.{trailing_text};
 
-use crate::digits::push_digits;
+use crate::digits::{push_digits, push_number};
 use crate::reading::Layout;
 use crate::showing::push_notation;
 use ciborium_ll::{Header, ItemHead, ItemHeads, NoItem};
 use ciborium_value::Value;
 use std::alloc::{AllocError, Global};
-use std::fmt;
-use std::io::Write;
 
 /// Makes `text` the dump of these bytes, and says whether they are one item.
 ///
@@ -85,9 +82,8 @@ fn push_line(alloc: Global, head: &ItemHead, text: &mut Vec<u8>) -> Result<(), A
 fn push_place(offset: usize, depth: usize, text: &mut Vec<u8>) -> Result<(), AllocError>
     ensures { OnOk result (text.new.items ≡ text.old.items ++ place_text offset depth) }
 {
-    if write!(text, "{offset}: ").is_err() {
-        return Err(AllocError);
-    }
+    push_number(b"", offset as u128, text)?;
+    text.extend_from_slice(b": ")?;
     push_indent(depth, text)
 }
 
@@ -105,74 +101,47 @@ fn push_indent(depth: usize, text: &mut Vec<u8>) -> Result<(), AllocError>
 fn push_words(header: Header, text: &mut Vec<u8>) -> Result<(), AllocError>
     ensures { OnOk result (text.new.items ≡ text.old.items ++ head_words header) }
 {
-    let words = Words { header };
-    if write!(text, "{words}").is_err() {
-        return Err(AllocError);
-    }
-    Ok(())
-}
-
-// What a head says.
-#[derive(Clone, Copy)]
-struct Words {
-    header: Header,
-}
-
-impl fmt::Display for Words {
-    ghost output = { λ words. Some (head_words words.header) };
-
-    fn fmt<W: fmt::Write>(&self, f: &mut fmt::Formatter<W>) -> fmt::Result {
-        match self.header {
-            Header::Positive(n) => write_number("unsigned ", n, f),
-            Header::Negative(n) => write!(f, "negative -{}", u128::from(n) + 1),
-            Header::Bytes(len) => write_length("bytes", len, f),
-            Header::Text(len) => write_length("text", len, f),
-            Header::Array(len) => write_length("array", len, f),
-            Header::Map(len) => write_length("map", len, f),
-            Header::Tag(n) => write_number("tag ", n, f),
-            Header::Simple(n) => match simple_word(n) {
-                Some(word) => f.write_str(word),
-                None => write_number("simple ", u64::from(n), f),
-            },
-            Header::Float(n) => write!(f, "float of {n} bytes"),
-            Header::Break => f.write_str("break"),
+    match header {
+        Header::Positive(n) => push_number(b"unsigned ", u128::from(n), text),
+        Header::Negative(n) => push_number(b"negative -", u128::from(n) + 1, text),
+        Header::Bytes(len) => push_length(b"bytes", len, text),
+        Header::Text(len) => push_length(b"text", len, text),
+        Header::Array(len) => push_length(b"array", len, text),
+        Header::Map(len) => push_length(b"map", len, text),
+        Header::Tag(n) => push_number(b"tag ", u128::from(n), text),
+        Header::Simple(n) => match simple_word(n) {
+            Some(word) => text.extend_from_slice(word),
+            None => push_number(b"simple ", u128::from(n), text),
+        },
+        Header::Float(n) => {
+            push_number(b"float of ", n as u128, text)?;
+            text.extend_from_slice(b" bytes")
         }
+        Header::Break => text.extend_from_slice(b"break"),
     }
 }
 
-// A word, and a number behind it.
-fn write_number<W: fmt::Write>(word: &str, n: u64, f: &mut fmt::Formatter<W>) -> fmt::Result
-    ensures { WritesOnOk W.write_str_gives f.old result (word.now ++ decimal n) f.new }
+// Appends what a string, an array or a map is, and how long it is said to be.
+fn push_length(word: &[u8], len: Option<usize>, text: &mut Vec<u8>) -> Result<(), AllocError>
+    ensures { OnOk result (text.new.items ≡ text.old.items ++ (word.now ++ length_words len)) }
 {
-    f.write_str(word)?;
-    write!(f, "{n}")
-}
-
-// What a string, an array or a map is, and how long it is said to be.
-fn write_length<W: fmt::Write>(
-    word: &str,
-    len: Option<usize>,
-    f: &mut fmt::Formatter<W>,
-) -> fmt::Result
-    ensures { WritesOnOk W.write_str_gives f.old result (word.now ++ length_words len) f.new }
-{
-    f.write_str(word)?;
+    text.extend_from_slice(word)?;
     match len {
-        Some(n) => write!(f, " of {n}"),
-        None => f.write_str(" of indefinite length"),
+        Some(n) => push_number(b" of ", n as u128, text),
+        None => text.extend_from_slice(b" of indefinite length"),
     }
 }
 
 // The name of a simple value, where it has one.
-fn simple_word(n: u8) -> Option<&'static str>
+fn simple_word(n: u8) -> Option<&'static [u8]>
     ensures named { IfSome result (λ word. word.now ≡ simple_words n) }
     ensures numbered { IfNone result (simple_words n ≡ codes "simple " ++ decimal n) }
 {
     match n {
-        20 => Some("false"),
-        21 => Some("true"),
-        22 => Some("null"),
-        23 => Some("undefined"),
+        20 => Some(b"false"),
+        21 => Some(b"true"),
+        22 => Some(b"null"),
+        23 => Some(b"undefined"),
         _ => None,
     }
 }
@@ -221,10 +190,7 @@ pub fn push_quoted(alloc: Global, payload: &[u8], text: &mut Vec<u8>) -> Result<
 pub fn push_trailing(count: usize, text: &mut Vec<u8>) -> Result<(), AllocError>
     ensures { OnOk result (text.new.items ≡ text.old.items ++ trailing_text count) }
 {
-    if write!(text, "trailing {count}").is_err() {
-        return Err(AllocError);
-    }
-    Ok(())
+    push_number(b"trailing ", count as u128, text)
 }
 
 /// Appends why no item stands at the front (RFC 8949, section 5.3.1).
@@ -235,15 +201,11 @@ pub fn push_trailing(count: usize, text: &mut Vec<u8>) -> Result<(), AllocError>
 pub fn push_reason(reason: NoItem, text: &mut Vec<u8>) -> Result<(), AllocError>
     ensures { OnOk result (text.new.items ≡ text.old.items ++ reason_text reason) }
 {
-    let written = match reason {
-        NoItem::Incomplete => write!(text, "incomplete"),
-        NoItem::Malformed(offset) => write!(text, "malformed at {offset}"),
-        NoItem::TooDeep(offset) => write!(text, "too deep at {offset}"),
-    };
-    if written.is_err() {
-        return Err(AllocError);
+    match reason {
+        NoItem::Incomplete => text.extend_from_slice(b"incomplete"),
+        NoItem::Malformed(offset) => push_number(b"malformed at ", offset as u128, text),
+        NoItem::TooDeep(offset) => push_number(b"too deep at ", offset as u128, text),
     }
-    Ok(())
 }
 
 #[cfg(test)]

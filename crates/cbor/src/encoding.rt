@@ -9,6 +9,7 @@ ghost use Rattle.cbor.specs.EncodedLines.{AreEncoded};
 ghost use Rattle.cbor.specs.Lines.{text_line};
 ghost use Rattle.cbor.specs.SortedLines.{refused_line_text};
 
+use crate::digits::push_number;
 use crate::fault::Fault;
 use crate::lines::{next_line, put_text, send_waiting};
 use crate::notation::read_notation;
@@ -102,9 +103,8 @@ fn write_refused_line(number: u64, reason: &[u8], message: &mut Vec<u8>) -> Resu
         (message.new.items ≡ text_line (refused_line_text number reason.now)) }
 {
     message.clear();
-    if write!(message, "line {number}: ").is_err() {
-        return Err(AllocError);
-    }
+    push_number(b"line ", u128::from(number), message)?;
+    message.extend_from_slice(b": ")?;
     message.extend_from_slice(reason)?;
     message.extend_from_slice(b"\n")
 }

@@ -16,11 +16,10 @@ ghost use Rattle.cbor.specs.Exact.{IsBegun, IsStringExactly, chunk_level, empty_
 ghost use Rattle.cbor.specs.Exact.{lead, mark, part_count, parts_header, simple_text, spaced};
 ghost use Rattle.cbor.specs.declared.exact.Unshown.TheVariants.{Memory};
 
-use crate::digits::push_digits;
+use crate::digits::{push_digits, push_number};
 use crate::dumping::{push_quoted, push_reason, push_trailing};
 use ciborium_ll::{Header, ItemHead, ItemHeads, NoItem, StringType};
 use std::alloc::{AllocError, Global};
-use std::io::Write;
 
 /// Why an item is not shown.
 #[derive(Clone, Copy)]
@@ -163,7 +162,7 @@ fn push_leaf(alloc: Global, head: &ItemHead, text: &mut Vec<u8>) -> Result<(), A
         × (text.new.items ≡ text.old.items ++ t)) }
 {
     match head.header {
-        Header::Positive(n) => push_number(n, head.bytes.len(), text),
+        Header::Positive(n) => push_unsigned(n, head.bytes.len(), text),
         Header::Negative(n) => push_negative(n, head.bytes.len(), text),
         Header::Bytes(_) => push_string(alloc, StringType::Bytes, head, text),
         Header::Text(_) => push_string(alloc, StringType::Text, head, text),
@@ -192,7 +191,7 @@ fn push_tag(
         IsBegun (Tag tag) heads.old around → levels_of heads.new ≡ incomplete around) }
     ensures unshown { IfErr result (λ unshown. Explains heads.old.bytes.now unshown) }
 {
-    push_number(tag, head.bytes.len(), text)?;
+    push_unsigned(tag, head.bytes.len(), text)?;
     text.extend_from_slice(b"(")?;
     push_next(alloc, heads, text)?;
     text.extend_from_slice(b")")?;
@@ -325,13 +324,11 @@ fn push_bytes(prefix: &[u8], bytes: &[u8], text: &mut Vec<u8>) -> Result<(), All
 }
 
 // Appends a number and the mark of its head, which has so many bytes.
-fn push_number(number: u64, size: usize, text: &mut Vec<u8>) -> Result<(), AllocError>
+fn push_unsigned(number: u64, size: usize, text: &mut Vec<u8>) -> Result<(), AllocError>
     ensures { OnOk result
         (text.new.items ≡ text.old.items ++ (decimal number ++ mark size number)) }
 {
-    if write!(text, "{number}").is_err() {
-        return Err(AllocError);
-    }
+    push_number(b"", u128::from(number), text)?;
     text.extend_from_slice(mark(size, number))
 }
 
@@ -340,9 +337,7 @@ fn push_negative(n: u64, size: usize, text: &mut Vec<u8>) -> Result<(), AllocErr
     ensures { OnOk result
         (text.new.items ≡ text.old.items ++ (codes "-" ++ (decimal (n + 1) ++ mark size n))) }
 {
-    if write!(text, "-{}", u128::from(n) + 1).is_err() {
-        return Err(AllocError);
-    }
+    push_number(b"-", u128::from(n) + 1, text)?;
     text.extend_from_slice(mark(size, n))
 }
 
@@ -369,17 +364,16 @@ fn push_opening(
 fn push_simple(n: u8, text: &mut Vec<u8>) -> Result<(), AllocError>
     ensures { OnOk result (text.new.items ≡ text.old.items ++ simple_text n) }
 {
-    let written = match n {
-        20 => write!(text, "false"),
-        21 => write!(text, "true"),
-        22 => write!(text, "null"),
-        23 => write!(text, "undefined"),
-        _ => write!(text, "simple({n})"),
-    };
-    if written.is_err() {
-        return Err(AllocError);
+    match n {
+        20 => text.extend_from_slice(b"false"),
+        21 => text.extend_from_slice(b"true"),
+        22 => text.extend_from_slice(b"null"),
+        23 => text.extend_from_slice(b"undefined"),
+        _ => {
+            push_number(b"simple(", u128::from(n), text)?;
+            text.extend_from_slice(b")")
+        }
     }
-    Ok(())
 }
 
 // Appends a float by the bytes behind its initial one.

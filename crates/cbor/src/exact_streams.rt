@@ -10,6 +10,7 @@ ghost use Rattle.cbor.specs.ExactStreams.{reason_behind};
 ghost use Rattle.cbor.specs.Sequence.{refused_item_text};
 ghost use Rattle.cbor.specs.Streams.{HoldsItem, refused_line};
 
+use crate::digits::push_number;
 use crate::dumping::push_reason;
 use crate::exact::push_exact;
 use crate::fault::Fault;
@@ -197,9 +198,8 @@ fn write_reason(number: u64, reason: NoItem, text: &mut Vec<u8>) -> Result<(), A
     ensures { OnOk result (text.new.items ≡ refused_item_text number (reason_text reason)) }
 {
     text.clear();
-    if write!(text, "item {number}: ").is_err() {
-        return Err(AllocError);
-    }
+    push_number(b"item ", u128::from(number), text)?;
+    text.extend_from_slice(b": ")?;
     push_reason(reason, text)
 }
 

@@ -6,6 +6,7 @@ ghost use Rattle.ciborium_value.specs.RefusalMessages.{notation_error_message};
 ghost use Rattle.ciborium_value.specs.View.{tree_of};
 ghost use Rattle.cbor.specs.Encoded.{TellsNoTree, not_utf8_text};
 
+use crate::digits::push_number;
 use ciborium_value::{NotationError, Value};
 use std::alloc::{AllocError, Global};
 use std::io::Write;
@@ -51,10 +52,7 @@ fn write_not_utf8(count: usize, text: &mut Vec<u8>) -> Result<(), AllocError>
     ensures { OnOk result (text.new.items ≡ not_utf8_text count) }
 {
     text.clear();
-    if write!(text, "not UTF-8 at byte {count}").is_err() {
-        return Err(AllocError);
-    }
-    Ok(())
+    push_number(b"not UTF-8 at byte ", count as u128, text)
 }
 
 // Makes `text` the message of an error.

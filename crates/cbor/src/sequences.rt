@@ -9,6 +9,7 @@ ghost use Rattle.cbor.specs.Forms.{formless_text};
 ghost use Rattle.cbor.specs.Sequence.{AreNoSequence, AreSequence, item_text, refused_item_text};
 
 use crate::answer::{LineRefusal, name_want};
+use crate::digits::push_number;
 use crate::items::{push_encoding, read_front};
 use crate::reading::Spelling;
 use ciborium::de::RECURSION_LIMIT;
@@ -93,8 +94,7 @@ pub fn write_formless_item(number: u64, kind: Kind, text: &mut Vec<u8>) -> Resul
     ensures { OnOk result (text.new.items ≡ refused_item_text number (formless_text kind)) }
 {
     text.clear();
-    if write!(text, "item {number}: ").is_err() {
-        return Err(AllocError);
-    }
+    push_number(b"item ", u128::from(number), text)?;
+    text.extend_from_slice(b": ")?;
     text.extend_from_slice(name_want(kind))
 }

@@ -37,7 +37,7 @@ push_tag-returns-clause-shown t c =
     bracketed IsExactly c.args.head.now c.args.heads.now c.push_next.new.heads
     ((decimal c.args.tag ++ mark (length h) c.args.tag) ++ codes "(") (codes ")") _ _ _ _ c.requires.payload
     (λ b u is. as-tag h c.args.tag b u c.requires.spelled is)
-    (behind-both c.args.text.now.items _ _ _ (codes "(") c.in_ok-push_number.ensures
+    (behind-both c.args.text.now.items _ _ _ (codes "(") c.in_ok-push_unsigned.ensures
     c.in_ok-extend_from_slice.ensures.items) c.in_ok-push_next.ensures.shown c.in_ok-extend_from_slice-2.ensures.items
 
 pub push_tag-returns-clause-left : goal.push_tag-returns-clause-left

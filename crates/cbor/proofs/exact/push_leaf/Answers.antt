@@ -4,10 +4,10 @@ use Rattle.cbor.{proofs.ExactNotation.{alone, as-float}, specs.Exact.IsExactly}
 use Rattle.cbor.proofs.exact.push_leaf.Goals as goal
 
 pub returns-in-Positive : goal.returns-in-Positive
-returns-in-Positive c = on_ok_weaker c.push_number.result
+returns-in-Positive c = on_ok_weaker c.push_unsigned.result
     (alone c.args.head.now _ _ _ (rw c.in-Positive.is at c.requires.payload)
     (IsExactly.unsigned c.args.head.now.bytes.now c.in-Positive.n (rw c.in-Positive.is at c.requires.spelled)))
-    c.push_number.ensures
+    c.push_unsigned.ensures
 
 pub returns-in-Negative : goal.returns-in-Negative
 returns-in-Negative c = on_ok_weaker c.push_negative.result
