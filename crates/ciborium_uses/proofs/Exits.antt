@@ -11,12 +11,6 @@ pub answered_by : {T E : Type 0} {P Q : T → Type 0} (r : Result T E) → IfOk 
 answered_by (Ok v) h f = f v h
 answered_by (Err e) h f = tt
 
--- where it is returned, by two clauses
-pub answered_by_both : {T E : Type 0} {P Q R : T → Type 0} (r : Result T E) → IfOk r P → IfOk r Q →
-    ((v : T) → P v → Q v → R v) → IfOk r R
-answered_by_both (Ok v) h k f = f v h k
-answered_by_both (Err e) h k f = tt
-
 pub refused_by : {T E : Type 0} {P Q : E → Type 0} (r : Result T E) → IfErr r P → ((e : E) → P e → Q e) → IfErr r Q
 refused_by (Ok v) h f = tt
 refused_by (Err e) h f = f e h

@@ -170,12 +170,6 @@ abbrev pub EntersItemsUnread : {S W A : Type 0} → (S → Option (List ℕ)) �
 EntersItemsUnread remaining old new taken f q = EntersUnread (IsUnread remaining)
     (λ p. SeqOwes p sequence) Spells (λ p. HoldsItems p.left) old new (Some old.levels) (Some new.levels) taken f q
 
--- a map was entered
-abbrev pub EntersPairsUnread : {S W A : Type 0} → (S → Option (List ℕ)) → ByteSource S W →
-    ByteSource S W → Given A → (Span → List (Item × Item) → Steps A) → ByteSeq → Type 0
-EntersPairsUnread remaining old new taken f q = EntersUnread (IsUnread remaining) (λ p. SeqOwes p dictionary) SpellsPair
-    (λ p. HoldsPairs p.left) old new (Some old.levels) (Some new.levels) taken f q
-
 -- what is left of a sequence was read: f takes this from its items, and the source stands past it
 abbrev pub ReadsRest : {S W A : Type 0} → (S → Option (List ℕ)) → ByteSource S W → ByteSource S W →
     ByteSeq → (List Item → Steps A) → A → Type 0
