@@ -14,7 +14,7 @@ ghost use Rattle.ciborium_value.specs.declared.error.Error.TheVariants.{Custom, 
 
 use crate::error::Error;
 use crate::tree::Value;
-use ciborium_ll::tag::{BIGNEG, BIGPOS};
+use ciborium_ll::tag::{BIGNEG, is_bignum};
 use ciborium_ll::{Integer, Kind};
 use std::alloc::{AllocError, Global};
 
@@ -28,7 +28,7 @@ pub(crate) fn find_folding(tag: u64, content: &Value) -> Option<&[u8]>
 {
     match content {
         Value::Bytes(bytes) => {
-            if bytes.len() <= GREATEST_FOLDED_SIZE && (tag == BIGPOS || tag == BIGNEG) {
+            if bytes.len() <= GREATEST_FOLDED_SIZE && is_bignum(tag) {
                 Some(bytes)
             } else {
                 None

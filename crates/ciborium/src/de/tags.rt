@@ -12,7 +12,7 @@ ghost use Rattle.ciborium.specs.inner.ValuesInBytes.{IsAt, heads_left};
 use crate::de::error::{BareReadError, Error};
 use crate::de::front::{Part, pull};
 use crate::de::spelling::Rules;
-use ciborium_ll::tag::{BIGNEG, BIGPOS};
+use ciborium_ll::tag::is_bignum;
 use ciborium_ll::{Access, Decoder, Header};
 use ciborium_value::bignum::{self, GREATEST_FOLDED_SIZE};
 use ciborium_value::stack::NewFrame;
@@ -26,7 +26,7 @@ pub(crate) fn find_folding(tag: u64, header: Header) -> Option<usize>
 {
     match header {
         Header::Bytes(Some(n)) => {
-            if n <= GREATEST_FOLDED_SIZE && (tag == BIGPOS || tag == BIGNEG) {
+            if n <= GREATEST_FOLDED_SIZE && is_bignum(tag) {
                 Some(n)
             } else {
                 None

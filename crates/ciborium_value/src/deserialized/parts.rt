@@ -21,7 +21,7 @@ use crate::error::Error;
 use crate::labels::{LabelType, Labels};
 use crate::tree::Value;
 use ciborium_ll::Kind;
-use ciborium_ll::tag::{BIGNEG, BIGPOS};
+use ciborium_ll::tag::{BIGNEG, is_bignum};
 use std::alloc::Global;
 
 // A value without its leading tags.
@@ -67,7 +67,7 @@ pub(super) fn find_number(value: &Value) -> Result<(bool, u128), Error>
                 return Ok((negative, u128::from(argument)));
             }
             Value::Tag(tag, content) => {
-                if *tag == BIGPOS || *tag == BIGNEG {
+                if is_bignum(*tag) {
                     let number = find_bignum(content)?;
                     return Ok((*tag == BIGNEG, number));
                 }
@@ -86,7 +86,7 @@ fn find_label_type(value: &Value) -> LabelType
         Value::Integer(_) => LabelType::Number,
         Value::Bytes(_) | Value::Text(_) => LabelType::Name,
         Value::Tag(tag, _) => {
-            if *tag == BIGPOS || *tag == BIGNEG {
+            if is_bignum(*tag) {
                 LabelType::Number
             } else {
                 LabelType::Name

@@ -10,7 +10,7 @@ ghost use Rattle.ciborium.specs.inner.Skips.{IsEndTag, TakesBare};
 
 use crate::de::byte_source::ByteSource;
 use crate::de::error::{BareReadError, Error};
-use ciborium_ll::tag::{BIGNEG, BIGPOS};
+use ciborium_ll::tag::is_bignum;
 use ciborium_ll::{Access, Header};
 use ciborium_value::Kind;
 
@@ -19,7 +19,7 @@ use ciborium_value::Kind;
 fn is_end_tag(numbers: bool, tag: u64) -> bool
     ensures { IsEndTag numbers tag result }
 {
-    numbers && (tag == BIGPOS || tag == BIGNEG)
+    numbers && is_bignum(tag)
 }
 
 impl<'a, R, A: Access<R>> ByteSource<'a, R, A> {

@@ -12,7 +12,7 @@ ghost use Rattle.ciborium.specs.inner.StringContents.{DeniesContent, TakesPlace}
 
 use crate::de::byte_source::ByteSource;
 use crate::de::error::{BareReadError, Error};
-use ciborium_ll::tag::{BIGNEG, BIGPOS};
+use ciborium_ll::tag::is_bignum;
 use ciborium_ll::{Access, Header, Visitor};
 use ciborium_value::{Kind, LabelType, Labels};
 use std::alloc::Global;
@@ -46,7 +46,7 @@ pub(crate) fn label_type(header: Header) -> LabelType
         Header::Positive(_) | Header::Negative(_) => LabelType::Number,
         Header::Bytes(_) | Header::Text(_) => LabelType::Name,
         Header::Tag(tag) => {
-            if tag == BIGPOS || tag == BIGNEG {
+            if is_bignum(tag) {
                 LabelType::Number
             } else {
                 LabelType::Name
