@@ -2,9 +2,9 @@
 use Rattle.std.{proofs.Common.{ap, ◌∙◌}, specs.Prelude.{◌≡◌, ℕ, ◌^◌, ℤ, pos, negsuc, Bool, true, false, List, Option}}
 use Rattle.std.specs.Prelude.{Some, None, Result, Ok, Err, IfOk, if◌then◌else◌, nat_lt, refl}
 use Rattle.ciborium_ll.specs.{Item.Item, declared.kind.Kind.Kind}
-use Rattle.ciborium_value.specs.{Encoding.{boolean_item, item_of}, Folded.short_bytes, Given.is_null, Places.Shape}
-use Rattle.ciborium_value.specs.{Places.{sequence, dictionary}, ReadsBack.{IsDefinite, named, of_ok}, Sinks.Named}
-use Rattle.ciborium_value.specs.Sinks.{all_named, bignum_item, contained, container_of, number_item, or_null}
+use Rattle.ciborium_value.specs.{Encoding.{boolean_item, item_of}, Folded.short_bytes, Given.is_null}
+use Rattle.ciborium_value.specs.{Places.{ContainerType, of_array, of_map}, ReadsBack.{IsDefinite, named, of_ok}}
+use Rattle.ciborium_value.specs.Sinks.{Named, all_named, bignum_item, contained, container_of, number_item, or_null}
 use Rattle.ciborium_value.specs.{WrittenTrees.written_tree, lemmas.ReadsBackNumbers.definite-number}
 use Rattle.ciborium_ll.specs.Item as items
 
@@ -57,14 +57,14 @@ never-number a z = never-item a (number_item z) (definite-number z)
     (number-holds IsNotNull (λ n. refl) (λ n. refl) (λ t n. refl) z)
     (number-holds IsNoBytes (λ n. refl) (λ n. refl) (λ t n. refl) z)
 
-contained-other : (a : Avoided) (s : Shape) (r : Result (List Item) Kind) → IfOk (contained s false r) (IsOther a)
-contained-other nulls sequence (Ok is) = (refl, refl)
-contained-other nulls dictionary (Ok is) = (refl, refl)
-contained-other byte_strings sequence (Ok is) = refl
-contained-other byte_strings dictionary (Ok is) = refl
+contained-other : (a : Avoided) (s : _) (r : Result (List Item) Kind) → IfOk (contained s false r) (IsOther a)
+contained-other nulls of_array (Ok is) = (refl, refl)
+contained-other nulls of_map (Ok is) = (refl, refl)
+contained-other byte_strings of_array (Ok is) = refl
+contained-other byte_strings of_map (Ok is) = refl
 contained-other a s (Err k) = tt
 
-pub never-container : (a : Avoided) (s : Shape) (parts : List Named) → IsNever a (container_of s parts)
+pub never-container : (a : Avoided) (s : ContainerType) (parts : List Named) → IsNever a (container_of s parts)
 never-container a s parts = of_ok (container_of s parts) (IsOther a) (contained-other a s (all_named parts))
 
 -- ---- items that are one of them

@@ -9,14 +9,14 @@ use Rattle.ciborium_ll.specs.Item as item
 -- ---- containers
 
 -- an array, or a map whose keys and values come in turn
-pub data Shape : Type 0 where
-  sequence : Shape
-  dictionary : Shape
+pub data ContainerType : Type 0 where
+  of_array : ContainerType
+  of_map : ContainerType
 
 -- how many items stand in a container that announces n
-abbrev pub size_of : Shape → ℕ → ℕ
-size_of sequence n = n
-size_of dictionary n = n + n
+abbrev pub size_of : ContainerType → ℕ → ℕ
+size_of of_array n = n
+size_of of_map n = n + n
 
 abbrev pub items_from : List Item → Items
 items_from [] = item.no_items
@@ -29,17 +29,17 @@ pairs_from (k ∷ []) = item.no_pairs
 pairs_from (k ∷ v ∷ is) = item.pair k v (pairs_from is)
 
 -- the container of these items, open or definite
-abbrev pub container : Shape → Bool → List Item → Item
-container sequence open_ is = item.array open_ (items_from is)
-container dictionary open_ is = item.map open_ (pairs_from is)
+abbrev pub container : ContainerType → Bool → List Item → Item
+container of_array open_ is = item.array open_ (items_from is)
+container of_map open_ is = item.map open_ (pairs_from is)
 
-abbrev pub shape_major : Shape → ℕ
-shape_major sequence = 4
-shape_major dictionary = 5
+abbrev pub container_major : ContainerType → ℕ
+container_major of_array = 4
+container_major of_map = 5
 
 -- what begins a container, open where nothing is announced
-abbrev pub begin_bytes : Shape → Option ℕ → List ℕ
-begin_bytes s n = counted_bytes (shape_major s) n
+abbrev pub begin_bytes : ContainerType → Option ℕ → List ℕ
+begin_bytes s n = counted_bytes (container_major s) n
 
 -- what ends it
 abbrev pub end_bytes : Option ℕ → List ℕ
@@ -58,7 +58,7 @@ is_open (Some n) = false
 -- item
 pub data Place : Type 0 where
   top : Option GName → List ℕ → List Item → Place
-  within : Shape → Option ℕ → List Item → Place → Place
+  within : ContainerType → Option ℕ → List Item → Place → Place
   tagged : ℕ → Place → Place
 
 -- one more item may come
@@ -81,12 +81,12 @@ ended (within s n done around) = added around (container s (is_open n) done)
 ended (tagged t p) = tagged t p
 
 -- so many items make whole pairs
-abbrev pub IsWhole : Shape → ℕ → Type 0
-IsWhole sequence k = Unit {0}
-IsWhole dictionary k = (m : ℕ) × (k ≡ m + m)
+abbrev pub IsWhole : ContainerType → ℕ → Type 0
+IsWhole of_array k = Unit {0}
+IsWhole of_map k = (m : ℕ) × (k ≡ m + m)
 
 -- all that was announced is done
-abbrev pub IsFull : Shape → Option ℕ → List Item → Type 0
+abbrev pub IsFull : ContainerType → Option ℕ → List Item → Type 0
 IsFull s None done = IsWhole s (length done)
 IsFull s (Some n) done = length done ≡ size_of s n
 

@@ -2,7 +2,7 @@
 use Rattle.std.specs.Prelude.{Bool, true, ◌≡◌, ℕ, ℤ, pos, negsuc, ◌^◌, List, [], ◌∷◌, if◌then◌else◌, nat_lt, Option}
 use Rattle.std.specs.Prelude.{Some, None, Result, Ok, Err, false}
 use Rattle.ciborium_ll.specs.{Item.Item, declared.kind.Kind.Kind}
-use Rattle.ciborium_value.specs.{Encoding.item_of, Number.shortest_bytes, Places.{Shape, Place, within, tagged}}
+use Rattle.ciborium_value.specs.{Encoding.item_of, Number.shortest_bytes, Places.{ContainerType, Place, within, tagged}}
 use Rattle.ciborium_value.specs.{Places.{HasRoom, added, ended, IsComplete, IsCutBetween, Out, container}, View.tree_of}
 use Rattle.ciborium_value.specs.declared.tree.Value.{Value}
 use Rattle.ciborium_ll.specs.Item as item
@@ -33,16 +33,16 @@ abbrev pub all_named : List Named → Result (List Item) Kind
 all_named [] = Ok []
 all_named (x ∷ xs) = and_then x (all_named xs)
 
-abbrev pub contained : Shape → Bool → Result (List Item) Kind → Named
+abbrev pub contained : ContainerType → Bool → Result (List Item) Kind → Named
 contained s open_ (Ok is) = Ok (container s open_ is)
 contained s open_ (Err k) = Err k
 
 -- the definite container of what its parts name, or the first refusal among them
-abbrev pub container_of : Shape → List Named → Named
+abbrev pub container_of : ContainerType → List Named → Named
 container_of s parts = contained s false (all_named parts)
 
 -- the same container, open
-abbrev pub open_container_of : Shape → List Named → Named
+abbrev pub open_container_of : ContainerType → List Named → Named
 open_container_of s parts = contained s true (all_named parts)
 
 -- what the entries of a map name, keys and values in turn
@@ -105,7 +105,7 @@ abbrev pub Adds : {S : Type 0} → (S → Place → Type 0) → S → S → Item
 Adds StandsAt old new i = (p : Place) → StandsAt old p → HasRoom p → StandsAt new (added p i)
 
 -- a container was begun
-abbrev pub Begins : {S : Type 0} → (S → Place → Type 0) → Shape → S → S → Option ℕ → Type 0
+abbrev pub Begins : {S : Type 0} → (S → Place → Type 0) → ContainerType → S → S → Option ℕ → Type 0
 Begins StandsAt s old new n = (p : Place) → StandsAt old p → HasRoom p → StandsAt new (within s n [] p)
 
 -- a tag waits for the next item
@@ -125,7 +125,7 @@ Ends StandsAt old new n = (p : Place) → StandsAt old p → IsComplete p n → 
 abbrev pub Breaks : {S : Type 0} → (S → Place → Type 0) → (S → Out) → S → S → Item → Type 0
 Breaks StandsAt out old new i = (p : Place) → StandsAt old p → HasRoom p → IsCutBetween (out new) p (added p i)
 
-abbrev pub BreaksBegin : {S : Type 0} → (S → Place → Type 0) → (S → Out) → Shape → S → S → Option ℕ → Type 0
+abbrev pub BreaksBegin : {S : Type 0} → (S → Place → Type 0) → (S → Out) → ContainerType → S → S → Option ℕ → Type 0
 BreaksBegin StandsAt out s old new n = (p : Place) → StandsAt old p → HasRoom p →
     IsCutBetween (out new) p (within s n [] p)
 

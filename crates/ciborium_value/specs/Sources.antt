@@ -2,7 +2,7 @@
 use Rattle.std.specs.Prelude.{◌≡◌, ℕ, ◌<◌, ◌≤◌, Bool, List, [], ◌∷◌, ◌++◌, IsTrue, Result, IfErr, IfOk, OnErr, OnOk}
 use Rattle.ciborium_ll.specs.{Bytes.greatest_offset, Item.Item, Spells.Spells, declared.kind.Kind.Kind}
 use Rattle.ciborium_value.specs.Ahead.{Ahead, Rest, Span, item, after, parts, pairs, entry, level_due, past, inside}
-use Rattle.ciborium_value.specs.{Ahead.{takes_level, end_of}, Nesting.Limit, Places.{Shape, sequence, dictionary}}
+use Rattle.ciborium_value.specs.{Ahead.{takes_level, end_of}, Nesting.Limit, Places.{ContainerType, of_array, of_map}}
 use Rattle.ciborium_value.specs.Given.{Outcome, gives, refuses, nests, Given, given_seq, given_pairs, deeper, outcome}
 
 -- ---- why a source refused
@@ -137,9 +137,9 @@ HasItem b z = (i : Item) × (s : List ℕ) × Spells s i × (b ≡ s ++ z)
 
 -- the next part of a container is at the front of b, and z follows it: an item, or in a map a key
 -- and its value
-abbrev pub HasPart : Shape → List ℕ → List ℕ → Type 0
-HasPart sequence b z = HasItem b z
-HasPart dictionary b z = (c : List ℕ) × HasItem b c × HasItem c z
+abbrev pub HasPart : ContainerType → List ℕ → List ℕ → Type 0
+HasPart of_array b z = HasItem b z
+HasPart of_map b z = (c : List ℕ) × HasItem b c × HasItem c z
 
 -- of the bytes that were unread these are left, and P says how
 abbrev pub TakesTo : {S : Type 0} → (S → List ℕ → Type 0) → S → S → (List ℕ → List ℕ → Type 0) → Type 0
@@ -174,11 +174,11 @@ pub record TakesOneItem {S A V E : Type 0} (StandsBefore : S → Limit → Ahead
 abbrev pub Completes : List ℕ → List ℕ → Type 0
 Completes b u = (z : List ℕ) → HasItem u z → HasItem b z
 
-module _ {Q : Type 0} (Owes : Q → Shape → List ℕ → List ℕ → Type 0) where
+module _ {Q : Type 0} (Owes : Q → ContainerType → List ℕ → List ℕ → Type 0) where
   -- a further part is ahead, and less is owed behind it
   abbrev pub OwesLess : Q → Q → List ℕ → List ℕ → Type 0
-  OwesLess q q' c u = (s : Shape) (b z : List ℕ) → Owes q s b c → HasPart s u z → Owes q' s b z
+  OwesLess q q' c u = (s : ContainerType) (b z : List ℕ) → Owes q s b c → HasPart s u z → Owes q' s b z
 
   -- nothing more is owed: the container stood there, and was taken
   abbrev pub OwesNothing : Q → List ℕ → List ℕ → Type 0
-  OwesNothing q c z = (s : Shape) (b : List ℕ) → Owes q s b c → HasItem b z
+  OwesNothing q c z = (s : ContainerType) (b : List ℕ) → Owes q s b c → HasItem b z

@@ -125,7 +125,7 @@ impl<'a> Source for TreeSource<'a> {
 
     ghost is_unread = { λ source b. ⊥ };
 
-    ghost owes = { λ seq shape b c. ⊥ };
+    ghost owes = { λ seq type b c. ⊥ };
 
     ghost has_taken = { λ first now. Unit {0} };
 

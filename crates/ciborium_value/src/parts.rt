@@ -1,7 +1,7 @@
 //! Parts in a row, written as one definite container.
 
 ghost use Rattle.std.specs.Prelude.{◌≡◌, ℕ, ◌⊎◌, IfErr, List, OnErr, OnOk, length};
-ghost use Rattle.ciborium_value.specs.Places.{Shape, dictionary, sequence, size_of};
+ghost use Rattle.ciborium_value.specs.Places.{ContainerType, of_map, of_array, size_of};
 ghost use Rattle.ciborium_value.specs.Progress.{BreaksAll, CanTake, IsOwedAmong, TakesAll, counted};
 ghost use Rattle.ciborium_value.specs.Progress.{counted_of};
 ghost use Rattle.ciborium_value.specs.Sinks.{AddsNamed, Begins, BreaksBegin, BreaksNamed};
@@ -13,16 +13,16 @@ use ciborium_ll::Kind;
 /// What parts stand in: `OfArray` or `OfMap`.
 pub trait Container {
     // An array, or a map whose keys and values come in turn.
-    ghost shape: { Shape };
+    ghost container_type: { ContainerType };
 
     /// Begins a container of so many items or pairs.
     fn begin<S: Sink>(sink: &mut S, count: Option<usize>) -> Result<(), S::Error>
         requires { IsReady S.stands_at sink.old }
-        ensures ok { OnOk result (Begins S.stands_at shape sink.old sink.new count) }
+        ensures ok { OnOk result (Begins S.stands_at container_type sink.old sink.new count) }
         ensures cause { IfErr result (λ e. IsOutside (S.cause e)) }
         ensures memory { IfErr result (λ e. IsGranted (S.cause e) S.takes_memory) }
         ensures err { OnErr result
-            (BreaksBegin S.stands_at S.out shape sink.old sink.new count) };
+            (BreaksBegin S.stands_at S.out container_type sink.old sink.new count) };
 }
 
 /// The parts are the items of an array.
@@ -32,7 +32,7 @@ pub struct OfArray;
 pub struct OfMap;
 
 impl Container for OfArray {
-    ghost shape = { sequence };
+    ghost container_type = { of_array };
 
     fn begin<S: Sink>(sink: &mut S, count: Option<usize>) -> Result<(), S::Error> {
         sink.begin_array(count)
@@ -40,7 +40,7 @@ impl Container for OfArray {
 }
 
 impl Container for OfMap {
-    ghost shape = { dictionary };
+    ghost container_type = { of_map };
 
     fn begin<S: Sink>(sink: &mut S, count: Option<usize>) -> Result<(), S::Error> {
         sink.begin_map(count)
@@ -62,17 +62,18 @@ pub trait Parts<C: Container> {
     /// How many items or pairs there are, or `None` where a `usize` does not hold it.
     fn count(&self) -> Option<usize>
         ensures count { result ≡ counted (number self.now) }
-        ensures sized { length (parts self.now) ≡ size_of C.shape (number self.now) };
+        ensures sized { length (parts self.now) ≡ size_of C.container_type (number self.now) };
 
     /// Adds each part to a container that has been begun.
     fn write_parts<S: Sink>(&self, sink: &mut S) -> Result<(), S::Error>
-        requires { CanTake C.shape S.stands_at sink.old (parts self.now) }
-        ensures ok { OnOk result (TakesAll C.shape S.stands_at sink.old sink.new (parts self.now)) }
+        requires { CanTake C.container_type S.stands_at sink.old (parts self.now) }
+        ensures ok { OnOk result
+            (TakesAll C.container_type S.stands_at sink.old sink.new (parts self.now)) }
         ensures cause { IfErr result (λ e. IsOwedAmong (S.cause e) (parts self.now)) }
         ensures memory { IfErr result
             (λ e. IsGranted (S.cause e) (S.takes_memory ⊎ takes_memory)) }
         ensures err { OnErr result
-            (BreaksAll C.shape S.stands_at S.out sink.old sink.new (parts self.now)) };
+            (BreaksAll C.container_type S.stands_at S.out sink.old sink.new (parts self.now)) };
 }
 
 /// Writes the parts as a definite container, in their order.
@@ -87,12 +88,12 @@ pub fn serialize_parts<C: Container, P: Parts<C>, S: Sink>(
 ) -> Result<(), S::Error>
     requires { IsReady S.stands_at sink.old }
     ensures ok { OnOk result (AddsNamed S.stands_at sink.old sink.new
-        (counted_of C.shape (P.number parts.now) (P.parts parts.now))) }
+        (counted_of C.container_type (P.number parts.now) (P.parts parts.now))) }
     ensures cause { IfErr result (λ e. IsOwed (S.cause e)
-        (counted_of C.shape (P.number parts.now) (P.parts parts.now))) }
+        (counted_of C.container_type (P.number parts.now) (P.parts parts.now))) }
     ensures memory { IfErr result (λ e. IsGranted (S.cause e) (S.takes_memory ⊎ P.takes_memory)) }
     ensures err { OnErr result (BreaksNamed S.stands_at S.out sink.old sink.new
-        (counted_of C.shape (P.number parts.now) (P.parts parts.now))) }
+        (counted_of C.container_type (P.number parts.now) (P.parts parts.now))) }
 {
     match parts.count() {
         Some(count) => {

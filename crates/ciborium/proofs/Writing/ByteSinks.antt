@@ -4,9 +4,10 @@ use Rattle.std.proofs.Common.{Result, Ok, Err, OnOk, OnErr, get_or, refl, sym, �
 use Rattle.std.proofs.{Common.{arith, lit<, length-append}, lemmas.Grind.get_or_default_zero}
 use Rattle.std.specs.{Borrow.GName, Io.KnownBytes.Appends, Int.{to_be_bytes, w128}}
 use Rattle.ciborium_ll.specs.{Bytes.AreBytes, Head.shortest_head, Item.Item, ProperItems.IsArgument}
-use Rattle.ciborium_value.specs.{Encoding.written_bytes, Meaning.without_zeros, Number.shortest_bytes, Places.Shape}
+use Rattle.ciborium_value.specs.{Encoding.written_bytes, Meaning.without_zeros, Number.shortest_bytes}
 use Rattle.ciborium_value.specs.Places.{container, begin_bytes, end_bytes, is_open, Place, top, within, tagged, HasRoom}
-use Rattle.ciborium_value.specs.Places.{added, ended, IsComplete, IsWrittenPlace, Fits, bytes_at, writer_at, Out}
+use Rattle.ciborium_value.specs.Places.{ContainerType, added, ended, IsComplete, IsWrittenPlace, Fits, bytes_at}
+use Rattle.ciborium_value.specs.Places.{writer_at, Out}
 use Rattle.ciborium_value.specs.{Places.{IsOutOf, IsOutAt, IsOutBetween, IsCutBetween, IsProperBeginning}, Sinks.Named}
 use Rattle.ciborium_value.specs.Sinks.{IsReady, Adds, Begins, Tags, Ends, Breaks, BreaksBegin, BreaksTag, BreaksEnd}
 use Rattle.ciborium_value.specs.{Sinks.{AddsNamed, BreaksNamed}, WrittenItems.IsWritten}
@@ -102,7 +103,7 @@ module _ {W E : Type 0} (contents : W → Option (List ℕ)) (s t : ByteSink W)
       OnErr r (Breaks (IsOutFor contents) (out_of contents) s t j)
   breaks_as r i j h e = subst (λ k. OnErr r (Breaks (IsOutFor contents) (out_of contents) s t k)) e (breaks r i h)
 
-  pub begins : (r : Result (Unit {0}) E) (k : Shape) (n : Option ℕ) → PutsOut contents s t r (begin_bytes k n) →
+  pub begins : (r : Result (Unit {0}) E) (k : ContainerType) (n : Option ℕ) → PutsOut contents s t r (begin_bytes k n) →
       Fits n → OnOk r (Begins (IsOutFor contents) k s t n)
   begins (Err e) k n h fits = tt
   begins (Ok u) k n h fits = λ p st room. (
@@ -111,8 +112,8 @@ module _ {W E : Type 0} (contents : W → Option (List ℕ)) (s t : ByteSink W)
     (fits, tt, st.1),
   )
 
-  pub breaks_begin : (r : Result (Unit {0}) E) (k : Shape) (n : Option ℕ) → PutsOut contents s t r (begin_bytes k n) →
-      OnErr r (BreaksBegin (IsOutFor contents) (out_of contents) k s t n)
+  pub breaks_begin : (r : Result (Unit {0}) E) (k : ContainerType) (n : Option ℕ) →
+      PutsOut contents s t r (begin_bytes k n) → OnErr r (BreaksBegin (IsOutFor contents) (out_of contents) k s t n)
   breaks_begin (Ok u) k n h = tt
   breaks_begin (Err e) k n h = λ p st room. stops (Err e) (begin_bytes k n) p (within k n [] p) (bytes_at-within p k n)
       st.0 h

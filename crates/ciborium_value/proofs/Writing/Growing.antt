@@ -2,8 +2,9 @@
 use Rattle.std.proofs.Common.{◌≡◌, ℕ, zero, suc, ◌+◌, ◌<◌, true, false, List, [], ◌∷◌, ◌++◌, length, map, Option, Some}
 use Rattle.std.proofs.Common.{None, refl, sym, ◌∙◌, ap, subst, append_assoc, append-nil, arith}
 use Rattle.ciborium_ll.specs.Item.{Item}
-use Rattle.ciborium_value.specs.Places.{Shape, sequence, dictionary, size_of, items_from, pairs_from, container, Place}
-use Rattle.ciborium_value.specs.{Places.{top, within, tagged, HasRoom, added, IsFull}, Tree.Tree, View.trees_from}
+use Rattle.ciborium_value.specs.Places.{ContainerType, of_array, of_map, size_of, items_from, pairs_from, container}
+use Rattle.ciborium_value.specs.Places.{Place, top, within, tagged, HasRoom, added, IsFull}
+use Rattle.ciborium_value.specs.{Tree.Tree, View.trees_from}
 use Rattle.ciborium_value.specs.{View.tree_pairs_from, WrittenTrees.{written_tree, written_trees, written_pairs}}
 use Rattle.ciborium_value.specs.inner.Frames.{TreeFrame, Placed, done, more, placed, tree_ended, closed}
 use Rattle.ciborium_value.specs.inner.TreeSinks.{put_tree, put_items, begun, tagged_by, built, IsSound}
@@ -94,12 +95,12 @@ map_whole u ps v os h = absurd (omega (arith, h))
 
 -- ---- where an item may come, something is unfinished
 
-begun_still : (s : Shape) (n : Option ℕ) (is : List Item) (os : List TreeFrame) (around : Place) →
+begun_still : (s : ContainerType) (n : Option ℕ) (is : List Item) (os : List TreeFrame) (around : Place) →
     HasRoom (within s n is around) → IsStill (put_items (begun s n (more os)) is)
-begun_still sequence None is os around h = (_, array_open [] is os)
-begun_still dictionary None is os around h = map_open_still [] is os
-begun_still sequence (Some (suc m)) is os around h = array_still m [] is os h
-begun_still dictionary (Some (suc m)) is os around h = map_still m [] is os h
+begun_still of_array None is os around h = (_, array_open [] is os)
+begun_still of_map None is os around h = map_open_still [] is os
+begun_still of_array (Some (suc m)) is os around h = array_still m [] is os h
+begun_still of_map (Some (suc m)) is os around h = map_still m [] is os h
 begun_still u v is os around h = absurd (omega (arith, h))
 
 pub still_unfinished : (p : Place) → HasRoom p → IsSound p → IsStill (built p)
@@ -129,16 +130,16 @@ sound-added (tagged t p) i sound = sound-added p (item.tag t i) sound
 -- ---- the end of a container
 
 -- one that announced its count is whole with its last item
-full_whole : (s : Shape) (n : ℕ) (is : List Item) (os : List TreeFrame) → length is ≡ size_of s n →
+full_whole : (s : ContainerType) (n : ℕ) (is : List Item) (os : List TreeFrame) → length is ≡ size_of s n →
     put_items (begun s (Some n) (more os)) is ≡ placed os (written_tree (container s false is))
-full_whole sequence zero [] os h = refl
-full_whole sequence zero (i ∷ is) os h = absurd (omega (arith, h))
-full_whole dictionary zero [] os h = refl
-full_whole dictionary zero (i ∷ is) os h = absurd (omega (arith, h))
-full_whole sequence (suc m) is os h = array_whole m [] is os h ∙ ap (λ l. placed os (trees.array l)) (trees-from is)
-full_whole dictionary (suc m) is os h = map_whole m [] is os h ∙ ap (λ l. placed os (trees.map l)) (tree_pairs-from is)
+full_whole of_array zero [] os h = refl
+full_whole of_array zero (i ∷ is) os h = absurd (omega (arith, h))
+full_whole of_map zero [] os h = refl
+full_whole of_map zero (i ∷ is) os h = absurd (omega (arith, h))
+full_whole of_array (suc m) is os h = array_whole m [] is os h ∙ ap (λ l. placed os (trees.array l)) (trees-from is)
+full_whole of_map (suc m) is os h = map_whole m [] is os h ∙ ap (λ l. placed os (trees.map l)) (tree_pairs-from is)
 
-pub built-ended : (s : Shape) (n : ℕ) (is : List Item) (around : Place) → IsSound (within s (Some n) is around) →
+pub built-ended : (s : _) (n : ℕ) (is : List Item) (around : Place) → IsSound (within s (Some n) is around) →
     length is ≡ size_of s n → built (within s (Some n) is around) ≡ built (added around (container s false is))
 built-ended s n is around sound h =
     let k = still_unfinished around sound.0 sound.1 in
@@ -147,30 +148,30 @@ built-ended s n is around sound h =
     ap (λ t. put_tree t (written_tree (container s false is))) k.1)
 
 -- a break ends an open one
-pub record Breaks (s : Shape) (is : List Item) (around : Place) : Type 0 where
+pub record Breaks (s : ContainerType) (is : List Item) (around : Place) : Type 0 where
   pub inner : TreeFrame
   pub outer : List TreeFrame
   pub around_is : built around ≡ more outer
   pub here : built (within s None is around) ≡ more (inner ∷ outer)
   pub tree : tree_ended inner ≡ Some (written_tree (container s true is))
 
-pub built-broken : (s : Shape) (is : List Item) (around : Place) → IsSound (within s None is around) →
+pub built-broken : (s : ContainerType) (is : List Item) (around : Place) → IsSound (within s None is around) →
     IsFull s None is → Breaks s is around
-built-broken sequence is around sound h =
+built-broken of_array is around sound h =
     let k = still_unfinished around sound.0 sound.1 in
     record {
       inner = frames.array (tree_list is) None;
       outer = k.0;
       around_is = k.1;
-      here = ap (λ t. put_items (begun sequence None t) is) k.1 ∙ array_open [] is k.0;
+      here = ap (λ t. put_items (begun of_array None t) is) k.1 ∙ array_open [] is k.0;
       tree = ap (λ l. Some (trees.array l)) (trees-from is);
     }
-built-broken dictionary is around sound h =
+built-broken of_map is around sound h =
     let k = still_unfinished around sound.0 sound.1 in
     record {
       inner = frames.map (tree_pair_list is) None None;
       outer = k.0;
       around_is = k.1;
-      here = ap (λ t. put_items (begun dictionary None t) is) k.1 ∙ map_open h.0 [] is k.0 h.1;
+      here = ap (λ t. put_items (begun of_map None t) is) k.1 ∙ map_open h.0 [] is k.0 h.1;
       tree = ap (λ l. Some (trees.map l)) (tree_pairs-from is);
     }

@@ -6,8 +6,8 @@ use Rattle.std.proofs.{Common.add-one, lemmas.List.drop_all}
 use Rattle.ciborium_value.proofs.Trees.Elements.{at, left_from}
 use Rattle.ciborium_ll.specs.{Bytes.greatest_offset, Item.Item, declared.kind.Kind.{Kind, TheVariants.Other}}
 use Rattle.ciborium_value.proofs.Writing.Standing.{IsBefore, before_itself, before_within, before_full, before_tagged}
-use Rattle.ciborium_value.{proofs.Writing.Standing.{tagged_before, cut_nothing, cut_wider}, specs.Places.Shape}
-use Rattle.ciborium_value.specs.Places.{sequence, dictionary, size_of, container, Place, within, tagged, HasRoom, added}
+use Rattle.ciborium_value.{proofs.Writing.Standing.{tagged_before, cut_nothing, cut_wider}, specs.Places.ContainerType}
+use Rattle.ciborium_value.specs.Places.{of_array, of_map, size_of, container, Place, within, tagged, HasRoom, added}
 use Rattle.ciborium_value.specs.{Places.{is_open, IsFull, IsOutAt, Out}, Progress.{oks, BreaksAll, CanTake, IsSized}}
 use Rattle.ciborium_value.specs.{Progress.{Owes, TakesAll, counted, counted_of}, Sinks.{Named, and_then, all_named}}
 use Rattle.ciborium_value.specs.Sinks.{contained, container_of, in_turn, tag_of, Cause, value, IsOwed, IsReady, Begins}
@@ -65,7 +65,7 @@ length-named (x ∷ parts) is h =
 -- ---- a container that was begun
 
 -- where parts are left there is room
-room_for : (s : Shape) (n : Option ℕ) (parts : List Named) (done : List Item) (x : Named) (rest : List Named)
+room_for : (s : ContainerType) (n : Option ℕ) (parts : List Named) (done : List Item) (x : Named) (rest : List Named)
     (p : Place) → IsSized s n parts → parts ≡ oks done ++ x ∷ rest → HasRoom (within s n done p)
 room_for s None parts done x rest p size split = tt
 room_for s (Some n) parts done x rest p size split =
@@ -74,14 +74,14 @@ room_for s (Some n) parts done x rest p size split =
     omega (arith, k, simp length-append at l)
 
 -- all parts make it full
-full_of : (s : Shape) (n : Option ℕ) (parts : List Named) (is : List Item) → IsSized s n parts →
+full_of : (s : ContainerType) (n : Option ℕ) (parts : List Named) (is : List Item) → IsSized s n parts →
     length is ≡ length parts → IsFull s n is
-full_of sequence None parts is size same = tt
-full_of dictionary None parts is size same = (size.0, same ∙ size.1)
+full_of of_array None parts is size same = tt
+full_of of_map None parts is size same = (size.0, same ∙ size.1)
 full_of s (Some n) parts is size same = same ∙ size
 
-module _ {S : Type 0} (StandsAt : S → Place → Type 0) (out : S → Out) (s : Shape) (n : Option ℕ) (parts : List Named)
-    (old : S) where
+module _ {S : Type 0} (StandsAt : S → Place → Type 0) (out : S → Out) (s : ContainerType) (n : Option ℕ)
+    (parts : List Named) (old : S) where
   named_by : (new : S) → ((is : List Item) → all_named parts ≡ Ok is →
       Breaks StandsAt out old new (container s (is_open n) is)) →
       BreaksNamed StandsAt out old new (contained s (is_open n) (all_named parts))
@@ -100,7 +100,8 @@ module _ {S : Type 0} (StandsAt : S → Place → Type 0) (out : S → Out) (s :
       (before_full p s n [] is (full_of s n parts is size (length-named parts is e)))
       (subst (BreaksBegin StandsAt out s old new) same h p st room))
 
-module _ {S : Type 0} {StandsAt : S → Place → Type 0} {s : Shape} {n : Option ℕ} {parts : List Named} {old : S} where
+module _ {S : Type 0} {StandsAt : S → Place → Type 0} {s : ContainerType} {n : Option ℕ}
+    {parts : List Named} {old : S} where
   pub owes_begin : {new : S} {m : Option ℕ} → m ≡ n → IsSized s n parts → Begins StandsAt s old new m →
       Owes StandsAt s n parts old new parts
   owes_begin {new} same size h = record {
@@ -201,18 +202,18 @@ some_is : (a b : ℕ) → Some a ≡ Some b → b ≡ a
 some_is a b e = cc
 
 -- a count that a head announces is that of the parts
-pub parts_counted : (shape : Shape) (n count : ℕ) → counted n ≡ Some count → (count ≡ n) ×
-    ((parts : List Named) → container_of shape parts ≡ counted_of shape n parts)
-parts_counted shape n count h = by (nat_le n greatest_offset) h
+pub parts_counted : (type : ContainerType) (n count : ℕ) → counted n ≡ Some count → (count ≡ n) ×
+    ((parts : List Named) → container_of type parts ≡ counted_of type n parts)
+parts_counted type n count h = by (nat_le n greatest_offset) h
   where
     by : (b : Bool) → cond b (Some n) None ≡ Some count → (count ≡ n) ×
-        ((parts : List Named) → container_of shape parts ≡ cond b (container_of shape parts) (Err Other))
+        ((parts : List Named) → container_of type parts ≡ cond b (container_of type parts) (Err Other))
     by true e = (some_is n count e, λ parts. refl)
     by false e = cc
 
 -- ---- the parts of a definite container
 
-module _ {S : Type 0} (StandsAt : S → Place → Type 0) (out : S → Out) (s : Shape) (number count : ℕ)
+module _ {S : Type 0} (StandsAt : S → Place → Type 0) (out : S → Out) (s : ContainerType) (number count : ℕ)
     (parts : List Named) (old : S) (counts : counted number ≡ Some count)
     (sized : length parts ≡ size_of s number) where
   fits : length parts ≡ size_of s count
@@ -257,7 +258,7 @@ module _ {S : Type 0} (StandsAt : S → Place → Type 0) (out : S → Out) (s :
 
 -- ---- one part, and the parts behind it
 
-module _ {S : Type 0} (StandsAt : S → Place → Type 0) (out : S → Out) (s : Shape) (old : S) (x : Named)
+module _ {S : Type 0} (StandsAt : S → Place → Type 0) (out : S → Out) (s : ContainerType) (old : S) (x : Named)
     (rest : List Named) where
   pub ready_for_one : CanTake s StandsAt old (x ∷ rest) → IsReady StandsAt old
   ready_for_one h = owes_ready h.4 h.5
@@ -288,8 +289,8 @@ module _ {S : Type 0} (StandsAt : S → Place → Type 0) (out : S → Out) (s :
 
 -- ---- one pair, and the parts behind it
 
-module _ {S : Type 0} (StandsAt : S → Place → Type 0) (out : S → Out) (s : Shape) (old mid : S) (key val : Named)
-    (rest : List Named) (first : AddsNamed StandsAt old mid key) where
+module _ {S : Type 0} (StandsAt : S → Place → Type 0) (out : S → Out) (s : ContainerType) (old mid : S)
+    (key val : Named) (rest : List Named) (first : AddsNamed StandsAt old mid key) where
   pub ready_for_value : CanTake s StandsAt old (key ∷ val ∷ rest) → IsReady StandsAt mid
   ready_for_value h = ready_for_one StandsAt out s mid val rest
       (one_taken StandsAt out s old key (val ∷ rest) mid h first)
@@ -331,7 +332,7 @@ pub no_pair : {A B : Type 0} (f : A → Named) (g : B → Named) (es : List (A �
     in_turn f g (drop k es) ≡ []
 no_pair f g es k le = ap (in_turn f g) (drop_all k es le)
 
-module _ {S : Type 0} {StandsAt : S → Place → Type 0} {s : Shape} {n : Option ℕ} {parts : List Named}
+module _ {S : Type 0} {StandsAt : S → Place → Type 0} {s : ContainerType} {n : Option ℕ} {parts : List Named}
     {old mid : S} where
   pub owes_part : {A : Type 0} (f : A → Named) (xs : List A) (k : ℕ) {x : A} → k < length xs → x ≡ get_or xs k x →
       Owes StandsAt s n parts old mid (map f (drop k xs)) →

@@ -5,7 +5,7 @@ use Rattle.std.{proofs.Common.arith, specs.Borrow.GName}
 use Rattle.ciborium_ll.specs.{Head.{shortest_head, open_byte, break_byte}, Item.{Item, Items, Pairs, items_count}}
 use Rattle.ciborium_ll.specs.Item.{pairs_count}
 use Rattle.ciborium_value.specs.Encoding.{written_bytes, items_bytes, pairs_bytes, enclosed, written_string}
-use Rattle.ciborium_value.specs.Places.{Shape, sequence, dictionary, items_from, pairs_from, container, begin_bytes}
+use Rattle.ciborium_value.specs.Places.{ContainerType, of_array, of_map, items_from, pairs_from, container, begin_bytes}
 use Rattle.ciborium_value.specs.Places.{end_bytes, is_open, Place, top, within, tagged, added, ended, IsFull, bytes_at}
 use Rattle.ciborium_value.specs.Places.{writer_at, IsBeginning, IsProperBeginning, Out, IsOutOf, IsOutAt, IsOutBetween}
 use Rattle.ciborium_value.specs.Places.{IsCutBetween}
@@ -40,13 +40,13 @@ pairs-from (k ∷ v ∷ is) (suc m) h =
     (ap (λ x. written_bytes k ++ (written_bytes v ++ x)) p.0, ap suc p.1)
 
 -- a full container: what begins it, its items, and what ends it
-bytes-container : (s : Shape) (n : Option ℕ) (is : List Item) → IsFull s n is →
+bytes-container : (s : ContainerType) (n : Option ℕ) (is : List Item) → IsFull s n is →
     written_bytes (container s (is_open n) is) ≡ begin_bytes s n ++ (items_bytes (items_from is) ++ end_bytes n)
-bytes-container sequence None is h = refl
-bytes-container sequence (Some n) is h = ap (λ k. shortest_head 4 k ++ items_bytes (items_from is))
+bytes-container of_array None is h = refl
+bytes-container of_array (Some n) is h = ap (λ k. shortest_head 4 k ++ items_bytes (items_from is))
     (items_count-from is ∙ h) ∙ ap (λ b. shortest_head 4 n ++ b) (sym (append-nil (items_bytes (items_from is))))
-bytes-container dictionary None is h = ap (λ b. open_byte 5 ∷ (b ++ break_byte ∷ [])) (pairs-from is h.0 h.1).0
-bytes-container dictionary (Some n) is h =
+bytes-container of_map None is h = ap (λ b. open_byte 5 ∷ (b ++ break_byte ∷ [])) (pairs-from is h.0 h.1).0
+bytes-container of_map (Some n) is h =
     let p = pairs-from is n h in
     ap (λ k. shortest_head 5 k ++ pairs_bytes (pairs_from is)) p.1 ∙
     ap (λ b. shortest_head 5 n ++ b) (p.0 ∙ sym (append-nil (items_bytes (items_from is))))
@@ -61,7 +61,7 @@ bytes_at-added (within s n done around) i = rw (items_bytes-one done i) (simp ap
 bytes_at-added (tagged t p) i = bytes_at-added p (item.tag t i) ∙
     sym (append_assoc (bytes_at p) (shortest_head 6 t) (written_bytes i))
 
-pub bytes_at-within : (p : Place) (s : Shape) (n : Option ℕ) →
+pub bytes_at-within : (p : Place) (s : ContainerType) (n : Option ℕ) →
     bytes_at (within s n [] p) ≡ bytes_at p ++ begin_bytes s n
 unfolding bytes_at
 bytes_at-within p s n = ap (λ b. bytes_at p ++ b) (append-nil (begin_bytes s n))
@@ -70,7 +70,7 @@ pub bytes_at-tagged : (p : Place) (t : ℕ) → bytes_at (tagged t p) ≡ bytes_
 unfolding bytes_at
 bytes_at-tagged p t = refl
 
-pub bytes_at-ended : (s : Shape) (n : Option ℕ) (done : List Item) (p : Place) → IsFull s n done →
+pub bytes_at-ended : (s : ContainerType) (n : Option ℕ) (done : List Item) (p : Place) → IsFull s n done →
     bytes_at (ended (within s n done p)) ≡ bytes_at (within s n done p) ++ end_bytes n
 unfolding bytes_at
 bytes_at-ended s n done p h = bytes_at-added p (container s (is_open n) done) ∙
@@ -98,7 +98,7 @@ IsBefore p q = IsBeginning (bytes_at p) (bytes_at q)
 pub before_itself : (p : Place) → IsBefore p p
 before_itself p = ([], sym (append-nil (bytes_at p)))
 
-pub before_within : (p : Place) (s : Shape) (n : Option ℕ) (done : List Item) → IsBefore p (within s n done p)
+pub before_within : (p : Place) (s : ContainerType) (n : Option ℕ) (done : List Item) → IsBefore p (within s n done p)
 unfolding bytes_at
 before_within p s n done = (begin_bytes s n ++ items_bytes (items_from done), refl)
 
@@ -109,7 +109,7 @@ pub tagged_before : (p : Place) (t : ℕ) (i : Item) → IsBefore (tagged t p) (
 tagged_before p t i = (written_bytes i, bytes_at-added (tagged t p) i)
 
 -- inside a container that will be full
-pub before_full : (p : Place) (s : Shape) (n : Option ℕ) (done rest : List Item) → IsFull s n (done ++ rest) →
+pub before_full : (p : Place) (s : ContainerType) (n : Option ℕ) (done rest : List Item) → IsFull s n (done ++ rest) →
     IsBefore (within s n done p) (added p (container s (is_open n) (done ++ rest)))
 unfolding bytes_at
 before_full p s n done rest h = (

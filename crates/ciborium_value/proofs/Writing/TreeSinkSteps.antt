@@ -5,7 +5,7 @@ use Rattle.std.proofs.lemmas.Result.{on_ok_weaker}
 use Rattle.ciborium_ll.specs.Item.{Item}
 use Rattle.ciborium_value.proofs.Writing.Growing.{still_unfinished, built-added, sound-added, built-ended, built-broken}
 use Rattle.ciborium_value.{proofs.Writing.Standing.writer_at-added, specs.{Encoding.boolean_item, Number.number_tree}}
-use Rattle.ciborium_value.specs.{Number.shortest_bytes, Places.{Shape, sequence, dictionary, Place, top, within}}
+use Rattle.ciborium_value.specs.{Number.shortest_bytes, Places.{ContainerType, of_array, of_map, Place, top, within}}
 use Rattle.ciborium_value.specs.{Places.{HasRoom, added, container, IsComplete, writer_at}, Sinks.{Named, number_item}}
 use Rattle.ciborium_value.specs.{Sinks.{Adds, Begins, Ends, AddsNamed}, Tree.Tree, TreeAnswers.IsTreeOf, View.tree_of}
 use Rattle.ciborium_value.specs.{WrittenTrees.written_tree, declared.{serialized.TreeSink.TreeSink, tree.Value.Value}}
@@ -59,7 +59,7 @@ module _ {E : Type 0} (r : Result (Unit {0}) E) (s new : TreeSink) where
             sym (built-added p i room st.1 ∙ ap (λ b. put_tree b (written_tree i)) o.1),
       ))
 
-  pub put_begins : (k : Shape) (n : Option ℕ) (t : Tree) → n ≡ Some 0 → t ≡ empty_container k →
+  pub put_begins : (k : ContainerType) (n : Option ℕ) (t : Tree) → n ≡ Some 0 → t ≡ empty_container k →
       OnOk r (state_of new ≡ placed (frames_of s.stack) t) → OnOk r (Begins IsBuiltAt k s new n)
   put_begins k n t none same = on_ok_weaker r (λ e p st room.
       let o = open_at s p st room in (
@@ -75,7 +75,7 @@ pub some_is : {A : Type 0} (x y : A) → Some x ≡ Some y → x ≡ y
 some_is x y h = cc
 
 -- what a break closes, where a container can end that announced nothing
-broken_at : (s : TreeSink) (k : Shape) (is : List Item) (around : Place) →
+broken_at : (s : TreeSink) (k : ContainerType) (is : List Item) (around : Place) →
     IsBuiltAt s (within k None is around) → places.IsFull k None is → (v : Tree) × (os : List TreeFrame) ×
     (closed (frames_of s.stack) ≡ Some (v, os)) × (built (added around (container k true is)) ≡ placed os v)
 broken_at s k is around st full =

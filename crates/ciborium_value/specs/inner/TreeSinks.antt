@@ -1,7 +1,7 @@
 -- What a sink over a tree has built at a place.
 use Rattle.std.{proofs.Common.{sym, subst}, specs.Prelude.{◌≡◌, ℕ, zero, suc, List, [], ◌∷◌, Option, Some, None}}
 use Rattle.ciborium_ll.specs.Item.{Item}
-use Rattle.ciborium_value.specs.Places.{Shape, sequence, dictionary, Place, top, within, tagged, HasRoom, writer_at}
+use Rattle.ciborium_value.specs.Places.{ContainerType, of_array, of_map, Place, top, within, tagged, HasRoom, writer_at}
 use Rattle.ciborium_value.specs.{Places.{bytes_at, Out, IsOutOf, IsOutAt}, Tree.Tree, WrittenTrees.written_tree}
 use Rattle.ciborium_value.specs.{declared.serialized.TreeSink.TreeSink, inner.Frames.{Placed, done, more, placed}}
 use Rattle.ciborium_value.specs.inner.Stack.{frames_of, placed_of}
@@ -18,17 +18,17 @@ abbrev pub put_items : Placed → List Item → Placed
 put_items s [] = s
 put_items s (i ∷ is) = put_items (put_tree s (written_tree i)) is
 
-abbrev pub empty_container : Shape → Tree
-empty_container sequence = trees.array trees.no_trees
-empty_container dictionary = trees.map trees.no_tree_pairs
+abbrev pub empty_container : ContainerType → Tree
+empty_container of_array = trees.array trees.no_trees
+empty_container of_map = trees.map trees.no_tree_pairs
 
 -- a container with this many places behind the one that is filled first
-abbrev pub first : Shape → Option ℕ → frames.TreeFrame
-first sequence behind = frames.array [] behind
-first dictionary behind = frames.map [] behind None
+abbrev pub first : ContainerType → Option ℕ → frames.TreeFrame
+first of_array behind = frames.array [] behind
+first of_map behind = frames.map [] behind None
 
 -- a container is begun: one that announces nothing to come is whole at once
-abbrev pub begun : Shape → Option ℕ → Placed → Placed
+abbrev pub begun : ContainerType → Option ℕ → Placed → Placed
 begun s n (done v) = done v
 begun s None (more os) = more (first s None ∷ os)
 begun s (Some zero) (more os) = placed os (empty_container s)
