@@ -83,9 +83,7 @@ fn make(value: &mut Value, order: KeyOrder) -> Result<(), Kind>
             make_pairs(pairs, order)?;
             sort_pairs(pairs, order)
         }
-        Value::Integer(_) | Value::Bytes(_) | Value::Text(_) | Value::Bool(_) | Value::Null => {
-            Ok(())
-        }
+        _ => Ok(()),
     }
 }
 

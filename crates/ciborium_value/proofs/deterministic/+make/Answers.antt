@@ -31,8 +31,8 @@ make-returns-in_err-make_pairs-in-Map-clause-refused t c =
 
 pub make-returns-in_err-make_pairs-in-Map-clause-alike : goal.make-returns-in_err-make_pairs-in-Map-clause-alike
 make-returns-in_err-make_pairs-in-Map-clause-alike t c =
-    alike_as (search (rules, the_lemmas, tree_of-Map)) (search (rules, the_lemmas, tree_of-Map))
-    (same.in_map c.make_pairs.ensures.alike)
+    alike_as (ap tree_of c.in-Map.is ∙ tree_of-Map _) (search (rules, the_lemmas, tree_of-Map))
+    (same.in_map (rw c.in-Map.pairs-is at c.make_pairs.ensures.alike))
 
 pub make-returns-in-Some-2-clause-alike : goal.make-returns-in-Some-2-clause-alike
 make-returns-in-Some-2-clause-alike t c = alike_as (search (rules, the_lemmas, tree_of-Tag)) (tree_of-Integer _)
@@ -75,8 +75,8 @@ make-returns-in-None-clause-alike t c =
     (same.in_tag (rw content at c.make.ensures.alike))
 
 pub make-returns-in-Array-clause-alike : goal.make-returns-in-Array-clause-alike
-make-returns-in-Array-clause-alike t c = alike_as (search (rules, the_lemmas, tree_of-Array))
-    (search (rules, the_lemmas, tree_of-Array)) (same.in_array c.make_items.ensures.alike)
+make-returns-in-Array-clause-alike t c = alike_as (ap tree_of c.in-Array.is ∙ tree_of-Array _)
+    (search (rules, the_lemmas, tree_of-Array)) (same.in_array (rw c.in-Array.items-is at c.make_items.ensures.alike))
 
 pub make-returns-in_ok-make_pairs-in-Map : goal.make-returns-in_ok-make_pairs-in-Map
 make-returns-in_ok-make_pairs-in-Map t c =
@@ -88,24 +88,12 @@ make-returns-in_ok-make_pairs-in-Map t c =
           (sorted-map c.args.order {ps = tree_pairs_of c.in-Map.pairs.items} refl made sorted)) c.sort_pairs.ensures.ok;
       refused = IfErr-weaker c.sort_pairs.result _ _ (λ kind refused. sorted-map c.args.order was made refused)
           c.sort_pairs.ensures.refused;
-      alike = alike_as (search (rules, the_lemmas, tree_of-Map)) (search (rules, the_lemmas, tree_of-Map))
-          (same.in_map (same.one_after_another c.make_pairs.ensures.alike c.sort_pairs.ensures.alike));
+      alike = alike_as was (search (rules, the_lemmas, tree_of-Map)) (same.in_map (same.one_after_another
+          (rw c.in-Map.pairs-is at c.in_ok-make_pairs-in-Map.ensures.alike) c.sort_pairs.ensures.alike));
     }
 
-pub make-returns-in-Integer-clause-alike : goal.make-returns-in-Integer-clause-alike
-make-returns-in-Integer-clause-alike t c = same.itself
-
-pub make-returns-in-Integer-2-clause-alike : goal.make-returns-in-Integer-2-clause-alike
-make-returns-in-Integer-2-clause-alike t c = same.itself
-
-pub make-returns-in-Integer-3-clause-alike : goal.make-returns-in-Integer-3-clause-alike
-make-returns-in-Integer-3-clause-alike t c = same.itself
-
-pub make-returns-in-Integer-4-clause-alike : goal.make-returns-in-Integer-4-clause-alike
-make-returns-in-Integer-4-clause-alike t c = same.itself
-
-pub make-returns-in-Integer-5-clause-alike : goal.make-returns-in-Integer-5-clause-alike
-make-returns-in-Integer-5-clause-alike t c = same.itself
+pub make-returns-in_default-clause-alike : goal.make-returns-in_default-clause-alike
+make-returns-in_default-clause-alike t c = same.itself
 
 pub make_items-loop-item-init : goal.make_items-loop-item-init
 make_items-loop-item-init t c = record {
