@@ -1,7 +1,7 @@
 //! The laws of the library: its own, and those re-exported from the crates that prove them.
 
 ghost use Rattle.std.specs.Prelude.{◌≡◌, length};
-ghost use Rattle.ciborium_value.specs.Places.{of_map};
+ghost use Rattle.ciborium_value.specs.Places.{a_map};
 ghost use Rattle.ciborium_value.specs.View.{result_map, tree_of};
 ghost use Rattle.ciborium_value.specs.Spelling.{any, deterministic};
 ghost use Rattle.ciborium_value.specs.Sinks.{container_of, in_turn, named_value};
@@ -105,7 +105,7 @@ pub fn encoding_is_shortest()
 /// order (RFC 8949, section 4.2.3), wherever it is written at all: that its item can be written is
 /// what `into_writer` says at `Ok`. The call counts the entries, which takes no memory.
 pub fn canonical_keys_rise<V: Serialize>(map: &BTreeMap<CanonicalValue, V>) -> usize
-    ensures rise { IsNamedWritten (container_of of_map
+    ensures rise { IsNamedWritten (container_of a_map
         (in_turn named_value V.written map.now.entries)) → KeysRise LengthFirst map.now.entries }
     ensures count { result ≡ length map.now.entries }
 {
@@ -116,7 +116,7 @@ pub fn canonical_keys_rise<V: Serialize>(map: &BTreeMap<CanonicalValue, V>) -> u
 /// order (RFC 8949, section 4.2.1), wherever it is written at all, as by `CanonicalValue` in the
 /// canonical one. The call counts the entries, which takes no memory.
 pub fn bytewise_keys_rise<V: Serialize>(map: &BTreeMap<BytewiseValue, V>) -> usize
-    ensures rise { IsNamedWritten (container_of of_map
+    ensures rise { IsNamedWritten (container_of a_map
         (in_turn named_value V.written map.now.entries)) → KeysRise Bytewise map.now.entries }
     ensures count { result ≡ length map.now.entries }
 {
@@ -128,7 +128,7 @@ pub fn bytewise_keys_rise<V: Serialize>(map: &BTreeMap<BytewiseValue, V>) -> usi
 /// and values is: it names the item of its tree, whose encoding is the one accepted spelling. The
 /// call counts the entries, which takes no memory.
 pub fn store_is_deterministic<O: EncodingOrder>(store: &BTreeMap<OrderedValue<O>, Value>) -> usize
-    ensures accepted { IsNamedWritten (container_of of_map
+    ensures accepted { IsNamedWritten (container_of a_map
         (in_turn named_value named_value store.now.entries)) →
         AreDeterministicParts O.order store.now.entries →
         IsDeterministicStore O.order store.now.entries }

@@ -4,7 +4,7 @@ ghost use Rattle.std.specs.Prelude.{◌≡◌, ◌∷◌, ◌⊎◌, [], Err, If
 ghost use Rattle.ciborium.specs.Literals.{and_item, and_pair, array_tree, both_trees, had_memory};
 ghost use Rattle.ciborium.specs.Literals.{item_trees, map_tree, named_tree, part_tree};
 ghost use Rattle.ciborium.specs.Literals.{trees_in_pairs};
-ghost use Rattle.ciborium_value.specs.Places.{of_map};
+ghost use Rattle.ciborium_value.specs.Places.{a_map};
 ghost use Rattle.ciborium_value.specs.Sinks.{IsOwed, container_of};
 ghost use Rattle.ciborium_value.specs.Tree.{null};
 ghost use Rattle.ciborium_value.specs.TreeAnswers.{IsTreeOf, tree_cause};
@@ -145,10 +145,10 @@ pub fn map_of_two<K: Serialize, V: Serialize, L: Serialize, W: Serialize>(
     next_key: &L,
     next_value: &W,
 ) -> Result<Value, Error>
-    ensures ok { IfOk result (IsTreeOf (container_of of_map
+    ensures ok { IfOk result (IsTreeOf (container_of a_map
         (K.written key.now ∷ V.written value.now ∷
         L.written next_key.now ∷ W.written next_value.now ∷ []))) }
-    ensures refused { IfErr result (λ e. IsOwed (tree_cause e) (container_of of_map
+    ensures refused { IfErr result (λ e. IsOwed (tree_cause e) (container_of a_map
         (K.written key.now ∷ V.written value.now ∷
         L.written next_key.now ∷ W.written next_value.now ∷ []))) }
 {

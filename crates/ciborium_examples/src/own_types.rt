@@ -6,7 +6,7 @@ ghost use Rattle.ciborium.specs.OwnTypes.{codes, described, enum_description, in
 ghost use Rattle.ciborium.specs.OwnTypes.{no_variant, refl, struct_description, tested, then_field};
 ghost use Rattle.ciborium.specs.OwnTypes.{then_no_field, then_unit_variant, then_variant};
 ghost use Rattle.ciborium.specs.OwnTypes.{under_tag};
-ghost use Rattle.ciborium.specs.Places.{of_map, of_array};
+ghost use Rattle.ciborium.specs.Places.{a_map, an_array};
 ghost use Rattle.ciborium.specs.Sinks.{container_of, in_turn, named_text};
 ghost use Rattle.ciborium.specs.Sinks.{number_item, open_container_of};
 ghost use Rattle.ciborium_ll.specs.declared.kind.Kind.TheVariants.{Other, Range};
@@ -67,7 +67,7 @@ pub struct Position {
 }
 
 impl Serialize for Position {
-    ghost written = { λ p. container_of of_array
+    ghost written = { λ p. container_of an_array
         (Ok (number_item p.x) ∷ named_text (string_bytes p.name) ∷ []) };
 
     ghost takes_memory = { ⊥ };
@@ -155,7 +155,7 @@ impl Serialize for Copied {
 pub struct Open(pub Vec<u8>);
 
 impl Serialize for Open {
-    ghost written = { λ o. open_container_of of_array
+    ghost written = { λ o. open_container_of an_array
         (map (λ n. Ok (number_item (pos n))) o.0.items) };
 
     ghost takes_memory = { ⊥ };
@@ -174,7 +174,7 @@ impl Serialize for Open {
 pub struct OpenMap(pub BTreeMap<u8, u8>);
 
 impl Serialize for OpenMap {
-    ghost written = { λ m. open_container_of of_map
+    ghost written = { λ m. open_container_of a_map
         (in_turn (λ n. Ok (number_item (pos n))) (λ n. Ok (number_item (pos n))) m.0.entries) };
 
     ghost takes_memory = { ⊥ };

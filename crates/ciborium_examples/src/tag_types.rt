@@ -2,7 +2,7 @@
 ghost use Rattle.std.specs.Prelude.{◌≡◌, ◌∷◌, IfSome, Ok, Option, [], pos, ℕ};
 ghost use Rattle.ciborium.specs.Item as item;
 ghost use Rattle.ciborium.specs.Encoding.{written_bytes};
-ghost use Rattle.ciborium.specs.Places.{of_array};
+ghost use Rattle.ciborium.specs.Places.{an_array};
 ghost use Rattle.ciborium.specs.Sinks.{container_of, number_item, or_null};
 ghost use Rattle.ciborium.specs.TagReadings.{with_tag};
 
@@ -18,7 +18,7 @@ pub struct Two<V>(pub Option<u64>, pub Option<u64>, pub V);
 
 /// An array of both tags, each null where there is none, and the value.
 impl<V: Serialize> Serialize for Two<V> {
-    ghost written = { λ t. container_of of_array (or_null (λ n. Ok (number_item (pos n))) t.0 ∷
+    ghost written = { λ t. container_of an_array (or_null (λ n. Ok (number_item (pos n))) t.0 ∷
         or_null (λ n. Ok (number_item (pos n))) t.1 ∷ V.written t.2 ∷ []) };
 
     ghost takes_memory = { V.takes_memory };
@@ -51,7 +51,7 @@ pub struct Parted<V>(pub Option<u64>, pub V);
 
 /// An array of the tag, null where there is none, and the value.
 impl<V: Serialize> Serialize for Parted<V> {
-    ghost written = { λ t. container_of of_array (or_null (λ n. Ok (number_item (pos n))) t.0 ∷
+    ghost written = { λ t. container_of an_array (or_null (λ n. Ok (number_item (pos n))) t.0 ∷
         V.written t.1 ∷ []) };
 
     ghost takes_memory = { V.takes_memory };

@@ -1,7 +1,7 @@
 //! A type of one's own that refuses an item before it reads it.
 
 ghost use Rattle.std.specs.Prelude.{List, Ok, map, pos, ℕ};
-ghost use Rattle.ciborium_value.specs.Places.{of_array};
+ghost use Rattle.ciborium_value.specs.Places.{an_array};
 ghost use Rattle.ciborium_value.specs.Readings.{spacious, unordered};
 ghost use Rattle.ciborium_value.specs.Sinks.{container_of, number_item};
 ghost use Rattle.ciborium_rows.specs.Few.{given_few};
@@ -19,7 +19,7 @@ const MOST: usize = 5;
 pub struct Few(pub Vec<u8>);
 
 impl Serialize for Few {
-    ghost written = { λ f. container_of of_array
+    ghost written = { λ f. container_of an_array
         (map (λ n. Ok (number_item (pos n))) f.0.items) };
 
     ghost takes_memory = { ⊥ };

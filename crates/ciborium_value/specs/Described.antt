@@ -4,7 +4,7 @@ use Rattle.std.specs.Prelude.{◌≡◌, ℕ, Bool, true, false, List, [], ◌�
 use Rattle.std.specs.{Prelude.{if◌then◌else◌, bytes_eq}, Cmp.IsTotalOrder, declared.cmp.Ordering.Ordering}
 use Rattle.ciborium_ll.specs.Item.{Item}
 use Rattle.ciborium_value.specs.{Labels.{Label, label_item}, Nesting.Limit, NeverWritten.{Avoided, IsNever, nulls}}
-use Rattle.ciborium_value.specs.{NeverWritten.byte_strings, Places.of_map, Progress.counted_of, Readings.ItemsGiven}
+use Rattle.ciborium_value.specs.{NeverWritten.byte_strings, Places.a_map, Progress.counted_of, Readings.ItemsGiven}
 use Rattle.ciborium_value.specs.{Readings.Reading, ReadsBack.{IsNameRead, IsReadBack, Way}, Sinks.{Named, all_named}}
 use Rattle.ciborium_value.specs.{Sinks.in_turn, StructReadings.Fields, Given.outcome, VariantReadings.Variant}
 use Rattle.ciborium_value.specs.{VariantReadings.{given_data, given_enum}, WrittenContents.AreFieldsAlike}
@@ -53,7 +53,7 @@ labeled_parts fs = in_turn label_item (λ r. r) fs
 
 -- the definite map of these fields
 abbrev pub labeled_map : List (Label × Named) → Named
-labeled_map fs = counted_of of_map (length fs) (labeled_parts fs)
+labeled_map fs = counted_of a_map (length fs) (labeled_parts fs)
 
 -- the fields of a type in a row
 pub record FieldsDescription (T : Type 0) : Type 1 where

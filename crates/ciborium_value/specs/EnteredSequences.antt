@@ -2,7 +2,7 @@
 use Rattle.std.specs.Prelude.{◌≡◌, ℕ, List}
 use Rattle.ciborium_ll.specs.Item.{Item}
 use Rattle.ciborium_value.specs.{Ahead.{Ahead, Rest, Span, after, parts, past, inside, end_of}, Nesting.Limit}
-use Rattle.ciborium_value.specs.{Places.{ContainerType, of_array}, Sources.{Fault, IsFaultOf, HasItem}}
+use Rattle.ciborium_value.specs.{Places.{ContainerType, an_array}, Sources.{Fault, IsFaultOf, HasItem}}
 use Rattle.ciborium_value.specs.Given.{Steps, gives, outcome}
 
 module _ {S Q : Type 0} (StandsBefore : S → Limit → Ahead → Type 0)
@@ -22,5 +22,5 @@ module _ {S Q : Type 0} (StandsBefore : S → Limit → Ahead → Type 0)
 -- all that was owed was taken
 abbrev pub TakesRest : {S Q : Type 0} → (S → List ℕ → Type 0) →
     (Q → ContainerType → List ℕ → List ℕ → Type 0) → S → S → Q → Type 0
-TakesRest IsUnread Owes old new q = (b c : List ℕ) → IsUnread old c → Owes q of_array b c →
+TakesRest IsUnread Owes old new q = (b c : List ℕ) → IsUnread old c → Owes q an_array b c →
     (z : List ℕ) × IsUnread new z × HasItem b z

@@ -3,7 +3,7 @@ use Rattle.std.specs.{Int.complement_if, Ordering.int_eq, Prelude.{ℕ, ◌^◌,
 use Rattle.std.specs.Prelude.{Option, Some, None, Ok, Err, nat_lt, bytes_eq, codes, if◌then◌else◌}
 use Rattle.ciborium_ll.specs.Item.{Item, unsigned, negative, bytes, text, tag}
 use Rattle.ciborium_value.specs.{Given.{Given, mapped, given_integer, given_place, given_skip}, Meaning.is_bignum_tag}
-use Rattle.ciborium_value.specs.{Places.of_map, Sinks.{Named, container_of, in_turn, named_text, number_item}}
+use Rattle.ciborium_value.specs.{Places.a_map, Sinks.{Named, container_of, in_turn, named_text, number_item}}
 use Rattle.ciborium_value.specs.declared.labels.LabelType.{LabelType, TheVariants.{Name, Number, Other}}
 use Prim.Native.String.{String}
 use Rattle.ciborium_ll.specs.declared.kind.Kind.TheVariants as kinds
@@ -38,7 +38,7 @@ label_item other = Err kinds.Other
 
 -- the definite map of fields by their labels
 abbrev pub fields_of : List (Label × Named) → Named
-fields_of fs = container_of of_map (in_turn label_item (λ r. r) fs)
+fields_of fs = container_of a_map (in_turn label_item (λ r. r) fs)
 
 -- parts before others, or left out with what they are made of; and how many
 abbrev pub parts_or : {V : Type 0} → Option V → (V → List Named) → List Named → List Named

@@ -3,7 +3,7 @@ use Rattle.std.{proofs.Common.{ap, ◌∙◌}, specs.Prelude.{◌≡◌, ℕ, �
 use Rattle.std.specs.Prelude.{Some, None, Result, Ok, Err, IfOk, if◌then◌else◌, nat_lt, refl}
 use Rattle.ciborium_ll.specs.{Item.Item, declared.kind.Kind.Kind}
 use Rattle.ciborium_value.specs.{Encoding.{boolean_item, item_of}, Folded.short_bytes, Given.is_null}
-use Rattle.ciborium_value.specs.{Places.{ContainerType, of_array, of_map}, ReadsBack.{IsDefinite, named, of_ok}}
+use Rattle.ciborium_value.specs.{Places.{ContainerType, an_array, a_map}, ReadsBack.{IsDefinite, named, of_ok}}
 use Rattle.ciborium_value.specs.Sinks.{Named, all_named, bignum_item, contained, container_of, number_item, or_null}
 use Rattle.ciborium_value.specs.{WrittenTrees.written_tree, lemmas.ReadsBackNumbers.definite-number}
 use Rattle.ciborium_ll.specs.Item as items
@@ -58,10 +58,10 @@ never-number a z = never-item a (number_item z) (definite-number z)
     (number-holds IsNoBytes (λ n. refl) (λ n. refl) (λ t n. refl) z)
 
 contained-other : (a : Avoided) (s : _) (r : Result (List Item) Kind) → IfOk (contained s false r) (IsOther a)
-contained-other nulls of_array (Ok is) = (refl, refl)
-contained-other nulls of_map (Ok is) = (refl, refl)
-contained-other byte_strings of_array (Ok is) = refl
-contained-other byte_strings of_map (Ok is) = refl
+contained-other nulls an_array (Ok is) = (refl, refl)
+contained-other nulls a_map (Ok is) = (refl, refl)
+contained-other byte_strings an_array (Ok is) = refl
+contained-other byte_strings a_map (Ok is) = refl
 contained-other a s (Err k) = tt
 
 pub never-container : (a : Avoided) (s : ContainerType) (parts : List Named) → IsNever a (container_of s parts)

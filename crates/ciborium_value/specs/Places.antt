@@ -10,13 +10,13 @@ use Rattle.ciborium_ll.specs.Item as item
 
 -- an array, or a map whose keys and values come in turn
 pub data ContainerType : Type 0 where
-  of_array : ContainerType
-  of_map : ContainerType
+  an_array : ContainerType
+  a_map : ContainerType
 
 -- how many items stand in a container that announces n
 abbrev pub size_of : ContainerType → ℕ → ℕ
-size_of of_array n = n
-size_of of_map n = n + n
+size_of an_array n = n
+size_of a_map n = n + n
 
 abbrev pub items_from : List Item → Items
 items_from [] = item.no_items
@@ -30,12 +30,12 @@ pairs_from (k ∷ v ∷ is) = item.pair k v (pairs_from is)
 
 -- the container of these items, open or definite
 abbrev pub container : ContainerType → Bool → List Item → Item
-container of_array open_ is = item.array open_ (items_from is)
-container of_map open_ is = item.map open_ (pairs_from is)
+container an_array open_ is = item.array open_ (items_from is)
+container a_map open_ is = item.map open_ (pairs_from is)
 
 abbrev pub container_major : ContainerType → ℕ
-container_major of_array = 4
-container_major of_map = 5
+container_major an_array = 4
+container_major a_map = 5
 
 -- what begins a container, open where nothing is announced
 abbrev pub begin_bytes : ContainerType → Option ℕ → List ℕ
@@ -82,8 +82,8 @@ ended (tagged t p) = tagged t p
 
 -- so many items make whole pairs
 abbrev pub IsWhole : ContainerType → ℕ → Type 0
-IsWhole of_array k = Unit {0}
-IsWhole of_map k = (m : ℕ) × (k ≡ m + m)
+IsWhole an_array k = Unit {0}
+IsWhole a_map k = (m : ℕ) × (k ≡ m + m)
 
 -- all that was announced is done
 abbrev pub IsFull : ContainerType → Option ℕ → List Item → Type 0

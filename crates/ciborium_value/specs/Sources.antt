@@ -2,7 +2,7 @@
 use Rattle.std.specs.Prelude.{◌≡◌, ℕ, ◌<◌, ◌≤◌, Bool, List, [], ◌∷◌, ◌++◌, IsTrue, Result, IfErr, IfOk, OnErr, OnOk}
 use Rattle.ciborium_ll.specs.{Bytes.greatest_offset, Item.Item, Spells.Spells, declared.kind.Kind.Kind}
 use Rattle.ciborium_value.specs.Ahead.{Ahead, Rest, Span, item, after, parts, pairs, entry, level_due, past, inside}
-use Rattle.ciborium_value.specs.{Ahead.{takes_level, end_of}, Nesting.Limit, Places.{ContainerType, of_array, of_map}}
+use Rattle.ciborium_value.specs.{Ahead.{takes_level, end_of}, Nesting.Limit, Places.{ContainerType, an_array, a_map}}
 use Rattle.ciborium_value.specs.Given.{Outcome, gives, refuses, nests, Given, given_seq, given_pairs, deeper, outcome}
 
 -- ---- why a source refused
@@ -138,8 +138,8 @@ HasItem b z = (i : Item) × (s : List ℕ) × Spells s i × (b ≡ s ++ z)
 -- the next part of a container is at the front of b, and z follows it: an item, or in a map a key
 -- and its value
 abbrev pub HasPart : ContainerType → List ℕ → List ℕ → Type 0
-HasPart of_array b z = HasItem b z
-HasPart of_map b z = (c : List ℕ) × HasItem b c × HasItem c z
+HasPart an_array b z = HasItem b z
+HasPart a_map b z = (c : List ℕ) × HasItem b c × HasItem c z
 
 -- of the bytes that were unread these are left, and P says how
 abbrev pub TakesTo : {S : Type 0} → (S → List ℕ → Type 0) → S → S → (List ℕ → List ℕ → Type 0) → Type 0

@@ -1,7 +1,7 @@
 -- Equal contents are written alike.
 use Rattle.std.{proofs.Common.{ap, ◌∙◌}, specs.{Option.option_map, Prelude.{◌≡◌, List, [], ◌∷◌, map, pos, Option}}}
 use Rattle.std.specs.{Prelude.{Some, None, Ok, String, string_bytes, refl}, declared.alloc.Global.Global}
-use Rattle.ciborium_value.specs.{Labels.Label, Places.{of_map, of_array}, Sinks.{Named, container_of, in_turn}}
+use Rattle.ciborium_value.specs.{Labels.Label, Places.{a_map, an_array}, Sinks.{Named, container_of, in_turn}}
 use Rattle.ciborium_value.specs.Sinks.{named_text, number_item, or_null}
 
 -- values with one content name the same item, or are refused with the same kind
@@ -26,49 +26,49 @@ string-alike = from_content named_text string_bytes
 module _ {A C : Type 0} {a_written : A → Named} {a_content : A → C}
     (a : IsWrittenByContent a_written a_content) where
   pub tuple1-alike : (v w : A) → a_content v ≡ a_content w →
-      container_of of_array (a_written v ∷ []) ≡ container_of of_array (a_written w ∷ [])
-  tuple1-alike v w same = ap (λ r. container_of of_array (r ∷ [])) (a v w same)
+      container_of an_array (a_written v ∷ []) ≡ container_of an_array (a_written w ∷ [])
+  tuple1-alike v w same = ap (λ r. container_of an_array (r ∷ [])) (a v w same)
 
   module _ {B D : Type 0} {b_written : B → Named} {b_content : B → D}
       (b : IsWrittenByContent b_written b_content) where
     pub tuple2-alike : IsWrittenByContent {T = A × B} {C = C × D}
-        (λ t. container_of of_array (a_written t.0 ∷ b_written t.1 ∷ [])) (λ t. (a_content t.0, b_content t.1))
+        (λ t. container_of an_array (a_written t.0 ∷ b_written t.1 ∷ [])) (λ t. (a_content t.0, b_content t.1))
     tuple2-alike v w same =
         let first = a v.0 w.0 (ap (λ p. p.0) same) in
         let second = b v.1 w.1 (ap (λ p. p.1) same) in
-        ap (λ r. container_of of_array (r ∷ b_written v.1 ∷ [])) first ∙
-        ap (λ r. container_of of_array (a_written w.0 ∷ r ∷ [])) second
+        ap (λ r. container_of an_array (r ∷ b_written v.1 ∷ [])) first ∙
+        ap (λ r. container_of an_array (a_written w.0 ∷ r ∷ [])) second
 
     module _ {E F : Type 0} {e_written : E → Named} {e_content : E → F}
         (e : IsWrittenByContent e_written e_content) where
       pub tuple3-alike : IsWrittenByContent {T = A × B × E} {C = C × D × F}
-          (λ t. container_of of_array (a_written t.0 ∷ b_written t.1 ∷ e_written t.2 ∷ []))
+          (λ t. container_of an_array (a_written t.0 ∷ b_written t.1 ∷ e_written t.2 ∷ []))
           (λ t. (a_content t.0, b_content t.1, e_content t.2))
       tuple3-alike v w same =
           let first = a v.0 w.0 (ap (λ p. p.0) same) in
           let second = b v.1 w.1 (ap (λ p. p.1) same) in
           let third = e v.2 w.2 (ap (λ p. p.2) same) in
-          ap (λ r. container_of of_array (r ∷ b_written v.1 ∷ e_written v.2 ∷ [])) first
-          ∙ ap (λ r. container_of of_array (a_written w.0 ∷ r ∷ e_written v.2 ∷ [])) second
-          ∙ ap (λ r. container_of of_array (a_written w.0 ∷ b_written w.1 ∷ r ∷ [])) third
+          ap (λ r. container_of an_array (r ∷ b_written v.1 ∷ e_written v.2 ∷ [])) first
+          ∙ ap (λ r. container_of an_array (a_written w.0 ∷ r ∷ e_written v.2 ∷ [])) second
+          ∙ ap (λ r. container_of an_array (a_written w.0 ∷ b_written w.1 ∷ r ∷ [])) third
 
       module _ {G H : Type 0} {g_written : G → Named} {g_content : G → H}
           (g : IsWrittenByContent g_written g_content) where
         pub tuple4-alike : IsWrittenByContent {T = A × B × E × G} {C = C × D × F × H}
-            (λ t. container_of of_array (a_written t.0 ∷ b_written t.1 ∷ e_written t.2 ∷ g_written
+            (λ t. container_of an_array (a_written t.0 ∷ b_written t.1 ∷ e_written t.2 ∷ g_written
             t.3 ∷ [])) (λ t. (a_content t.0, b_content t.1, e_content t.2, g_content t.3))
         tuple4-alike v w same =
             let first = a v.0 w.0 (ap (λ p. p.0) same) in
             let second = b v.1 w.1 (ap (λ p. p.1) same) in
             let third = e v.2 w.2 (ap (λ p. p.2) same) in
             let fourth = g v.3 w.3 (ap (λ p. p.3) same) in
-            ap (λ r. container_of of_array (r ∷ b_written v.1 ∷ e_written v.2 ∷ g_written v.3 ∷ []))
+            ap (λ r. container_of an_array (r ∷ b_written v.1 ∷ e_written v.2 ∷ g_written v.3 ∷ []))
             first
-            ∙ ap (λ r. container_of of_array (a_written w.0 ∷ r ∷ e_written v.2 ∷ g_written v.3 ∷
+            ∙ ap (λ r. container_of an_array (a_written w.0 ∷ r ∷ e_written v.2 ∷ g_written v.3 ∷
             [])) second
-            ∙ ap (λ r. container_of of_array (a_written w.0 ∷ b_written w.1 ∷ r ∷ g_written v.3 ∷
+            ∙ ap (λ r. container_of an_array (a_written w.0 ∷ b_written w.1 ∷ r ∷ g_written v.3 ∷
             [])) third
-            ∙ ap (λ r. container_of of_array (a_written w.0 ∷ b_written w.1 ∷ e_written w.2 ∷ r ∷
+            ∙ ap (λ r. container_of an_array (a_written w.0 ∷ b_written w.1 ∷ e_written w.2 ∷ r ∷
             [])) fourth
 
 -- ---- lists and options
@@ -86,8 +86,8 @@ module _ {T C : Type 0} {written : T → Named} {content : T → C}
       ap (λ rs. written y ∷ rs) (each-alike xs ys rest)
 
   pub list-alike : (xs ys : List T) → map content xs ≡ map content ys →
-      container_of of_array (map written xs) ≡ container_of of_array (map written ys)
-  list-alike xs ys same = ap (container_of of_array) (each-alike xs ys same)
+      container_of an_array (map written xs) ≡ container_of an_array (map written ys)
+  list-alike xs ys same = ap (container_of an_array) (each-alike xs ys same)
 
   pub option-alike : (o p : Option T) → option_map content o ≡ option_map content p →
       or_null written o ≡ or_null written p
@@ -125,9 +125,9 @@ module _ {K C : Type 0} {key_written : K → Named} {key : K → C}
         ∙ ap (λ rs. key_written f.0 ∷ value_written f.1 ∷ rs) (entries-alike es fs rest)
 
     pub map-alike : (es fs : List (K × V)) → contents key value es ≡ contents key value fs →
-        container_of of_map (in_turn key_written value_written es) ≡ container_of of_map
+        container_of a_map (in_turn key_written value_written es) ≡ container_of a_map
         (in_turn key_written value_written fs)
-    map-alike es fs same = ap (container_of of_map) (entries-alike es fs same)
+    map-alike es fs same = ap (container_of a_map) (entries-alike es fs same)
 
 -- ---- structs by names
 

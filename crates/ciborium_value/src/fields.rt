@@ -2,7 +2,7 @@
 
 ghost use Rattle.std.specs.Prelude.{ℕ, ◌+◌, ◌∷◌, ◌⊎◌, IfErr, OnErr, OnOk, []};
 ghost use Rattle.ciborium_value.specs.Labels.{number_or, parts_or};
-ghost use Rattle.ciborium_value.specs.Places.{of_map};
+ghost use Rattle.ciborium_value.specs.Places.{a_map};
 ghost use Rattle.ciborium_value.specs.Progress.{BreaksAll, CanTake, IsOwedAmong, TakesAll};
 ghost use Rattle.ciborium_value.specs.Progress.{counted_of};
 ghost use Rattle.ciborium_value.specs.Sinks.{IsGranted};
@@ -53,15 +53,15 @@ fn write_field<L: Label, V: Serialize, R: Parts<OfMap>, S: Sink>(
     behind: &R,
     sink: &mut S,
 ) -> Result<(), S::Error>
-    requires { CanTake of_map S.stands_at sink.old
+    requires { CanTake a_map S.stands_at sink.old
         (L.written label.now ∷ V.written value.now ∷ R.parts behind.now) }
-    ensures ok { OnOk result (TakesAll of_map S.stands_at sink.old sink.new
+    ensures ok { OnOk result (TakesAll a_map S.stands_at sink.old sink.new
         (L.written label.now ∷ V.written value.now ∷ R.parts behind.now)) }
     ensures cause { IfErr result (λ e. IsOwedAmong (S.cause e)
         (L.written label.now ∷ V.written value.now ∷ R.parts behind.now)) }
     ensures memory { IfErr result
         (λ e. IsGranted (S.cause e) (S.takes_memory ⊎ (V.takes_memory ⊎ R.takes_memory))) }
-    ensures err { OnErr result (BreaksAll of_map S.stands_at S.out sink.old sink.new
+    ensures err { OnErr result (BreaksAll a_map S.stands_at S.out sink.old sink.new
         (L.written label.now ∷ V.written value.now ∷ R.parts behind.now)) }
 {
     label.serialize(sink)?;
@@ -86,7 +86,7 @@ impl<L: Label, V: Serialize, R: Parts<OfMap>> Parts<OfMap> for Field<'_, L, V, R
 }
 
 impl<L: Label, V: Serialize, R: Parts<OfMap>> Serialize for Field<'_, L, V, R> {
-    ghost written = { λ f. counted_of of_map (R.number f.2 + 1)
+    ghost written = { λ f. counted_of a_map (R.number f.2 + 1)
         (L.written f.0 ∷ V.written f.1.now ∷ R.parts f.2) };
 
     ghost takes_memory = { V.takes_memory ⊎ R.takes_memory };
@@ -120,7 +120,7 @@ impl<L: Label, V: Serialize, R: Parts<OfMap>> Parts<OfMap> for MaybeField<'_, L,
 }
 
 impl<L: Label, V: Serialize, R: Parts<OfMap>> Serialize for MaybeField<'_, L, V, R> {
-    ghost written = { λ f. counted_of of_map
+    ghost written = { λ f. counted_of a_map
         (number_or f.1.now (R.number f.2 + 1) (R.number f.2))
         (parts_or f.1.now (λ v. L.written f.0 ∷ V.written v ∷ R.parts f.2) (R.parts f.2)) };
 

@@ -2,7 +2,7 @@
 
 ghost use Rattle.std.specs.Prelude.{ℕ, ◌+◌, ◌≤◌, ◌∷◌, ◌⊎◌, [], IfErr, IfOk, OnErr, OnOk};
 ghost use Rattle.ciborium_value.specs.EnteredSequences.{RefusesInTurn, TakesRest, TakesInTurn};
-ghost use Rattle.ciborium_value.specs.Places.{of_array};
+ghost use Rattle.ciborium_value.specs.Places.{an_array};
 ghost use Rattle.ciborium_value.specs.Progress.{counted_of};
 ghost use Rattle.ciborium_value.specs.Readings.{ItemsGiven, array_of, no_part};
 ghost use Rattle.ciborium_value.specs.Readings.{part};
@@ -70,7 +70,7 @@ impl<V: Serialize, R: Parts<OfArray>> Parts<OfArray> for Item<V, R> {
 }
 
 impl<R: Parts<OfArray>> Serialize for Array<R> {
-    ghost written = { λ a. counted_of of_array (R.number a.0) (R.parts a.0) };
+    ghost written = { λ a. counted_of an_array (R.number a.0) (R.parts a.0) };
 
     ghost takes_memory = { R.takes_memory };
 

@@ -1,7 +1,7 @@
 //! Parts in a row, written as one definite container.
 
 ghost use Rattle.std.specs.Prelude.{◌≡◌, ℕ, ◌⊎◌, IfErr, List, OnErr, OnOk, length};
-ghost use Rattle.ciborium_value.specs.Places.{ContainerType, of_map, of_array, size_of};
+ghost use Rattle.ciborium_value.specs.Places.{ContainerType, a_map, an_array, size_of};
 ghost use Rattle.ciborium_value.specs.Progress.{BreaksAll, CanTake, IsOwedAmong, TakesAll, counted};
 ghost use Rattle.ciborium_value.specs.Progress.{counted_of};
 ghost use Rattle.ciborium_value.specs.Sinks.{AddsNamed, Begins, BreaksBegin, BreaksNamed};
@@ -32,7 +32,7 @@ pub struct OfArray;
 pub struct OfMap;
 
 impl Container for OfArray {
-    ghost container_type = { of_array };
+    ghost container_type = { an_array };
 
     fn begin<S: Sink>(sink: &mut S, count: Option<usize>) -> Result<(), S::Error> {
         sink.begin_array(count)
@@ -40,7 +40,7 @@ impl Container for OfArray {
 }
 
 impl Container for OfMap {
-    ghost container_type = { of_map };
+    ghost container_type = { a_map };
 
     fn begin<S: Sink>(sink: &mut S, count: Option<usize>) -> Result<(), S::Error> {
         sink.begin_map(count)

@@ -3,7 +3,7 @@
 ghost use Rattle.std.specs.Prelude.{◌≡◌, IfErr, OnErr, OnOk, negsuc, pos, false};
 ghost use Rattle.ciborium_ll.specs.Item as item;
 ghost use Rattle.ciborium_value.specs.Encoding.{boolean_item};
-ghost use Rattle.ciborium_value.specs.Places.{IsOutAt, Out, Place, of_map, of_array};
+ghost use Rattle.ciborium_value.specs.Places.{IsOutAt, Out, Place, a_map, an_array};
 ghost use Rattle.ciborium_value.specs.Sinks.{Adds, Begins, Breaks, BreaksBegin, BreaksEnd};
 ghost use Rattle.ciborium_value.specs.Sinks.{BreaksTag, CanEnd, Cause, Ends, IsGranted, IsOutside};
 ghost use Rattle.ciborium_value.specs.Sinks.{IsReady, Tags, memory, number_item, value};
@@ -95,19 +95,19 @@ pub trait Sink {
     /// Begins an array of this many items; with `None` one of indefinite length (section 3.2.2).
     fn begin_array(&mut self, items: Option<usize>) -> Result<(), Self::Error>
         requires { IsReady stands_at self.old }
-        ensures ok { OnOk result (Begins stands_at of_array self.old self.new items) }
+        ensures ok { OnOk result (Begins stands_at an_array self.old self.new items) }
         ensures cause { IfErr result (λ e. IsOutside (cause e)) }
         ensures memory { IfErr result (λ e. IsGranted (cause e) takes_memory) }
-        ensures err { OnErr result (BreaksBegin stands_at out of_array self.old self.new items) };
+        ensures err { OnErr result (BreaksBegin stands_at out an_array self.old self.new items) };
 
     /// Begins a map of this many pairs; with `None` one of indefinite length. Each key is added
     /// before its value.
     fn begin_map(&mut self, pairs: Option<usize>) -> Result<(), Self::Error>
         requires { IsReady stands_at self.old }
-        ensures ok { OnOk result (Begins stands_at of_map self.old self.new pairs) }
+        ensures ok { OnOk result (Begins stands_at a_map self.old self.new pairs) }
         ensures cause { IfErr result (λ e. IsOutside (cause e)) }
         ensures memory { IfErr result (λ e. IsGranted (cause e) takes_memory) }
-        ensures err { OnErr result (BreaksBegin stands_at out of_map self.old self.new pairs) };
+        ensures err { OnErr result (BreaksBegin stands_at out a_map self.old self.new pairs) };
 
     /// Ends the innermost container, which was begun with this count.
     fn end(&mut self, count: Option<usize>) -> Result<(), Self::Error>

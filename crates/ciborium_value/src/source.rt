@@ -4,7 +4,7 @@ ghost use Rattle.std.specs.Prelude.{◌≡◌, ◌+◌, ◌<◌, ◌≤◌, IfEr
 ghost use Rattle.std.specs.Prelude.{OnOk, Option, Result, false, string_bytes, ℕ};
 ghost use Rattle.ciborium_value.specs.Ahead.{Ahead, Rest};
 ghost use Rattle.ciborium_value.specs.Nesting.{Limit};
-ghost use Rattle.ciborium_value.specs.Places.{ContainerType, of_map, of_array};
+ghost use Rattle.ciborium_value.specs.Places.{ContainerType, a_map, an_array};
 ghost use Rattle.ciborium_value.specs.Sources.{Completes, Enters, EntersMap, Fault, GivesBack};
 ghost use Rattle.ciborium_value.specs.Sources.{GoesOn, Holds, IsGrantedFault, Leaves, OwesLess};
 ghost use Rattle.ciborium_value.specs.Sources.{OwesNothing, RefusesAhead, RefusesNext};
@@ -187,7 +187,7 @@ pub trait Source {
         ensures ok { IfOk result (λ q. Enters stands_before seq_stands self.old self.new q) }
         ensures refused { IfErr result
             (λ e. RefusesAhead stands_before self.old given_seq (cause self.new e)) }
-        ensures took { IfOk result (λ q. TakesTo is_unread self.old self.new (owes q of_array)) }
+        ensures took { IfOk result (λ q. TakesTo is_unread self.old self.new (owes q an_array)) }
         ensures only { TakesOnly has_taken self.old self.new }
         ensures less { IfOk result (λ q. left self.new + seq_left q < left self.old) }
         ensures no_more { OnErr result (left self.new ≤ left self.old) };
@@ -198,7 +198,7 @@ pub trait Source {
         ensures refused { IfErr result
             (λ e. RefusesAhead stands_before self.old given_pairs (cause self.new e)) }
         ensures memory { IfErr result (λ e. IsGrantedFault (cause self.new e) false) }
-        ensures took { IfOk result (λ q. TakesTo is_unread self.old self.new (owes q of_map)) }
+        ensures took { IfOk result (λ q. TakesTo is_unread self.old self.new (owes q a_map)) }
         ensures only { TakesOnly has_taken self.old self.new }
         ensures less { IfOk result (λ q. left self.new + seq_left q < left self.old) }
         ensures no_more { OnErr result (left self.new ≤ left self.old) };

@@ -1,7 +1,7 @@
 //! Maps none of whose keys occurs twice.
 
 ghost use Rattle.std.specs.Prelude.{◌⊎◌, List, suc, true};
-ghost use Rattle.ciborium_value.specs.Places.{of_map};
+ghost use Rattle.ciborium_value.specs.Places.{a_map};
 ghost use Rattle.ciborium_value.specs.Readings.{unique_map_of};
 ghost use Rattle.ciborium_value.specs.Sinks.{container_of, in_turn};
 ghost use Rattle.ciborium_value.specs.WrittenContents.{map-alike};
@@ -34,7 +34,7 @@ impl<K: Key, V: Deserialize> Deserialize for UniqueKeys<K, V> {
 }
 
 impl<K: Serialize + Ord, V: Serialize> Serialize for UniqueKeys<K, V> {
-    ghost written = { λ m. container_of of_map (in_turn K.written V.written m.0.entries) };
+    ghost written = { λ m. container_of a_map (in_turn K.written V.written m.0.entries) };
 
     ghost takes_memory = { K.takes_memory ⊎ V.takes_memory };
 

@@ -24,7 +24,7 @@ use Rattle.ciborium_value.{proofs.Sources.Sequences.{fault_map, fault_outside, f
 use Rattle.ciborium_value.specs.{Ahead.{after, parts, past, inside, end_of}, Given.{Outcome, Steps, Given, deeper}}
 use Rattle.ciborium_value.specs.Given.{gives, outcome, refuses, take_each, nests, then_take, number_below}
 use Rattle.ciborium_value.specs.{Given.{given_integer, given_byte, given_bytes, bare_bytes, untagged}, Nesting.Limit}
-use Rattle.ciborium_value.specs.{Places.of_array, Sources.{Fault, of_kind, IsFaultOf, TakesAhead, RefusesAhead}}
+use Rattle.ciborium_value.specs.{Places.an_array, Sources.{Fault, of_kind, IsFaultOf, TakesAhead, RefusesAhead}}
 use Rattle.ciborium_value.specs.Sources.{TakesItem, TakesTo, GoesOn, Leaves, RefusesNext, OwesLess, OwesNothing}
 use Rattle.ciborium_value.specs.{Sources.{HasItem, TakesOneItem, TakesOnly}, lemmas.GivenOutcomes.and_take}
 use Rattle.ciborium.proofs.Containers.EnteredContainers.{HasEnteredItems, parts-owed, parts-stand}
@@ -116,7 +116,7 @@ ReadsPartly remaining taken old q new q' vs = (l : Limit) (span : Span) (is : Li
 abbrev pub OwesPartly : {S W : Type 0} → (S → Option (List ℕ)) → ByteSource S W → ByteSeq → ByteSource S W → ByteSeq →
     Type 0
 OwesPartly remaining old q new q' = TakesTo (IsUnread remaining) old new
-    (λ c u. (b : List ℕ) → SeqOwes q of_array b c → SeqOwes q' of_array b u)
+    (λ c u. (b : List ℕ) → SeqOwes q an_array b c → SeqOwes q' an_array b u)
 
 module _ {S W A : Type 0} (remaining : S → Option (List ℕ)) (taken : Given A) (old : ByteSource S W)
     (start : ByteSeq) where
@@ -186,15 +186,15 @@ module _ {S W A : Type 0} (remaining : S → Option (List ℕ)) (taken : Given A
       let (c, un, owes) = h b u in
       let (d, un', less) = g c un in
       let (z, un'', front) = t d un' in
-      (z, un'', λ a owed. less of_array a z (owes a owed) front)
+      (z, un'', λ a owed. less an_array a z (owes a owed) front)
 
   pub owes-end : (mid new : ByteSource S W) (q : ByteSeq) → OwesPartly remaining old start mid q →
       TakesTo (IsUnread remaining) mid new (OwesNothing SeqOwes q) →
-      TakesTo (IsUnread remaining) old new (λ c z. (b : List ℕ) → SeqOwes start of_array b c → HasItem b z)
+      TakesTo (IsUnread remaining) old new (λ c z. (b : List ℕ) → SeqOwes start an_array b c → HasItem b z)
   owes-end mid new q h g b u =
       let (c, un, owes) = h b u in
       let (z, un', done) = g c un in
-      (z, un', λ a owed. done of_array a (owes a owed))
+      (z, un', λ a owed. done an_array a (owes a owed))
 
 -- a byte is what its number is
 module _ {S W : Type 0} (remaining : S → Option (List ℕ)) (ahead : ByteSource S W) where
@@ -244,7 +244,7 @@ module _ {S W : Type 0} {remaining : S → Option (List ℕ)} {old mid : ByteSou
       subst (λ o. IsFaultOf (end_of f) fault o) (sym give) (denied l span is f stands holds)
 
   pub array-took : TakesTo (IsUnread remaining) mid new
-      (λ c z. (b : List ℕ) → SeqOwes q of_array b c → HasItem b z) → TakesItem (IsUnread remaining) old new
+      (λ c z. (b : List ℕ) → SeqOwes q an_array b c → HasItem b z) → TakesItem (IsUnread remaining) old new
   array-took took b u =
       let (w, un, owes) = parts-owed begun b u in
       let (z, un', done) = took w un in
@@ -349,7 +349,7 @@ pub array-one : {S W V : Type 0} (can_fail : Bool) (remaining : S → Option (Li
     TakesOnly (HasTakenSince remaining) mid new → OnErr r (weight_left new ≤ weight_left mid + seq_left q) →
     IfOk r (λ v. ReadsRest remaining mid new q (take_each given_byte) (content v)) →
     IfErr r (λ e. RefusesRest remaining mid q (take_each given_byte) (fault_at can_fail remaining new e)) →
-    OnOk r (TakesTo (IsUnread remaining) mid new (λ c z. (b : List ℕ) → SeqOwes q of_array b c → HasItem b z)) →
+    OnOk r (TakesTo (IsUnread remaining) mid new (λ c z. (b : List ℕ) → SeqOwes q an_array b c → HasItem b z)) →
     OnOk r (weight_left new ≤ weight_left mid + seq_left q) → TakesOne can_fail remaining old new given_bytes content r
 array-one can_fail remaining begun new content (Ok v) only no_more ok refused took fewer = record {
   ok = array-takes begun new ok;

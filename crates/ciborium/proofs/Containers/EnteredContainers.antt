@@ -8,7 +8,7 @@ use Rattle.ciborium_ll.specs.{Spells.Spells, declared.{header.Header.Header, str
 use Rattle.ciborium_value.specs.Ahead.{Span, Rest, item, inside, of_bytes, takes_level}
 use Rattle.ciborium_value.specs.Given.{Outcome, Steps, Given, deeper, give, gives, nests, outcome, refuses, untagged}
 use Rattle.ciborium_value.specs.Given.{bare_pairs, bare_seq, given_pairs, given_seq, within_level}
-use Rattle.ciborium_value.specs.{Nesting.Limit, Places.{is_open, of_array, of_map}}
+use Rattle.ciborium_value.specs.{Nesting.Limit, Places.{is_open, an_array, a_map}}
 use Rattle.ciborium.proofs.Items.ItemHeads.{HasItems, HasPairs, array-front, by-shape, header_of, map-front}
 use Rattle.ciborium.proofs.Items.ItemHeads.{no-bare-tag, packed, packed-pairs}
 use Rattle.ciborium.proofs.Items.{SkippedTags.untagged-under, TakenOnly.{IsKept, kept-alone, kept-reader}}
@@ -60,7 +60,7 @@ pub record IsContainer {X : Type 0} (SpellsPart : List ℕ → X → Type 0) (he
   holds : (q : ByteSeq) (count : Option ℕ) → q.left ≡ parts_left count → (xs : List X) → HasCount count xs →
       Held q (span_of count) xs
 
-pub array-container : IsContainer Spells header.Array HasItems (λ p. SeqOwes p of_array) (λ p. HoldsItems p.left)
+pub array-container : IsContainer Spells header.Array HasItems (λ p. SeqOwes p an_array) (λ p. HoldsItems p.left)
 array-container = record { make = build; front = array-front; owes = owed; holds = held }
   where
     build : (count : Option ℕ) (t : List ℕ) (xs : List Item) → AreSpelled Spells t xs → HasCount count xs →
@@ -73,16 +73,16 @@ array-container = record { make = build; front = array-front; owes = owed; holds
         (array true p.0, (t, p.1, ap (λ (z : List ℕ). z ++ (t ++ (break_byte ∷ []))) hd))
 
     owed : (q : ByteSeq) (count : Option ℕ) → q.left ≡ parts_left count → (b u : List ℕ) →
-        OwesParts Spells count b u → SeqOwes q of_array b u
-    owed q (Some n) e b u h = subst (λ k. LeftOwes k of_array b u) (sym e) h
-    owed q None e b u h = subst (λ k. LeftOwes k of_array b u) (sym e) h
+        OwesParts Spells count b u → SeqOwes q an_array b u
+    owed q (Some n) e b u h = subst (λ k. LeftOwes k an_array b u) (sym e) h
+    owed q None e b u h = subst (λ k. LeftOwes k an_array b u) (sym e) h
 
     held : (q : ByteSeq) (count : Option ℕ) → q.left ≡ parts_left count → (xs : List Item) → HasCount count xs →
         HoldsItems q.left (span_of count) xs
     held q (Some n) e xs h = subst (λ k. HoldsItems k (span_of (Some n)) xs) (sym e) (refl, h)
     held q None e xs h = subst (λ k. HoldsItems k (span_of None) xs) (sym e) (refl, h)
 
-pub map-container : IsContainer SpellsPair header.Map HasPairs (λ p. SeqOwes p of_map) (λ p. HoldsPairs p.left)
+pub map-container : IsContainer SpellsPair header.Map HasPairs (λ p. SeqOwes p a_map) (λ p. HoldsPairs p.left)
 map-container = record { make = build; front = map-front; owes = owed; holds = held }
   where
     build : (count : Option ℕ) (t : List ℕ) (xs : List (Item × Item)) → AreSpelled SpellsPair t xs → HasCount count xs →
@@ -95,9 +95,9 @@ map-container = record { make = build; front = map-front; owes = owed; holds = h
         (items.map true p.0, (t, p.1, ap (λ (z : List ℕ). z ++ (t ++ (break_byte ∷ []))) hd))
 
     owed : (q : ByteSeq) (count : Option ℕ) → q.left ≡ parts_left count → (b u : List ℕ) →
-        OwesParts SpellsPair count b u → SeqOwes q of_map b u
-    owed q (Some n) e b u h = subst (λ k. LeftOwes k of_map b u) (sym e) h
-    owed q None e b u h = subst (λ k. LeftOwes k of_map b u) (sym e) h
+        OwesParts SpellsPair count b u → SeqOwes q a_map b u
+    owed q (Some n) e b u h = subst (λ k. LeftOwes k a_map b u) (sym e) h
+    owed q None e b u h = subst (λ k. LeftOwes k a_map b u) (sym e) h
 
     held : (q : ByteSeq) (count : Option ℕ) → q.left ≡ parts_left count → (xs : List (Item × Item)) →
         HasCount count xs → HoldsPairs q.left (span_of count) xs
@@ -141,7 +141,7 @@ pub record HasEntered {S W X A : Type 0} (remaining : S → Option (List ℕ)) (
 
 abbrev pub HasEnteredItems : {S W A : Type 0} → (S → Option (List ℕ)) → ByteSource S W → ByteSource S W → Given A →
     (Span → List Item → Steps A) → ByteSeq → Type 0
-HasEnteredItems remaining = HasEntered remaining (λ p. SeqOwes p of_array) Spells (λ p. HoldsItems p.left)
+HasEnteredItems remaining = HasEntered remaining (λ p. SeqOwes p an_array) Spells (λ p. HoldsItems p.left)
 
 module _ {S W X : Type 0} {SpellsPart : List ℕ → X → Type 0} {head_with : Option ℕ → Header}
     {HasParts : Item → List X → Type 0} {Owed : ByteSeq → List ℕ → List ℕ → Type 0}
@@ -253,10 +253,10 @@ bytes-entered {S} {W} {can_fail} {remaining} {old} {mid} {h} new len q reads hea
         let spelled : Spells (x ++ c) (bytes (is_open len) payload) = make x hd in
         let split : w ≡ (x ++ c) ++ z = e ∙ ap (λ (r : List ℕ). x ++ r) f ∙ sym (append_assoc x c z) in
         let (s, sq, g) = tagged.outward (bytes (is_open len) payload) (x ++ c) z spelled split in
-        let owed : LeftOwes (left.Bytes v) of_array b z = (under ts (bytes (is_open len) payload), s, sq, g) in (
+        let owed : LeftOwes (left.Bytes v) an_array b z = (under ts (bytes (is_open len) payload), s, sq, g) in (
           z,
           un',
-          subst (λ k. LeftOwes k of_array b z) (sym is) owed,
+          subst (λ k. LeftOwes k an_array b z) (sym is) owed,
           λ j t z' sp h.
               let (i, r, io, sr, k) = tagged.inward j t z' sp h in
               let one = one_at_front r (x ++ c) z' z i (bytes (is_open len) payload) sr spelled (sym k ∙ split) in (

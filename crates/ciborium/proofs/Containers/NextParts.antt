@@ -6,7 +6,7 @@ use Rattle.ciborium_ll.{proofs.{OneHeader.one_header_at_front, UniqueSpelling.on
 use Rattle.ciborium_ll.specs.{Head.{IsHead, break_byte, head_in, eight_bytes}, Header.{SpellsHeader, announced_length}}
 use Rattle.ciborium_ll.specs.{Item.{Item, unsigned}, Spells.Spells, declared.header.Header.Header}
 use Rattle.ciborium_value.specs.Ahead.{Span, Rest, bottom, parts, pairs, entry, item, past, inside, end_of}
-use Rattle.ciborium_value.specs.{Nesting.Limit, Places.{ContainerType, of_array, of_map}}
+use Rattle.ciborium_value.specs.{Nesting.Limit, Places.{ContainerType, an_array, a_map}}
 use Rattle.ciborium_value.specs.Sources.{Fault, HasItem, HasPart, GoesOn, Leaves, RefusesNext, OwesLess, OwesNothing}
 use Rattle.ciborium.proofs.Items.ItemHeads.{header_of, first-head, first-payload, same-head, no-break-head}
 use Rattle.ciborium.proofs.Items.TakenOnly.{IsKept, kept-reader, rest-end}
@@ -299,7 +299,7 @@ module _ {X : Type 0} (SpellsPart : List ℕ → X → Type 0) (b c z : List ℕ
   open-owed owed t w xs sps len f = owed (a ++ t) w (x ∷ xs) (a, t, sp, sps, refl) tt
       (e ∙ ap (λ (k : List ℕ). a ++ k) f ∙ sym (append_assoc a t (break_byte ∷ w)))
 
-pair-at : (c z : List ℕ) → HasPart of_map c z → (p : Item × Item) × (a : List ℕ) × SpellsPair a p × (c ≡ a ++ z)
+pair-at : (c z : List ℕ) → HasPart a_map c z → (p : Item × Item) × (a : List ℕ) × SpellsPair a p × (c ≡ a ++ z)
 pair-at c z (m, (k, s, sp, e), (v, t, sq, f)) = (
   (k, v),
   s ++ t,
@@ -310,21 +310,21 @@ pair-at c z (m, (k, s, sp, e), (v, t, sq, f)) = (
 
 counted-less : (n : ℕ) (s : ContainerType) (b c z : List ℕ) → n ≢ 0 → LeftOwes (left.Counted n) s b c → HasPart s c z →
     LeftOwes (left.Counted (n - 1)) s b z
-counted-less n of_array b c z some owed (i, a, sp, e) = counted-owed Spells b c z i a sp e n some owed
-counted-less n of_map b c z some owed part = let (p, a, sp, e) = pair-at c z part in
+counted-less n an_array b c z some owed (i, a, sp, e) = counted-owed Spells b c z i a sp e n some owed
+counted-less n a_map b c z some owed part = let (p, a, sp, e) = pair-at c z part in
     counted-owed SpellsPair b c z p a sp e n some owed
 
 open-less : (s : ContainerType) (b c z : List ℕ) → LeftOwes left.Open s b c → HasPart s c z → LeftOwes left.Open s b z
-open-less of_array b c z owed (i, a, sp, e) = open-owed Spells b c z i a sp e owed
-open-less of_map b c z owed part = let (p, a, sp, e) = pair-at c z part in open-owed SpellsPair b c z p a sp e owed
+open-less an_array b c z owed (i, a, sp, e) = open-owed Spells b c z i a sp e owed
+open-less a_map b c z owed part = let (p, a, sp, e) = pair-at c z part in open-owed SpellsPair b c z p a sp e owed
 
 counted-nothing : (s : ContainerType) (b c : List ℕ) → LeftOwes (left.Counted 0) s b c → HasItem b c
-counted-nothing of_array b c owed = owed [] c [] refl refl refl
-counted-nothing of_map b c owed = owed [] c [] refl refl refl
+counted-nothing an_array b c owed = owed [] c [] refl refl refl
+counted-nothing a_map b c owed = owed [] c [] refl refl refl
 
 open-nothing : (s : ContainerType) (b c z : List ℕ) → c ≡ break_byte ∷ z → LeftOwes left.Open s b c → HasItem b z
-open-nothing of_array b c z e owed = owed [] z [] refl tt e
-open-nothing of_map b c z e owed = owed [] z [] refl tt e
+open-nothing an_array b c z e owed = owed [] z [] refl tt e
+open-nothing a_map b c z e owed = owed [] z [] refl tt e
 
 pub less-counted : (P : List ℕ → Type 0) (q q' : ByteSeq) (n : ℕ) → q.left ≡ left.Counted n → n ≢ 0 →
     q'.left ≡ left.Counted (n - 1) → (b : List ℕ) → P b → (u : List ℕ) × P u × OwesLess SeqOwes q q' b u
@@ -502,9 +502,9 @@ module _ {S W : Type 0} (remaining : S → Option (List ℕ)) where
 
 bytes-less : (v w : _) (s : _) (n : ℕ) (a b z : List ℕ) → n < 18446744073709551616 → LeftOwes (left.Bytes v) s a b →
     HasPart s (wide n ++ b) z → LeftOwes (left.Bytes w) s a z
-bytes-less v w of_array n a b z lt owed (i, t, si, g) =
+bytes-less v w an_array n a b z lt owed (i, t, si, g) =
     subst (λ y. HasItem a y) (one_at_front (wide n) t b z (unsigned n) i (wide-head n lt) si g).1 owed
-bytes-less v w of_map n a b z lt owed part = absurd owed
+bytes-less v w a_map n a b z lt owed part = absurd owed
 
 pub less-bytes : (P Q : List ℕ → Type 0) (q q' : ByteSeq) (v w : _) (n : ℕ) → q.left ≡ left.Bytes v →
     q'.left ≡ left.Bytes w → n < 18446744073709551616 → ((b : List ℕ) → P b → Q (wide n ++ b)) → (b : List ℕ) → P b →

@@ -3,7 +3,7 @@ use Rattle.std.proofs.Common.{false, Less, ◌≡◌, List, [], ◌∷◌, map, 
 use Rattle.std.specs.{List.Sorted.IsStrictlySortedBy, List.AllByRecursion, Map.keys_of}
 use Rattle.ciborium_ll.specs.{Item.Item, declared.kind.Kind.Kind}
 use Rattle.ciborium_value.specs.{Canonical.key_order, OrderedValues.ordered_value_cmp, Encoding.item_of}
-use Rattle.ciborium_value.specs.{Places.{of_map, pairs_from}, ProperTrees.IsProperTree, Sinks.{Named, and_then}}
+use Rattle.ciborium_value.specs.{Places.{a_map, pairs_from}, ProperTrees.IsProperTree, Sinks.{Named, and_then}}
 use Rattle.ciborium_value.specs.{Sinks.{all_named, contained, container_of, in_turn, named_value}, View.tree_of}
 use Rattle.ciborium_value.specs.WrittenItems.{IsWritten, PairsAreWritten}
 use Rattle.ciborium_value.specs.{declared.key_order.KeyOrder.KeyOrder, declared.tree.Value.Value}
@@ -44,10 +44,10 @@ module _ (o : KeyOrder) where
   rising (v ∷ vs) proper h = (below_all v vs proper.0 proper.1 h.0, rising vs proper.1 h.1)
 
   pub keys-rise : {A : Type 0} (f : A → Named) (es : List (Value × A)) → IsStrictlySortedBy (ordered_value_cmp o)
-      (keys_of es) → IsNamedWritten (container_of of_map (in_turn named_value f es)) → KeysRise o es
+      (keys_of es) → IsNamedWritten (container_of a_map (in_turn named_value f es)) → KeysRise o es
   keys-rise f es h w = by (all_named (in_turn named_value f es)) refl w
     where
       by : (r : Result (List Item) Kind) → all_named (in_turn named_value f es) ≡ r →
-          IsNamedWritten (contained of_map false r) → KeysRise o es
+          IsNamedWritten (contained a_map false r) → KeysRise o es
       by (Err k) e w = absurd w
       by (Ok is) e w = rising (keys_of es) (proper_keys f es is e w.1) h

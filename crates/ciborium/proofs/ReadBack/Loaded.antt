@@ -9,7 +9,7 @@ use Rattle.ciborium_value.{proofs.Writing.ReadBack.written_tree_is_proper, specs
 use Rattle.ciborium_value.specs.Deterministic.{AreRising, HasRisingKeys, PairsHaveRisingKeys}
 use Rattle.ciborium_value.specs.{DeterministicTrees.IsDeterministicTree, Encoding.{encoding, item_of, pairs_of}}
 use Rattle.ciborium_value.specs.{Encoding.written_bytes, Folded.{folded, tree_pairs_folded}, Given.{gives, outcome}}
-use Rattle.ciborium_value.specs.{Meaning.tree_pairs_more, OrderedValues.ordered_value_cmp, Places.of_map}
+use Rattle.ciborium_value.specs.{Meaning.tree_pairs_more, OrderedValues.ordered_value_cmp, Places.a_map}
 use Rattle.ciborium_value.specs.{Places.pairs_from, Readings.Reading, ReadsBack.{IsPlainlyReadBack, by_bytes}}
 use Rattle.ciborium_value.specs.Sinks.{Named, all_named, and_then, contained, container_of, in_turn, named_value}
 use Rattle.ciborium_value.specs.{Spelling.deterministic, Tree.{Tree, TreePairs}, ValueLists.tree_pairs_of, View.tree_of}
@@ -100,9 +100,9 @@ store-items (e ∷ es) =
       ap (items.pair k v) same,
     )
 
-pub store-named : (es : List (Value × Value)) → container_of of_map (in_turn named_value named_value es) ≡ Ok
+pub store-named : (es : List (Value × Value)) → container_of a_map (in_turn named_value named_value es) ≡ Ok
     (item_of (store_tree es))
-store-named es = let (is, named, same) = store-items es in ap (contained of_map false) named ∙
+store-named es = let (is, named, same) = store-items es in ap (contained a_map false) named ∙
     ap (λ ps. Ok (items.map false ps)) same
 
 store-folds : (o : KeyOrder) (es : List (Value × Value)) → AreDeterministicParts o es →
@@ -139,7 +139,7 @@ neighbours-rise o (k ∷ j ∷ ts) h = (h.0.0, neighbours-rise o (j ∷ ts) h.1)
 neighbours-rise o u h = tt
 
 pub deterministic_store : (o : KeyOrder) (es : List (Value × Value)) → IsStrictlySortedBy (ordered_value_cmp o)
-    (keys_of es) → IsNamedWritten (container_of of_map (in_turn named_value named_value es)) →
+    (keys_of es) → IsNamedWritten (container_of a_map (in_turn named_value named_value es)) →
     AreDeterministicParts o es → IsDeterministicStore o es
 deterministic_store o es sorted written parts = (
   store-named es,

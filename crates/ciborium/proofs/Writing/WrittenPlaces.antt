@@ -1,7 +1,7 @@
 -- Places whose items can be written.
 use Rattle.std.proofs.Common.{ℕ, ◌≤◌, List, [], ◌∷◌, ◌++◌, Option, Some, None, sym, ◌∙◌, subst}
 use Rattle.ciborium_ll.specs.{Bytes.greatest_offset, Item.{Item, items_count, pairs_count}}
-use Rattle.ciborium_value.specs.Places.{ContainerType, of_array, of_map, items_from, pairs_from, container, is_open}
+use Rattle.ciborium_value.specs.Places.{ContainerType, an_array, a_map, items_from, pairs_from, container, is_open}
 use Rattle.ciborium_value.specs.Places.{Place, top, within, tagged, added, IsFull, Fits, IsWrittenPlace}
 use Rattle.ciborium_value.specs.WrittenItems.{IsWritten, AreWritten, PairsAreWritten}
 use Rattle.ciborium_value.proofs.Writing.Standing.{items_count-from, pairs-from}
@@ -23,12 +23,12 @@ written-added (tagged t p) i h w = written-added p (item.tag t i) h.1 (h.0, w)
 
 pub written-container : (s : ContainerType) (n : Option ℕ) (is : List Item) → Fits n → AreWritten (items_from is) →
     IsFull s n is → IsWritten (container s (is_open n) is)
-written-container of_array None is fits h full = (tt, h)
-written-container of_map None is fits h full = (tt, pairs-written is h)
-written-container of_array (Some n) is fits h full = (
+written-container an_array None is fits h full = (tt, h)
+written-container a_map None is fits h full = (tt, pairs-written is h)
+written-container an_array (Some n) is fits h full = (
   subst (λ k. k ≤ greatest_offset)
       (sym (items_count-from is ∙ full)) fits,
   h,
 )
-written-container of_map (Some n) is fits h full =
+written-container a_map (Some n) is fits h full =
     (subst (λ k. k ≤ greatest_offset) (sym (pairs-from is n full).1) fits, pairs-written is h)

@@ -8,7 +8,7 @@ use Rattle.ciborium_ll.specs.{Decoding.{left_of, offset_of}, Header.SpellsHeader
 use Rattle.ciborium_ll.specs.{Refusal.IsUsable, Spells.Spells}
 use Rattle.ciborium_value.specs.Ahead.{Ahead, Rest, Span, bottom, parts, pairs, entry, level_due, item, after, of_bytes}
 use Rattle.ciborium_value.specs.{Ahead.{past, inside, end_of}, Meaning.{meaning, is_bignum_tag}, Nesting.Limit}
-use Rattle.ciborium_value.specs.{Nesting.nesting, Places.{ContainerType, of_array, of_map}, Sources.{Fault, HasItem}}
+use Rattle.ciborium_value.specs.{Nesting.nesting, Places.{ContainerType, an_array, a_map}, Sources.{Fault, HasItem}}
 use Rattle.ciborium_value.specs.{Sources.{IsFaultOf, IsGrantedFault, TakesOnly}, Given.{Steps, Given, gives}}
 use Rattle.ciborium_value.specs.{Given.{is_null_simple, outcome}, Tree.Tree, declared.labels.LabelType.LabelType}
 use Rattle.ciborium_value.specs.{declared.labels.LabelType.TheVariants.{Name, Number, Other}, Spelling.any}
@@ -154,12 +154,12 @@ OwesParts {X} SpellsPart count b u = (t z : List ℕ) (xs : List X) → AreSpell
 
 -- b began a container of which this is left, and it is read up to u
 abbrev pub LeftOwes : Left → ContainerType → List ℕ → List ℕ → Type 0
-LeftOwes (left.Counted n) of_array b u = OwesParts Spells (Some n) b u
-LeftOwes (left.Counted n) of_map b u = OwesParts SpellsPair (Some n) b u
-LeftOwes left.Open of_array b u = OwesParts Spells None b u
-LeftOwes left.Open of_map b u = OwesParts SpellsPair None b u
-LeftOwes (left.Bytes v) of_array b u = HasItem b u
-LeftOwes (left.Bytes v) of_map b u = ⊥
+LeftOwes (left.Counted n) an_array b u = OwesParts Spells (Some n) b u
+LeftOwes (left.Counted n) a_map b u = OwesParts SpellsPair (Some n) b u
+LeftOwes left.Open an_array b u = OwesParts Spells None b u
+LeftOwes left.Open a_map b u = OwesParts SpellsPair None b u
+LeftOwes (left.Bytes v) an_array b u = HasItem b u
+LeftOwes (left.Bytes v) a_map b u = ⊥
 
 abbrev pub SeqOwes : ByteSeq → ContainerType → List ℕ → List ℕ → Type 0
 SeqOwes q s b u = LeftOwes q.left s b u
@@ -168,7 +168,7 @@ SeqOwes q s b u = LeftOwes q.left s b u
 abbrev pub EntersItemsUnread : {S W A : Type 0} → (S → Option (List ℕ)) → ByteSource S W →
     ByteSource S W → Given A → (Span → List Item → Steps A) → ByteSeq → Type 0
 EntersItemsUnread remaining old new taken f q = EntersUnread (IsUnread remaining)
-    (λ p. SeqOwes p of_array) Spells (λ p. HoldsItems p.left) old new (Some old.levels) (Some new.levels) taken f q
+    (λ p. SeqOwes p an_array) Spells (λ p. HoldsItems p.left) old new (Some old.levels) (Some new.levels) taken f q
 
 -- what is left of a sequence was read: f takes this from its items, and the source stands past it
 abbrev pub ReadsRest : {S W A : Type 0} → (S → Option (List ℕ)) → ByteSource S W → ByteSource S W →

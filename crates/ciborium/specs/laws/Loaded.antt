@@ -5,7 +5,7 @@ use Rattle.std.specs.{List.All, BTreeMap.BTreeMap, declared.io.Error.Error as Io
 use Rattle.ciborium_ll.specs.Bytes.{greatest_offset}
 use Rattle.ciborium_value.specs.{DeterministicTrees.IsDeterministicTree, Encoding.{encoding, item_of}, Folded.folded}
 use Rattle.ciborium_value.specs.{Given.{Outcome, Given, gives, nests, outcome}, Nesting.nesting}
-use Rattle.ciborium_value.specs.{OrderedValues.ordered_value_cmp, Places.of_map, Readings.Reading, Sinks.Named}
+use Rattle.ciborium_value.specs.{OrderedValues.ordered_value_cmp, Places.a_map, Readings.Reading, Sinks.Named}
 use Rattle.ciborium_value.specs.{Sinks.{container_of, in_turn, named_value}, Spelling.deterministic, Tree.Tree}
 use Rattle.ciborium_value.specs.{TreeAnswers.value_item, ValueLists.tree_pairs_of, View.tree_of}
 use Rattle.ciborium_value.specs.declared.{key_order.KeyOrder.KeyOrder, tree.Value.Value}
@@ -105,7 +105,7 @@ AreDeterministicParts o es = All (λ e. IsDeterministicTree o (tree_of e.0) × I
 
 -- a store names the item of its tree, and that has an accepted spelling
 abbrev pub IsDeterministicStore : KeyOrder → List (Value × Value) → Type 0
-IsDeterministicStore o es = (container_of of_map (in_turn named_value named_value es) ≡ Ok
+IsDeterministicStore o es = (container_of a_map (in_turn named_value named_value es) ≡ Ok
     (item_of (store_tree es))) × IsDeterministicTree o (store_tree es)
 
 -- a store is one of which what is written is read back

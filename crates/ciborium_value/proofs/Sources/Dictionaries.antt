@@ -6,7 +6,7 @@ use Rattle.ciborium_value.proofs.Sources.Sequences.{fault_then, Follows, so, IsB
 use Rattle.ciborium_value.proofs.Sources.Sequences.{blames_next, leaves}
 use Rattle.ciborium_value.specs.{Ahead.{Ahead, Rest, Span, item, pairs, entry, inside, end_of}, Nesting.Limit}
 use Rattle.ciborium_value.specs.Given.{Outcome, Steps, Given, chosen, deeper_if, outcome, refuse, then_read, then_take}
-use Rattle.ciborium_value.specs.{GivenParts.{has_key, put_each, given_map}, Places.{ContainerType, of_map}}
+use Rattle.ciborium_value.specs.{GivenParts.{has_key, put_each, given_map}, Places.{ContainerType, a_map}}
 use Rattle.ciborium_value.specs.Sources.{Fault, of_kind, IsFaultOf, TakesAhead, RefusesAhead, EntersMap, GoesOn, Leaves}
 use Rattle.ciborium_value.specs.Sources.{RefusesNext, TakesTo, TakesItem, OwesLess, OwesNothing}
 use Rattle.ciborium_ll.specs.declared.kind.Kind.TheVariants as kinds
@@ -138,19 +138,19 @@ module _ {S Q A B : Type 0} {StandsBefore : S → Limit → Ahead → Type 0} {S
 -- ---- known bytes
 
 module _ {S Q : Type 0} (IsUnread : S → List ℕ → Type 0) (Owes : Q → ContainerType → List ℕ → List ℕ → Type 0) where
-  pub owed_pair : (old mid ahead between new : S) (q q' : Q) → TakesTo IsUnread old mid (Owes q of_map) →
+  pub owed_pair : (old mid ahead between new : S) (q q' : Q) → TakesTo IsUnread old mid (Owes q a_map) →
       TakesTo IsUnread mid ahead (OwesLess Owes q q') → TakesItem IsUnread ahead between →
-      TakesItem IsUnread between new → TakesTo IsUnread old new (Owes q' of_map)
+      TakesItem IsUnread between new → TakesTo IsUnread old new (Owes q' a_map)
   owed_pair old mid ahead between new q q' h g k v b u =
       let (c, un, ow) = h b u in
       let (d, un', less) = g c un in
       let (y, un'', key) = k d un' in
       let (z, un''', value) = v y un'' in
-      (z, un''', less of_map b z ow (y, key, value))
+      (z, un''', less a_map b z ow (y, key, value))
 
-  pub owed_pairs : (old mid new : S) (q : Q) → TakesTo IsUnread old mid (Owes q of_map) →
+  pub owed_pairs : (old mid new : S) (q : Q) → TakesTo IsUnread old mid (Owes q a_map) →
       TakesTo IsUnread mid new (OwesNothing Owes q) → TakesItem IsUnread old new
   owed_pairs old mid new q h g b u =
       let (c, un, ow) = h b u in
       let (z, un', done) = g c un in
-      (z, un', done of_map b ow)
+      (z, un', done a_map b ow)

@@ -3,7 +3,7 @@ use Rattle.std.proofs.Common.{◌≡◌, ℕ, ◌≤◌, List, [], ◌∷◌, �
 use Rattle.std.proofs.Common.{Result, Ok, Err, IsErrAnd}
 use Rattle.ciborium_ll.specs.Item.{Item}
 use Rattle.ciborium_value.specs.{Ahead.{Ahead, Rest, Span, item, after, parts, past, inside, end_of}, Nesting.Limit}
-use Rattle.ciborium_value.specs.{Places.{ContainerType, of_array}, EnteredSequences.{RefusesInTurn, TakesRest}}
+use Rattle.ciborium_value.specs.{Places.{ContainerType, an_array}, EnteredSequences.{RefusesInTurn, TakesRest}}
 use Rattle.ciborium_value.specs.EnteredSequences.{TakesInTurn}
 use Rattle.ciborium_value.specs.Sources.{Fault, of_kind, of_nesting, of_syntax, of_memory, of_device, of_end, of_length}
 use Rattle.ciborium_value.specs.Sources.{IsFaultOf, IsOutsideFault, TakesAhead, RefusesAhead, Enters, GoesOn, Leaves}
@@ -277,25 +277,25 @@ module _ {S Q : Type 0} {StandsBefore : S → Limit → Ahead → Type 0} {SeqSt
 -- ---- known bytes
 
 module _ {S Q : Type 0} (IsUnread : S → List ℕ → Type 0) (Owes : Q → ContainerType → List ℕ → List ℕ → Type 0) where
-  pub owed_more : (old mid ahead new : S) (q q' : Q) → TakesTo IsUnread old mid (Owes q of_array) →
+  pub owed_more : (old mid ahead new : S) (q q' : Q) → TakesTo IsUnread old mid (Owes q an_array) →
       TakesTo IsUnread mid ahead (OwesLess Owes q q') → TakesItem IsUnread ahead new →
-      TakesTo IsUnread old new (Owes q' of_array)
+      TakesTo IsUnread old new (Owes q' an_array)
   owed_more old mid ahead new q q' h g t b u =
       let (c, un, ow) = h b u in
       let (d, un', less) = g c un in
       let (z, un'', has) = t d un' in
-      (z, un'', less of_array b z ow has)
+      (z, un'', less an_array b z ow has)
 
-  pub owed_all : (old mid new : S) (q : Q) → TakesTo IsUnread old mid (Owes q of_array) →
+  pub owed_all : (old mid new : S) (q : Q) → TakesTo IsUnread old mid (Owes q an_array) →
       TakesTo IsUnread mid new (OwesNothing Owes q) → TakesItem IsUnread old new
   owed_all old mid new q h g b u =
       let (c, un, ow) = h b u in
       let (z, un', done) = g c un in
-      (z, un', done of_array b ow)
+      (z, un', done an_array b ow)
 
   -- a part was taken, and less is owed
   abbrev pub TakesOwed : S → S → Q → Q → Type 0
-  TakesOwed old new q q' = TakesTo IsUnread old new (λ c u. (b : List ℕ) → Owes q of_array b c → Owes q' of_array b u)
+  TakesOwed old new q q' = TakesTo IsUnread old new (λ c u. (b : List ℕ) → Owes q an_array b c → Owes q' an_array b u)
 
   pub dropped_more : (old mid ahead new : S) (p q q' : Q) → TakesOwed old mid p q →
       TakesTo IsUnread mid ahead (OwesLess Owes q q') → TakesItem IsUnread ahead new → TakesOwed old new p q'
@@ -303,18 +303,18 @@ module _ {S Q : Type 0} (IsUnread : S → List ℕ → Type 0) (Owes : Q → Con
       let (c, un, ow) = h b u in
       let (d, un', less) = g c un in
       let (z, un'', has) = t d un' in
-      (z, un'', λ a w. less of_array a z (ow a w) has)
+      (z, un'', λ a w. less an_array a z (ow a w) has)
 
   pub dropped_all : (old mid new : S) (p q : Q) → TakesOwed old mid p q →
       TakesTo IsUnread mid new (OwesNothing Owes q) → TakesRest IsUnread Owes old new p
   dropped_all old mid new p q h g a b u w =
       let (c, un, ow) = h b u in
       let (z, un', done) = g c un in
-      (z, un', done of_array a (ow a w))
+      (z, un', done an_array a (ow a w))
 
   pub parts_taken : {old ahead mid new : S} {q q' : Q} → TakesTo IsUnread old ahead (OwesLess Owes q q') →
       TakesItem IsUnread ahead mid → TakesRest IsUnread Owes mid new q' → TakesRest IsUnread Owes old new q
   parts_taken g t r b c un ow =
       let (d, un', less) = g c un in
       let (z, un'', has) = t d un' in
-      r b z un'' (less of_array b z ow has)
+      r b z un'' (less an_array b z ow has)

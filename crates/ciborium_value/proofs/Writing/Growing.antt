@@ -2,7 +2,7 @@
 use Rattle.std.proofs.Common.{◌≡◌, ℕ, zero, suc, ◌+◌, ◌<◌, true, false, List, [], ◌∷◌, ◌++◌, length, map, Option, Some}
 use Rattle.std.proofs.Common.{None, refl, sym, ◌∙◌, ap, subst, append_assoc, append-nil, arith}
 use Rattle.ciborium_ll.specs.Item.{Item}
-use Rattle.ciborium_value.specs.Places.{ContainerType, of_array, of_map, size_of, items_from, pairs_from, container}
+use Rattle.ciborium_value.specs.Places.{ContainerType, an_array, a_map, size_of, items_from, pairs_from, container}
 use Rattle.ciborium_value.specs.Places.{Place, top, within, tagged, HasRoom, added, IsFull}
 use Rattle.ciborium_value.specs.{Tree.Tree, View.trees_from}
 use Rattle.ciborium_value.specs.{View.tree_pairs_from, WrittenTrees.{written_tree, written_trees, written_pairs}}
@@ -97,10 +97,10 @@ map_whole u ps v os h = absurd (omega (arith, h))
 
 begun_still : (s : ContainerType) (n : Option ℕ) (is : List Item) (os : List TreeFrame) (around : Place) →
     HasRoom (within s n is around) → IsStill (put_items (begun s n (more os)) is)
-begun_still of_array None is os around h = (_, array_open [] is os)
-begun_still of_map None is os around h = map_open_still [] is os
-begun_still of_array (Some (suc m)) is os around h = array_still m [] is os h
-begun_still of_map (Some (suc m)) is os around h = map_still m [] is os h
+begun_still an_array None is os around h = (_, array_open [] is os)
+begun_still a_map None is os around h = map_open_still [] is os
+begun_still an_array (Some (suc m)) is os around h = array_still m [] is os h
+begun_still a_map (Some (suc m)) is os around h = map_still m [] is os h
 begun_still u v is os around h = absurd (omega (arith, h))
 
 pub still_unfinished : (p : Place) → HasRoom p → IsSound p → IsStill (built p)
@@ -132,12 +132,12 @@ sound-added (tagged t p) i sound = sound-added p (item.tag t i) sound
 -- one that announced its count is whole with its last item
 full_whole : (s : ContainerType) (n : ℕ) (is : List Item) (os : List TreeFrame) → length is ≡ size_of s n →
     put_items (begun s (Some n) (more os)) is ≡ placed os (written_tree (container s false is))
-full_whole of_array zero [] os h = refl
-full_whole of_array zero (i ∷ is) os h = absurd (omega (arith, h))
-full_whole of_map zero [] os h = refl
-full_whole of_map zero (i ∷ is) os h = absurd (omega (arith, h))
-full_whole of_array (suc m) is os h = array_whole m [] is os h ∙ ap (λ l. placed os (trees.array l)) (trees-from is)
-full_whole of_map (suc m) is os h = map_whole m [] is os h ∙ ap (λ l. placed os (trees.map l)) (tree_pairs-from is)
+full_whole an_array zero [] os h = refl
+full_whole an_array zero (i ∷ is) os h = absurd (omega (arith, h))
+full_whole a_map zero [] os h = refl
+full_whole a_map zero (i ∷ is) os h = absurd (omega (arith, h))
+full_whole an_array (suc m) is os h = array_whole m [] is os h ∙ ap (λ l. placed os (trees.array l)) (trees-from is)
+full_whole a_map (suc m) is os h = map_whole m [] is os h ∙ ap (λ l. placed os (trees.map l)) (tree_pairs-from is)
 
 pub built-ended : (s : _) (n : ℕ) (is : List Item) (around : Place) → IsSound (within s (Some n) is around) →
     length is ≡ size_of s n → built (within s (Some n) is around) ≡ built (added around (container s false is))
@@ -157,21 +157,21 @@ pub record Breaks (s : ContainerType) (is : List Item) (around : Place) : Type 0
 
 pub built-broken : (s : ContainerType) (is : List Item) (around : Place) → IsSound (within s None is around) →
     IsFull s None is → Breaks s is around
-built-broken of_array is around sound h =
+built-broken an_array is around sound h =
     let k = still_unfinished around sound.0 sound.1 in
     record {
       inner = frames.array (tree_list is) None;
       outer = k.0;
       around_is = k.1;
-      here = ap (λ t. put_items (begun of_array None t) is) k.1 ∙ array_open [] is k.0;
+      here = ap (λ t. put_items (begun an_array None t) is) k.1 ∙ array_open [] is k.0;
       tree = ap (λ l. Some (trees.array l)) (trees-from is);
     }
-built-broken of_map is around sound h =
+built-broken a_map is around sound h =
     let k = still_unfinished around sound.0 sound.1 in
     record {
       inner = frames.map (tree_pair_list is) None None;
       outer = k.0;
       around_is = k.1;
-      here = ap (λ t. put_items (begun of_map None t) is) k.1 ∙ map_open h.0 [] is k.0 h.1;
+      here = ap (λ t. put_items (begun a_map None t) is) k.1 ∙ map_open h.0 [] is k.0 h.1;
       tree = ap (λ l. Some (trees.map l)) (tree_pairs-from is);
     }

@@ -7,7 +7,7 @@ use Rattle.ciborium_value.proofs.Trees.Elements.{at, left_from}
 use Rattle.ciborium_ll.specs.{Bytes.greatest_offset, Item.Item, declared.kind.Kind.{Kind, TheVariants.Other}}
 use Rattle.ciborium_value.proofs.Writing.Standing.{IsBefore, before_itself, before_within, before_full, before_tagged}
 use Rattle.ciborium_value.{proofs.Writing.Standing.{tagged_before, cut_nothing, cut_wider}, specs.Places.ContainerType}
-use Rattle.ciborium_value.specs.Places.{of_array, of_map, size_of, container, Place, within, tagged, HasRoom, added}
+use Rattle.ciborium_value.specs.Places.{an_array, a_map, size_of, container, Place, within, tagged, HasRoom, added}
 use Rattle.ciborium_value.specs.{Places.{is_open, IsFull, IsOutAt, Out}, Progress.{oks, BreaksAll, CanTake, IsSized}}
 use Rattle.ciborium_value.specs.{Progress.{Owes, TakesAll, counted, counted_of}, Sinks.{Named, and_then, all_named}}
 use Rattle.ciborium_value.specs.Sinks.{contained, container_of, in_turn, tag_of, Cause, value, IsOwed, IsReady, Begins}
@@ -76,8 +76,8 @@ room_for s (Some n) parts done x rest p size split =
 -- all parts make it full
 full_of : (s : ContainerType) (n : Option ℕ) (parts : List Named) (is : List Item) → IsSized s n parts →
     length is ≡ length parts → IsFull s n is
-full_of of_array None parts is size same = tt
-full_of of_map None parts is size same = (size.0, same ∙ size.1)
+full_of an_array None parts is size same = tt
+full_of a_map None parts is size same = (size.0, same ∙ size.1)
 full_of s (Some n) parts is size same = same ∙ size
 
 module _ {S : Type 0} (StandsAt : S → Place → Type 0) (out : S → Out) (s : ContainerType) (n : Option ℕ)

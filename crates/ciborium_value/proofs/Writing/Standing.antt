@@ -5,7 +5,7 @@ use Rattle.std.{proofs.Common.arith, specs.Borrow.GName}
 use Rattle.ciborium_ll.specs.{Head.{shortest_head, open_byte, break_byte}, Item.{Item, Items, Pairs, items_count}}
 use Rattle.ciborium_ll.specs.Item.{pairs_count}
 use Rattle.ciborium_value.specs.Encoding.{written_bytes, items_bytes, pairs_bytes, enclosed, written_string}
-use Rattle.ciborium_value.specs.Places.{ContainerType, of_array, of_map, items_from, pairs_from, container, begin_bytes}
+use Rattle.ciborium_value.specs.Places.{ContainerType, an_array, a_map, items_from, pairs_from, container, begin_bytes}
 use Rattle.ciborium_value.specs.Places.{end_bytes, is_open, Place, top, within, tagged, added, ended, IsFull, bytes_at}
 use Rattle.ciborium_value.specs.Places.{writer_at, IsBeginning, IsProperBeginning, Out, IsOutOf, IsOutAt, IsOutBetween}
 use Rattle.ciborium_value.specs.Places.{IsCutBetween}
@@ -42,11 +42,11 @@ pairs-from (k ∷ v ∷ is) (suc m) h =
 -- a full container: what begins it, its items, and what ends it
 bytes-container : (s : ContainerType) (n : Option ℕ) (is : List Item) → IsFull s n is →
     written_bytes (container s (is_open n) is) ≡ begin_bytes s n ++ (items_bytes (items_from is) ++ end_bytes n)
-bytes-container of_array None is h = refl
-bytes-container of_array (Some n) is h = ap (λ k. shortest_head 4 k ++ items_bytes (items_from is))
+bytes-container an_array None is h = refl
+bytes-container an_array (Some n) is h = ap (λ k. shortest_head 4 k ++ items_bytes (items_from is))
     (items_count-from is ∙ h) ∙ ap (λ b. shortest_head 4 n ++ b) (sym (append-nil (items_bytes (items_from is))))
-bytes-container of_map None is h = ap (λ b. open_byte 5 ∷ (b ++ break_byte ∷ [])) (pairs-from is h.0 h.1).0
-bytes-container of_map (Some n) is h =
+bytes-container a_map None is h = ap (λ b. open_byte 5 ∷ (b ++ break_byte ∷ [])) (pairs-from is h.0 h.1).0
+bytes-container a_map (Some n) is h =
     let p = pairs-from is n h in
     ap (λ k. shortest_head 5 k ++ pairs_bytes (pairs_from is)) p.1 ∙
     ap (λ b. shortest_head 5 n ++ b) (p.0 ∙ sym (append-nil (items_bytes (items_from is))))

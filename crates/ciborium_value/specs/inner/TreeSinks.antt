@@ -1,7 +1,7 @@
 -- What a sink over a tree has built at a place.
 use Rattle.std.{proofs.Common.{sym, subst}, specs.Prelude.{◌≡◌, ℕ, zero, suc, List, [], ◌∷◌, Option, Some, None}}
 use Rattle.ciborium_ll.specs.Item.{Item}
-use Rattle.ciborium_value.specs.Places.{ContainerType, of_array, of_map, Place, top, within, tagged, HasRoom, writer_at}
+use Rattle.ciborium_value.specs.Places.{ContainerType, an_array, a_map, Place, top, within, tagged, HasRoom, writer_at}
 use Rattle.ciborium_value.specs.{Places.{bytes_at, Out, IsOutOf, IsOutAt}, Tree.Tree, WrittenTrees.written_tree}
 use Rattle.ciborium_value.specs.{declared.serialized.TreeSink.TreeSink, inner.Frames.{Placed, done, more, placed}}
 use Rattle.ciborium_value.specs.inner.Stack.{frames_of, placed_of}
@@ -19,13 +19,13 @@ put_items s [] = s
 put_items s (i ∷ is) = put_items (put_tree s (written_tree i)) is
 
 abbrev pub empty_container : ContainerType → Tree
-empty_container of_array = trees.array trees.no_trees
-empty_container of_map = trees.map trees.no_tree_pairs
+empty_container an_array = trees.array trees.no_trees
+empty_container a_map = trees.map trees.no_tree_pairs
 
 -- a container with this many places behind the one that is filled first
 abbrev pub first : ContainerType → Option ℕ → frames.TreeFrame
-first of_array behind = frames.array [] behind
-first of_map behind = frames.map [] behind None
+first an_array behind = frames.array [] behind
+first a_map behind = frames.map [] behind None
 
 -- a container is begun: one that announces nothing to come is whole at once
 abbrev pub begun : ContainerType → Option ℕ → Placed → Placed

@@ -8,7 +8,7 @@ use Rattle.ciborium_value.specs.Described.{Description, FieldsDescription, IsDes
 use Rattle.ciborium_value.specs.{Described.{labeled_parts, maybe_before, maybe_levels}, Given.Given, Labels.Label}
 use Rattle.ciborium_value.specs.{Labels.{is_label, is_proper, label_item, number_or, parts_or}, NeverWritten.Avoided}
 use Rattle.ciborium_value.specs.NeverWritten.{IsNever, byte_strings, never-container, never-number, never-option, nulls}
-use Rattle.ciborium_value.specs.{Places.{ContainerType, of_map, of_array}, Progress.counted_of, Readings.IsBounded}
+use Rattle.ciborium_value.specs.{Places.{ContainerType, a_map, an_array}, Progress.counted_of, Readings.IsBounded}
 use Rattle.ciborium_value.specs.Readings.{Reading, below, bounded, list_of, option_of, ordered_by, read_as, such_that}
 use Rattle.ciborium_value.specs.{Readings.{tuple1_of, tuple2_of, tuple3_of, tuple4_of}, ReadsBack.IsNameRead}
 use Rattle.ciborium_value.specs.{ReadsBack.{IsReadBack, Way, name-back}, Sinks.{Named, container_of, number_item}}
@@ -174,35 +174,35 @@ abbrev pub list_description : {L T : Type 0} → (L → List T) → Description 
 list_description items d = record {
   Content = List d.Content;
   reading = list_of items d.reading;
-  written = λ v. container_of of_array (map d.written (items v));
+  written = λ v. container_of an_array (map d.written (items v));
   is_valid = λ v. All d.is_valid (items v);
   levels = λ v. suc (greatest d.levels (items v));
   avoids = λ a. true;
   is_sound = d.is_sound;
   reads_back = λ sound way v valid. list-back (d.reads_back sound way) (items v) valid;
   writes_content = λ v w same. list-alike d.writes_content (items v) (items w) same;
-  never = λ a h v. never-container a of_array (map d.written (items v));
+  never = λ a h v. never-container a an_array (map d.written (items v));
 }
 
 abbrev pub tuple1_description : {T A : Type 0} → (T → A) → Description A → Description T
 tuple1_description alone a = record {
   Content = a.Content;
   reading = tuple1_of alone a.reading;
-  written = λ t. container_of of_array (a.written (alone t) ∷ []);
+  written = λ t. container_of an_array (a.written (alone t) ∷ []);
   is_valid = λ t. a.is_valid (alone t);
   levels = λ t. suc (a.levels (alone t));
   avoids = λ x. true;
   is_sound = a.is_sound;
   reads_back = λ sound way t valid. tuple1-back (a.reads_back sound way (alone t) valid);
   writes_content = λ v w same. tuple1-alike a.writes_content (alone v) (alone w) same;
-  never = λ x h t. never-container x of_array (a.written (alone t) ∷ []);
+  never = λ x h t. never-container x an_array (a.written (alone t) ∷ []);
 }
 
 abbrev pub tuple2_description : {A B : Type 0} → Description A → Description B → Description (A × B)
 tuple2_description a b = record {
   Content = a.Content × b.Content;
   reading = tuple2_of a.reading b.reading;
-  written = λ t. container_of of_array (a.written t.0 ∷ b.written t.1 ∷ []);
+  written = λ t. container_of an_array (a.written t.0 ∷ b.written t.1 ∷ []);
   is_valid = λ t. a.is_valid t.0 × b.is_valid t.1;
   levels = λ t. suc (max (a.levels t.0) (b.levels t.1));
   avoids = λ x. true;
@@ -211,7 +211,7 @@ tuple2_description a b = record {
       let s = both a.is_sound b.is_sound sound in
       tuple2-back (a.reads_back s.0 way t.0 valid.0) (b.reads_back s.1 way t.1 valid.1);
   writes_content = tuple2-alike a.writes_content b.writes_content;
-  never = λ x h t. never-container x of_array (a.written t.0 ∷ b.written t.1 ∷ []);
+  never = λ x h t. never-container x an_array (a.written t.0 ∷ b.written t.1 ∷ []);
 }
 
 abbrev pub tuple3_description : {A B C : Type 0} → Description A → Description B → Description C →
@@ -219,7 +219,7 @@ abbrev pub tuple3_description : {A B C : Type 0} → Description A → Descripti
 tuple3_description a b c = record {
   Content = a.Content × b.Content × c.Content;
   reading = tuple3_of a.reading b.reading c.reading;
-  written = λ t. container_of of_array (a.written t.0 ∷ b.written t.1 ∷ c.written t.2 ∷ []);
+  written = λ t. container_of an_array (a.written t.0 ∷ b.written t.1 ∷ c.written t.2 ∷ []);
   is_valid = λ t. a.is_valid t.0 × b.is_valid t.1 × c.is_valid t.2;
   levels = λ t. suc (max (a.levels t.0) (max (b.levels t.1) (c.levels t.2)));
   avoids = λ x. true;
@@ -230,7 +230,7 @@ tuple3_description a b c = record {
       tuple3-back (a.reads_back s.0 way t.0 valid.0) (b.reads_back r.0 way t.1 valid.1)
       (c.reads_back r.1 way t.2 valid.2);
   writes_content = tuple3-alike a.writes_content b.writes_content c.writes_content;
-  never = λ x h t. never-container x of_array
+  never = λ x h t. never-container x an_array
       (a.written t.0 ∷ b.written t.1 ∷ c.written t.2 ∷ []);
 }
 
@@ -239,7 +239,7 @@ abbrev pub tuple4_description : {A B C D : Type 0} → Description A → Descrip
 tuple4_description a b c d = record {
   Content = a.Content × b.Content × c.Content × d.Content;
   reading = tuple4_of a.reading b.reading c.reading d.reading;
-  written = λ t. container_of of_array
+  written = λ t. container_of an_array
       (a.written t.0 ∷ b.written t.1 ∷ c.written t.2 ∷ d.written t.3 ∷ []);
   is_valid = λ t. a.is_valid t.0 × b.is_valid t.1 × c.is_valid t.2 × d.is_valid t.3;
   levels = λ t. suc (max (a.levels t.0) (max (b.levels t.1) (max (c.levels t.2) (d.levels t.3))));
@@ -253,7 +253,7 @@ tuple4_description a b c d = record {
       (c.reads_back q.0 way t.2 valid.2) (d.reads_back q.1 way t.3 valid.3);
   writes_content = tuple4-alike a.writes_content b.writes_content c.writes_content
       d.writes_content;
-  never = λ x h t. never-container x of_array
+  never = λ x h t. never-container x an_array
       (a.written t.0 ∷ b.written t.1 ∷ c.written t.2 ∷ d.written t.3 ∷ []);
 }
 
@@ -475,19 +475,19 @@ pub counted-never : (a : Avoided) (s : ContainerType) (n : ℕ) (parts : List Na
 counted-never a s n parts = chosen-never a (nat_le n greatest_offset) (container_of s parts) (never-container a s parts)
 
 module _ {T : Type 0} (fs : FieldsDescription T) where
-  written-map : (v : T) → labeled_map (fs.named v) ≡ counted_of of_map (fs.number v) (fs.parts v)
-  written-map v = ap (λ n. counted_of of_map n (labeled_parts (fs.named v))) (fs.same_number v) ∙
-      ap (counted_of of_map (fs.number v)) (fs.same_parts v)
+  written-map : (v : T) → labeled_map (fs.named v) ≡ counted_of a_map (fs.number v) (fs.parts v)
+  written-map v = ap (λ n. counted_of a_map n (labeled_parts (fs.named v))) (fs.same_number v) ∙
+      ap (counted_of a_map (fs.number v)) (fs.same_parts v)
 
   pub struct-back : fs.is_sound ≡ true → (way : Way) (v : T) → fs.is_valid v →
-      IsNameRead way (counted_of of_map (fs.number v) (fs.parts v)) (given_struct fs.fields)
+      IsNameRead way (counted_of a_map (fs.number v) (fs.parts v)) (given_struct fs.fields)
       (fs.content v) (suc (fs.levels v))
   struct-back sound way v valid = subst
       (λ w. IsNameRead way w (given_struct fs.fields) (fs.content v) (suc (fs.levels v)))
       (written-map v) (chosen-back (nat_le (length (fs.named v)) greatest_offset)
       (fields_read_back (fs.back sound way v valid) (fs.apart sound v)))
 
-  pub struct-alike : IsWrittenByContent (λ v. counted_of of_map (fs.number v) (fs.parts v)) fs.content
+  pub struct-alike : IsWrittenByContent (λ v. counted_of a_map (fs.number v) (fs.parts v)) fs.content
   struct-alike v w same = sym (written-map v) ∙ ap labeled_map ((fs.alike v w).alike same) ∙ written-map w
 
 -- a struct as a map of its fields
@@ -495,12 +495,12 @@ abbrev pub struct_description : {T : Type 0} → FieldsDescription T → Descrip
 struct_description fs = record {
   Content = fs.Content;
   reading = struct_of fs.content fs.fields;
-  written = λ v. counted_of of_map (fs.number v) (fs.parts v);
+  written = λ v. counted_of a_map (fs.number v) (fs.parts v);
   is_valid = fs.is_valid;
   levels = λ v. suc (fs.levels v);
   avoids = λ a. true;
   is_sound = fs.is_sound;
   reads_back = struct-back fs;
   writes_content = struct-alike fs;
-  never = λ a h v. counted-never a of_map (fs.number v) (fs.parts v);
+  never = λ a h v. counted-never a a_map (fs.number v) (fs.parts v);
 }

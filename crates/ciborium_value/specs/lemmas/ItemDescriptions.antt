@@ -1,7 +1,7 @@
 -- The descriptions of structs as arrays, from those of their items.
 use Rattle.std.{proofs.Common.{ap, ◌∙◌}, specs.Prelude.{◌≡◌, suc, max, ◌+◌, true, [], ◌∷◌, ◌&&◌, nat_le, refl}}
 use Rattle.ciborium_ll.specs.Bytes.{greatest_offset}
-use Rattle.ciborium_value.specs.{Described.{Description, ItemsDescription}, GivenParts.after_seq, Places.of_array}
+use Rattle.ciborium_value.specs.{Described.{Description, ItemsDescription}, GivenParts.after_seq, Places.an_array}
 use Rattle.ciborium_value.specs.{Progress.counted_of, Readings.{array_of, no_part, part}, ReadsBack.{IsNameRead, Way}}
 use Rattle.ciborium_value.specs.lemmas.{Descriptions.{both, chosen-back, counted-never}, ReadsBackParts.array_back}
 use Rattle.ciborium_value.specs.lemmas.ReadsBackParts.{no_part_back, part_back}
@@ -42,7 +42,7 @@ then_no_item = record {
 
 module _ {T : Type 0} (is : ItemsDescription T) where
   pub items-back : is.is_sound ≡ true → (way : Way) (v : T) → is.is_valid v →
-      IsNameRead way (counted_of of_array is.number (is.parts v)) (after_seq is.items)
+      IsNameRead way (counted_of an_array is.number (is.parts v)) (after_seq is.items)
       (is.content v) (suc (is.levels v))
   items-back sound way v valid = chosen-back (nat_le is.number greatest_offset) (array_back (is.back sound way v valid))
 
@@ -51,12 +51,12 @@ abbrev pub array_description : {T : Type 0} → ItemsDescription T → Descripti
 array_description is = record {
   Content = is.Content;
   reading = array_of is.content is.items;
-  written = λ v. counted_of of_array is.number (is.parts v);
+  written = λ v. counted_of an_array is.number (is.parts v);
   is_valid = is.is_valid;
   levels = λ v. suc (is.levels v);
   avoids = λ a. true;
   is_sound = is.is_sound;
   reads_back = items-back is;
-  writes_content = λ v w same. ap (counted_of of_array is.number) (is.alike v w same);
-  never = λ a h v. counted-never a of_array is.number (is.parts v);
+  writes_content = λ v w same. ap (counted_of an_array is.number) (is.alike v w same);
+  never = λ a h v. counted-never a an_array is.number (is.parts v);
 }

@@ -6,7 +6,7 @@ use Rattle.std.specs.{Prelude.{List, [], ◌∷◌, Result, Ok, Err, IfOk, refl}
 use Rattle.ciborium_ll.specs.{Item.Item, declared.kind.Kind.Kind}
 use Rattle.ciborium_value.specs.Given.{Given, gives, outcome, take_each, then_take, unpack_pairs}
 use Rattle.ciborium_value.specs.{GivenParts.{given_map, put_all, put_each, take_entry}, Nesting.{Limit, IsWithin}}
-use Rattle.ciborium_value.specs.{Places.{of_map, pairs_from}, ReadsBack.{IsItemRead, IsNameRead, IsReadBack, Way}}
+use Rattle.ciborium_value.specs.{Places.{a_map, pairs_from}, ReadsBack.{IsItemRead, IsNameRead, IsReadBack, Way}}
 use Rattle.ciborium_value.specs.{ReadsBack.{at, name-back}, Sinks.{Named, and_then, all_named, contained, container_of}}
 use Rattle.ciborium_value.specs.{Sinks.in_turn, WrittenContents.contents}
 use Rattle.ciborium_value.specs.lemmas.{GivenOutcomes.and_take, MetItems.{ArePairsMet, inside, map-met}}
@@ -60,7 +60,7 @@ module _ {K V A B : Type 0} (key : K → A) (value : V → B) (f : Given A) (g :
     entered : (once : Bool) (order : A → A → Ordering) (s : Result (List Item) Kind) (es : List (K × V)) (n : ℕ) →
         ((fs : List (K × V)) → AreReordered es fs → (put_all order [] (contents key value fs) ≡ contents key value es) ×
         AreNew order [] (contents key value fs)) → IfOk s (AreEntriesRead es n) →
-        IfOk (contained of_map false s) (IsItemRead way (given_map once order f g) (contents key value es) (suc n))
+        IfOk (contained a_map false s) (IsItemRead way (given_map once order f g) (contents key value es) (suc n))
     entered once order (Ok is) es n h each = λ j e l fits.
         let (qs, ps, these, turn, same) = map-met way (pairs_from is) j e in
         subst (λ x. outcome l (given_map once order f g x) ≡ gives (contents key value es)) same
@@ -93,12 +93,12 @@ module _ {way : Way} {K A : Type 0} {IsKeyValid : K → Type 0} {key_written : K
 
     pub map-back : (once : Bool) (cmp : K → K → Ordering) (order : A → A → Ordering) → IsTotalOrder cmp →
         ((a b : K) → cmp a b ≡ order (key a) (key b)) → (m : BTreeMap K V) → IsMapValid cmp IsKeyValid IsValueValid m →
-        IsNameRead way (container_of of_map (in_turn key_written value_written m.entries))
+        IsNameRead way (container_of a_map (in_turn key_written value_written m.entries))
         (given_map once order key_given value_given) (contents key value m.entries)
         (suc (greatest (entry_levels key_levels value_levels) m.entries))
     map-back once cmp order total orders m valid =
         let parts = all_named (in_turn key_written value_written m.entries) in
-        name-back (contained of_map false parts)
+        name-back (contained a_map false parts)
         (entered key value key_given value_given way once order parts m.entries
         (greatest (entry_levels key_levels value_levels) m.entries)
         (λ fs turned. (

@@ -6,7 +6,7 @@ use Rattle.ciborium_ll.specs.{Item.Item, declared.kind.Kind.Kind}
 use Rattle.ciborium_value.specs.Given.{Steps, Given, chosen, give, gives, outcome, outcome_map, refuse, refuses}
 use Rattle.ciborium_value.specs.{Given.{take_each, then_take, unpack}, GivenParts.{after_seq, given_then, given_list}}
 use Rattle.ciborium_value.specs.GivenParts.{no_part_given, part_given, given_tuple1, given_tuple2, given_tuple3}
-use Rattle.ciborium_value.specs.{GivenParts.given_tuple4, Nesting.{Limit, IsWithin}, Places.of_array}
+use Rattle.ciborium_value.specs.{GivenParts.given_tuple4, Nesting.{Limit, IsWithin}, Places.an_array}
 use Rattle.ciborium_value.specs.{ReadsBack.{IsItemRead, IsNameRead, IsReadBack, Way, at, name-back}, Sinks.Named}
 use Rattle.ciborium_value.specs.Sinks.{and_then, all_named, contained, container_of}
 use Rattle.ciborium_value.specs.lemmas.MetItems.{AreMet, array-met, inside}
@@ -112,12 +112,12 @@ last_back {way = way} {r = r} {taken = taken} {a = a} {n = n} h = subst
 
 -- the array of them
 pub array_back : {C : Type 0} {way : Way} {s : Result (List Item) Kind} {parts : List Item → Steps C} {c : C} {n : ℕ} →
-    ArePartsRead way s parts c n → IsNameRead way (contained of_array false s) (after_seq parts) c (suc n)
+    ArePartsRead way s parts c n → IsNameRead way (contained an_array false s) (after_seq parts) c (suc n)
 array_back {way = way} {s = s} {parts = parts} {c = c} {n = n} law =
-    name-back (contained of_array false s) (by s law.back)
+    name-back (contained an_array false s) (by s law.back)
   where
     by : (s : Result (List Item) Kind) → IfOk s (AreItemsRead way parts c n) →
-        IfOk (contained of_array false s) (IsItemRead way (after_seq parts) c (suc n))
+        IfOk (contained an_array false s) (IsItemRead way (after_seq parts) c (suc n))
     by (Ok is) h = λ j e l fits. let (js, each, same) = array-met way is j e in
         subst (λ x. outcome l (after_seq parts x) ≡ gives c) same
         (inside (λ p. p.0) (λ p. parts p.1) (true, unpack js) c n refl (h (unpack js) each) l fits)
@@ -134,7 +134,7 @@ module _ {T C : Type 0} {way : Way} {IsValid : T → Type 0} {written : T → Na
   each-back (x ∷ xs) valid = before (λ v vs. v ∷ vs) taken (take_each taken) (take_each taken) (λ l j js. refl) way
       (law x (All-head IsValid x xs valid)) (each-back xs (All-tail IsValid x xs valid))
 
-  pub list-back : (xs : List T) → All IsValid xs → IsNameRead way (container_of of_array (map written xs))
+  pub list-back : (xs : List T) → All IsValid xs → IsNameRead way (container_of an_array (map written xs))
       (given_list taken) (map content xs) (suc (greatest levels xs))
   list-back xs valid = array_back (each-back xs valid)
 
@@ -142,22 +142,22 @@ module _ {T C : Type 0} {way : Way} {IsValid : T → Type 0} {written : T → Na
 
 module _ {A : Type 0} {way : Way} {r : Named} {f : Given A} {a : A} {n : ℕ}
     (h : IsNameRead way r f a n) where
-  pub tuple1-back : IsNameRead way (container_of of_array (r ∷ [])) (given_tuple1 f) a (suc n)
+  pub tuple1-back : IsNameRead way (container_of an_array (r ∷ [])) (given_tuple1 f) a (suc n)
   tuple1-back = made-back (λ p. p.0) (array_back (last_back h))
 
   module _ {B : Type 0} {s : Named} {g : Given B} {b : B} {m : ℕ} (j : IsNameRead way s g b m) where
-    pub tuple2-back : IsNameRead way (container_of of_array (r ∷ s ∷ [])) (given_tuple2 f g) (a, b) (suc (max n m))
+    pub tuple2-back : IsNameRead way (container_of an_array (r ∷ s ∷ [])) (given_tuple2 f g) (a, b) (suc (max n m))
     tuple2-back = made-back (λ p. (p.0, p.1.0)) (array_back (part_back h (last_back j)))
 
     module _ {D : Type 0} {t : Named} {p : Given D} {d : D} {k : ℕ} (q : IsNameRead way t p d k)
       where
-        pub tuple3-back : IsNameRead way (container_of of_array (r ∷ s ∷ t ∷ []))
+        pub tuple3-back : IsNameRead way (container_of an_array (r ∷ s ∷ t ∷ []))
             (given_tuple3 f g p) (a, b, d) (suc (max n (max m k)))
         tuple3-back = made-back (λ p. (p.0, p.1.0, p.1.1.0)) (array_back (part_back h (part_back j (last_back q))))
 
         module _ {E : Type 0} {u : Named} {w : Given E} {e : E} {o : ℕ} (x : IsNameRead way u w e o)
           where
-            pub tuple4-back : IsNameRead way (container_of of_array (r ∷ s ∷ t ∷ u ∷ []))
+            pub tuple4-back : IsNameRead way (container_of an_array (r ∷ s ∷ t ∷ u ∷ []))
                 (given_tuple4 f g p w) (a, b, d, e) (suc (max n (max m (max k o))))
             tuple4-back = made-back (λ p. (p.0, p.1.0, p.1.1.0, p.1.1.1.0))
                 (array_back (part_back h (part_back j (part_back q (last_back x)))))

@@ -7,7 +7,7 @@ use Rattle.std.specs.Prelude.{negsuc, refl}
 use Rattle.ciborium_ll.specs.{Item.Item, declared.kind.Kind.Kind}
 use Rattle.ciborium_value.specs.Given.{Outcome, gives, outcome, outcome_map, refuses, settled, then_take, unpack_pairs}
 use Rattle.ciborium_value.specs.Labels.{Label, fields_of, is_label, is_proper, label_item, named, numbered, other}
-use Rattle.ciborium_value.specs.{Labels.given_label, Nesting.{Limit, IsWithin}, Places.{of_map, pairs_from}}
+use Rattle.ciborium_value.specs.{Labels.given_label, Nesting.{Limit, IsWithin}, Places.{a_map, pairs_from}}
 use Rattle.ciborium_value.specs.{Readings.Reading, ReadsBack.{IsItemRead, IsNameRead, Way, at, met, met-itself}}
 use Rattle.ciborium_value.specs.{ReadsBack.{met-text, name-back}, Sinks.{Named, all_named, and_then, bignum_item}}
 use Rattle.ciborium_value.specs.{Sinks.{contained, in_turn}, StructReadings.{Fields, FieldsGiven, end_of_fields, field}}
@@ -337,7 +337,7 @@ module _ {way : Way} where
       name-back (fields_of fs) (by (parts_of fs) (law.read apart))
     where
       by : (s : Result (List Item) Kind) → IfOk s (AreActsRead way fields.read law.acts n) →
-          IfOk (contained of_map false s) (IsItemRead way (given_struct fields) d (suc n))
+          IfOk (contained a_map false s) (IsItemRead way (given_struct fields) d (suc n))
       by (Ok is) h = λ j e l fits.
           let (qs, ps, each, order, same) = map-met way (pairs_from is) j e in
           subst (λ x. outcome l (given_struct fields x) ≡ gives d) same

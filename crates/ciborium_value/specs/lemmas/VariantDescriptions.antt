@@ -4,7 +4,7 @@ use Rattle.std.specs.Prelude.{◌≡◌, ◌⊎◌, ℕ, suc, Bool, true, false,
 use Rattle.ciborium_ll.specs.Item.{Item}
 use Rattle.ciborium_value.specs.Described.{AreReadBy, Description, VariantsDescription, is_name_among}
 use Rattle.ciborium_value.specs.{Labels.{fields_of, label_item, named}, Nesting.Limit, NeverWritten.{Avoided, IsNever}}
-use Rattle.ciborium_value.specs.{NeverWritten.{never-container, never-text}, Places.of_map, ReadsBack.IsNameRead}
+use Rattle.ciborium_value.specs.{NeverWritten.{never-container, never-text}, Places.a_map, ReadsBack.IsNameRead}
 use Rattle.ciborium_value.specs.{ReadsBack.Way, Sinks.{Named, in_turn, named_text}, Given.{Given, outcome}}
 use Rattle.ciborium_value.specs.VariantReadings.{Variant, data_variant, enum_of, given_data, given_enum, unit_variant}
 use Rattle.ciborium_value.specs.lemmas.ReadsBackVariants.{data_variant_back, unit_variant_back}
@@ -151,7 +151,7 @@ module _ {V S : Type 0} (name : List ℕ) (d : Description V) (behind : Variants
   data-alike u v same = cc
 
   pub data-never : (a : Avoided) (s : V ⊎ S) → IsNever a (data_named s)
-  data-never a (inl v) = never-container a of_map (in_turn label_item (λ r. r) ((named name, d.written v) ∷ []))
+  data-never a (inl v) = never-container a a_map (in_turn label_item (λ r. r) ((named name, d.written v) ∷ []))
   data-never a (inr s) = behind.never a s
 
 -- a variant of this name with data, before others

@@ -4,7 +4,7 @@ ghost use Rattle.std.specs.Prelude.{◌∷◌, [], encode_utf8, map, pos, string
 ghost use Rattle.ciborium_value.specs.NeverWritten.{never-boolean, never-bytes, never-container};
 ghost use Rattle.ciborium_value.specs.NeverWritten.{never-null, never-number, never-option};
 ghost use Rattle.ciborium_value.specs.NeverWritten.{never-text};
-ghost use Rattle.ciborium_value.specs.Places.{of_map, of_array};
+ghost use Rattle.ciborium_value.specs.Places.{a_map, an_array};
 ghost use Rattle.ciborium_value.specs.Sinks.{in_turn};
 
 use super::{Avoidable, ByteString, NeverWrites, Null};
@@ -38,36 +38,36 @@ impl<I: Avoidable> NeverWrites<I> for String {
 }
 
 impl<T: Serialize, I: Avoidable> NeverWrites<I> for Vec<T> {
-    ghost never = { λ v. never-container I.avoided of_array (map T.written v.items) };
+    ghost never = { λ v. never-container I.avoided an_array (map T.written v.items) };
 }
 
 impl<A: Serialize, I: Avoidable> NeverWrites<I> for (A,) {
-    ghost never = { λ t. never-container I.avoided of_array (A.written t.0 ∷ []) };
+    ghost never = { λ t. never-container I.avoided an_array (A.written t.0 ∷ []) };
 }
 
 impl<A: Serialize, B: Serialize, I: Avoidable> NeverWrites<I> for (A, B) {
-    ghost never = { λ t. never-container I.avoided of_array
+    ghost never = { λ t. never-container I.avoided an_array
         (A.written t.0 ∷ B.written t.1 ∷ []) };
 }
 
 impl<A: Serialize, B: Serialize, C: Serialize, I: Avoidable> NeverWrites<I> for (A, B, C) {
-    ghost never = { λ t. never-container I.avoided of_array
+    ghost never = { λ t. never-container I.avoided an_array
         (A.written t.0 ∷ B.written t.1 ∷ C.written t.2 ∷ []) };
 }
 
 impl<A: Serialize, B: Serialize, C: Serialize, D: Serialize, I: Avoidable> NeverWrites<I>
     for (A, B, C, D) {
-    ghost never = { λ t. never-container I.avoided of_array
+    ghost never = { λ t. never-container I.avoided an_array
         (A.written t.0 ∷ B.written t.1 ∷ C.written t.2 ∷ D.written t.3 ∷ []) };
 }
 
 impl<K: Serialize + Ord, V: Serialize, I: Avoidable> NeverWrites<I> for BTreeMap<K, V> {
-    ghost never = { λ m. never-container I.avoided of_map
+    ghost never = { λ m. never-container I.avoided a_map
         (in_turn K.written V.written m.entries) };
 }
 
 impl<K: Serialize + Ord, V: Serialize, I: Avoidable> NeverWrites<I> for UniqueKeys<K, V> {
-    ghost never = { λ m. never-container I.avoided of_map
+    ghost never = { λ m. never-container I.avoided a_map
         (in_turn K.written V.written m.0.entries) };
 }
 

@@ -1,7 +1,7 @@
 //! Lists, tuples, maps and tags.
 
 ghost use Rattle.std.specs.Prelude.{◌∷◌, ◌⊎◌, [], IfErr, OnErr, OnOk, map};
-ghost use Rattle.ciborium_value.specs.Places.{of_map, of_array};
+ghost use Rattle.ciborium_value.specs.Places.{a_map, an_array};
 ghost use Rattle.ciborium_value.specs.Sinks.{AddsNamed, BreaksNamed, IsGranted, IsOwed, IsReady};
 ghost use Rattle.ciborium_value.specs.Sinks.{container_of, in_turn, tag_of};
 
@@ -12,7 +12,7 @@ use std::collections::BTreeMap;
 
 /// A definite array of the items.
 impl<T: Serialize> Serialize for Vec<T> {
-    ghost written = { λ v. container_of of_array (map T.written v.items) };
+    ghost written = { λ v. container_of an_array (map T.written v.items) };
 
     ghost takes_memory = { T.takes_memory };
 
@@ -28,7 +28,7 @@ impl<T: Serialize> Serialize for Vec<T> {
 
 /// A definite array of the one item.
 impl<A: Serialize> Serialize for (A,) {
-    ghost written = { λ t. container_of of_array (A.written t.0 ∷ []) };
+    ghost written = { λ t. container_of an_array (A.written t.0 ∷ []) };
 
     ghost takes_memory = { A.takes_memory };
 
@@ -39,7 +39,7 @@ impl<A: Serialize> Serialize for (A,) {
 
 /// A definite array of the two items.
 impl<A: Serialize, B: Serialize> Serialize for (A, B) {
-    ghost written = { λ t. container_of of_array (A.written t.0 ∷ B.written t.1 ∷ []) };
+    ghost written = { λ t. container_of an_array (A.written t.0 ∷ B.written t.1 ∷ []) };
 
     ghost takes_memory = { A.takes_memory ⊎ B.takes_memory };
 
@@ -50,7 +50,7 @@ impl<A: Serialize, B: Serialize> Serialize for (A, B) {
 
 /// A definite array of the three items.
 impl<A: Serialize, B: Serialize, C: Serialize> Serialize for (A, B, C) {
-    ghost written = { λ t. container_of of_array
+    ghost written = { λ t. container_of an_array
         (A.written t.0 ∷ B.written t.1 ∷ C.written t.2 ∷ []) };
 
     ghost takes_memory = { A.takes_memory ⊎ B.takes_memory ⊎ C.takes_memory };
@@ -62,7 +62,7 @@ impl<A: Serialize, B: Serialize, C: Serialize> Serialize for (A, B, C) {
 
 /// A definite array of the four items.
 impl<A: Serialize, B: Serialize, C: Serialize, D: Serialize> Serialize for (A, B, C, D) {
-    ghost written = { λ t. container_of of_array
+    ghost written = { λ t. container_of an_array
         (A.written t.0 ∷ B.written t.1 ∷ C.written t.2 ∷ D.written t.3 ∷ []) };
 
     ghost takes_memory = { A.takes_memory ⊎ B.takes_memory ⊎ C.takes_memory ⊎ D.takes_memory };
@@ -74,7 +74,7 @@ impl<A: Serialize, B: Serialize, C: Serialize, D: Serialize> Serialize for (A, B
 
 /// A definite map, in the order of its keys.
 impl<K: Serialize + Ord, V: Serialize> Serialize for BTreeMap<K, V> {
-    ghost written = { λ m. container_of of_map (in_turn K.written V.written m.entries) };
+    ghost written = { λ m. container_of a_map (in_turn K.written V.written m.entries) };
 
     ghost takes_memory = { K.takes_memory ⊎ V.takes_memory };
 
@@ -96,13 +96,13 @@ pub(super) fn serialize_pairs<K: Serialize, V: Serialize, S: Sink>(
 ) -> Result<(), S::Error>
     requires { IsReady S.stands_at sink.old }
     ensures ok { OnOk result (AddsNamed S.stands_at sink.old sink.new
-        (container_of of_map (in_turn K.written V.written pairs.now.items))) }
+        (container_of a_map (in_turn K.written V.written pairs.now.items))) }
     ensures cause { IfErr result (λ e. IsOwed (S.cause e)
-        (container_of of_map (in_turn K.written V.written pairs.now.items))) }
+        (container_of a_map (in_turn K.written V.written pairs.now.items))) }
     ensures memory { IfErr result (λ e. IsGranted (S.cause e)
         (S.takes_memory ⊎ (K.takes_memory ⊎ V.takes_memory))) }
     ensures err { OnErr result (BreaksNamed S.stands_at S.out sink.old sink.new
-        (container_of of_map (in_turn K.written V.written pairs.now.items))) }
+        (container_of a_map (in_turn K.written V.written pairs.now.items))) }
 {
     let count = Some(pairs.len());
     sink.begin_map(count)?;

@@ -3,7 +3,7 @@
 ghost use Rattle.std.specs.Prelude.{◌≡◌, ◌+◌, ◌≤◌, IfErr, IfOk, List, OnErr, OnOk, Option};
 ghost use Rattle.std.specs.Prelude.{Some, ℕ};
 ghost use Rattle.ciborium_value.specs.Nesting.{Limit};
-ghost use Rattle.ciborium_value.specs.Places.{of_array};
+ghost use Rattle.ciborium_value.specs.Places.{an_array};
 ghost use Rattle.ciborium_value.specs.Sources.{HasItem, IsFaultOf};
 ghost use Rattle.ciborium_value.specs.Sources.{TakesOnly, TakesTo};
 ghost use Rattle.ciborium_value.specs.Given.{gives, number_below, outcome, take_each};
@@ -55,7 +55,7 @@ impl<'a, R, A: Access<R>> ByteSource<'a, R, A> {
         ensures refused { IfErr result (λ e. RefusesRest A.remaining self.old seq.old
             (take_each given_byte) (fault_at A.can_fail A.remaining self.new e)) }
         ensures took { OnOk result (TakesTo (IsUnread A.remaining) self.old self.new
-            (λ c z. (b : List ℕ) → SeqOwes seq.old of_array b c → HasItem b z)) }
+            (λ c z. (b : List ℕ) → SeqOwes seq.old an_array b c → HasItem b z)) }
         ensures fewer { OnOk result
             (weight_left self.new ≤ weight_left self.old + seq_left seq.old) }
     {

@@ -1,6 +1,6 @@
 use Rattle.std.proofs.Common.{◌≡◌, ◌+◌, ◌<◌}
 use Rattle.ciborium_ll.specs.Item.{Item}
-use Rattle.ciborium_value.specs.{Labels.Label, Nesting.Limit, Given.outcome, Places.of_map, Sources.TakesTo}
+use Rattle.ciborium_value.specs.{Labels.Label, Nesting.Limit, Given.outcome, Places.a_map, Sources.TakesTo}
 use Rattle.ciborium_value.specs.{Sources.TakesOnly, StructReadings.given_fields}
 use Rattle.ciborium_value.proofs.{Sources.Sequences.{Follows, IsBefore}, Sources.NamedFields.IsInsideFields}
 use Rattle.ciborium_value.proofs.wanted.read_fields.Given as goal
@@ -14,7 +14,7 @@ invariant-loop-seq g l = record {
       (given_fields (g.F.WantedFields.fields l.fn.fields) (g.F.WantedFields.content l.fn.fields)))
       (IsInsideFields g.S.Source.stands_before g.S.Source.seq_stands (g.F.WantedFields.fields l.fn.fields) l.source
       l.seq (g.F.WantedFields.content l.fields));
-  owed : TakesTo g.S.Source.is_unread l.fn.source l.source (g.S.Source.owes l.seq of_map);
+  owed : TakesTo g.S.Source.is_unread l.fn.source l.source (g.S.Source.owes l.seq a_map);
   only : TakesOnly g.S.Source.has_taken l.fn.source l.source;
   less : g.S.Source.left l.source + g.S.Source.seq_left l.seq < g.S.Source.left l.fn.source;
 }

@@ -2,7 +2,7 @@
 use Rattle.ciborium_examples.proofs.OwnTypes.{named_number}
 use Rattle.std.proofs.{Common.{None, refl, ◌≡◌, length, subst, rules}, lemmas.Map.Iter.{rest_more, rest_all}}
 use Rattle.std.{proofs.lemmas.Result.{on_ok_weaker, on_err_weaker}, specs.Map.Iter.deref_pair}
-use Rattle.ciborium.specs.{Places.of_map, Progress.Owes, Sinks.{IsOwed, open_container_of, in_turn}}
+use Rattle.ciborium.specs.{Places.a_map, Progress.Owes, Sinks.{IsOwed, open_container_of, in_turn}}
 use Rattle.ciborium_value.proofs.Writing.Progress.{exits, length-in_turn, on_err, owes_begin, owes_broken, owes_ready}
 use Rattle.ciborium_value.proofs.Writing.Progress.{owes_broken_begin, owes_broken_end, owes_can_end, owes_ends}
 use Rattle.ciborium_value.proofs.Writing.Progress.{owes_entry, owes_more, owes_no_entry, owes_owed}
@@ -11,14 +11,14 @@ use Rattle.ciborium_examples.proofs.own_types.OpenMapSerialize.serialize.Goals a
 pub returns-in_err-begin_map-clause-err : goal.returns-in_err-begin_map-clause-err
 returns-in_err-begin_map-clause-err g c =
     let es = c.args.self.now.0.entries in
-    on_err _ (owes_broken_begin g.S.Sink.stands_at g.S.Sink.out of_map None (in_turn named_number named_number es)
+    on_err _ (owes_broken_begin g.S.Sink.stands_at g.S.Sink.out a_map None (in_turn named_number named_number es)
     c.args.sink.now _ refl (length es, length-in_turn named_number named_number es) c.in_err-begin_map.ensures.err)
 
 pub loop-key-init : goal.loop-key-init
 loop-key-init g c =
     let es = c.args.self.now.0.entries in
     let same : es ≡ c.into_iter-key-iterator.result = search rules in
-    subst (λ l. Owes g.S.Sink.stands_at of_map None (in_turn named_number named_number es) c.args.sink.now
+    subst (λ l. Owes g.S.Sink.stands_at a_map None (in_turn named_number named_number es) c.args.sink.now
     c.begin_map.new.self (in_turn named_number named_number l)) same (owes_begin refl
     (length es, length-in_turn named_number named_number es) c.in_ok-begin_map.ensures.ok)
 
@@ -30,7 +30,7 @@ serialize-requires g c = owes_ready c.requires
 pub returns-in_err-serialize-clause-cause : goal.returns-in_err-serialize-clause-cause
 returns-in_err-serialize-clause-cause g c =
     exits _ c.in_err-serialize.field-0.0 (λ e. IsOwed (g.S.Sink.cause e)
-    (open_container_of of_map (in_turn named_number named_number c.args.self.now.0.entries)))
+    (open_container_of a_map (in_turn named_number named_number c.args.self.now.0.entries)))
     c.from_residual-in_err-serialize.ensures.1 (owes_owed _ (owes_entry named_number named_number
     (rest_more deref_pair _ _ _ (c.in-Some.key, c.in-Some.value) c.in-Some.is c.next.ensures.steps)
     c.loop-key.invariant) c.in_err-serialize.ensures.cause)
@@ -48,7 +48,7 @@ serialize-requires-in-loop-key g c = owes_ready c.requires (owes_more
 pub returns-in_err-serialize-2-clause-cause : goal.returns-in_err-serialize-2-clause-cause
 returns-in_err-serialize-2-clause-cause g c =
     exits _ c.in_err-serialize-2.field-0.0 (λ e. IsOwed (g.S.Sink.cause e)
-    (open_container_of of_map (in_turn named_number named_number c.args.self.now.0.entries)))
+    (open_container_of a_map (in_turn named_number named_number c.args.self.now.0.entries)))
     c.from_residual-in_err-serialize-2.ensures.1 (owes_owed _ (owes_more (owes_entry named_number named_number
     (rest_more deref_pair _ _ _ (c.in-Some.key, c.in-Some.value) c.in-Some.is c.next.ensures.steps)
     c.loop-key.invariant) c.in_ok-serialize.ensures.ok) c.in_err-serialize-2.ensures.cause)

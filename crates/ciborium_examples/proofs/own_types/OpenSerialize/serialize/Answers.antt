@@ -1,7 +1,7 @@
 -- The numbers are written one after the other, between the beginning and the end of an open array.
 use Rattle.ciborium_examples.proofs.OwnTypes.{named_number, owes_number}
 use Rattle.std.proofs.{Common.{None, refl, map, subst, sym}, lemmas.Result.{on_ok_weaker, on_err_weaker}}
-use Rattle.ciborium.specs.{Places.of_array, Progress.Owes, Sinks.{IsOwed, open_container_of}}
+use Rattle.ciborium.specs.{Places.an_array, Progress.Owes, Sinks.{IsOwed, open_container_of}}
 use Rattle.ciborium_value.proofs.Writing.Progress.{exits, on_err, owes_begin, owes_broken, owes_can_end, owes_ready}
 use Rattle.ciborium_value.proofs.Writing.Progress.{owes_broken_begin, owes_broken_end, owes_ends, owes_more}
 use Rattle.ciborium_value.proofs.Writing.Progress.{owes_no_part, owes_owed}
@@ -10,12 +10,12 @@ use Rattle.ciborium_examples.proofs.own_types.OpenSerialize.serialize.Goals as g
 pub returns-in_err-begin_array-clause-err : goal.returns-in_err-begin_array-clause-err
 returns-in_err-begin_array-clause-err g c =
     let xs = c.args.self.now.0.items in
-    on_err _ (owes_broken_begin g.S.Sink.stands_at g.S.Sink.out of_array None (map named_number xs) c.args.sink.now _
+    on_err _ (owes_broken_begin g.S.Sink.stands_at g.S.Sink.out an_array None (map named_number xs) c.args.sink.now _
     refl tt c.in_err-begin_array.ensures.err)
 
 pub loop-number-init : goal.loop-number-init
 loop-number-init g c =
-    subst (λ l. Owes g.S.Sink.stands_at of_array None (map named_number c.args.self.now.0.items) c.args.sink.now
+    subst (λ l. Owes g.S.Sink.stands_at an_array None (map named_number c.args.self.now.0.items) c.args.sink.now
     c.begin_array.new.self (map named_number l)) (sym c.deref-number-items.ensures.value)
     (owes_begin refl tt c.in_ok-begin_array.ensures.ok)
 
@@ -25,7 +25,7 @@ serialize-requires g c = owes_ready c.requires (owes_number _ _ c.loop-number-te
 pub returns-in_err-serialize-clause-cause : goal.returns-in_err-serialize-clause-cause
 returns-in_err-serialize-clause-cause g c =
     exits _ c.in_err-serialize.field-0.0 (λ e. IsOwed (g.S.Sink.cause e)
-    (open_container_of of_array (map named_number c.args.self.now.0.items)))
+    (open_container_of an_array (map named_number c.args.self.now.0.items)))
     c.from_residual-in_err-serialize.ensures.1
     (owes_owed _ (owes_number _ _ c.loop-number-test.true c.loop-number.invariant) c.in_err-serialize.ensures.cause)
 

@@ -1,7 +1,7 @@
 -- A tree is written level by level.
 use Rattle.std.proofs.Common.{◌≡◌, ℕ, pos, Ok, Vec, Global, IfErr, map, rules, subst, sym, ap, ◌∙◌}
 use Rattle.std.proofs.lemmas.Result.{on_ok_weaker, on_err_weaker}
-use Rattle.ciborium.specs.{Encoding.item_of, Number.number_tree, Places.of_array, Sinks.{AddsNamed, BreaksNamed}}
+use Rattle.ciborium.specs.{Encoding.item_of, Number.number_tree, Places.an_array, Sinks.{AddsNamed, BreaksNamed}}
 use Rattle.ciborium.specs.{Sinks.{IsOwed, Named, container_of, number_item}, View.trees_from}
 use Rattle.ciborium_value.proofs.{FoldedTrees.NumberItems.number_tree-item, Writing.WrittenValues.named-parts}
 use Rattle.ciborium_examples.specs.{NumberTrees.shape_of, declared.tree_types.NumberTree.{NumberTree, the_lemmas}}
@@ -23,7 +23,7 @@ leaf : (t : NumberTree) (n : ℕ) → t ≡ tree.Leaf n → Ok (number_item (pos
 leaf t n is = ap Ok (sym (number_tree-item (pos n))) ∙ ap (λ v. Ok (item_of v)) (sym (ap shape_of is ∙ shape-leaf n))
 
 node : (t : NumberTree) (parts : Vec NumberTree Global) → t ≡ tree.Node parts →
-    container_of of_array (map named parts.items) ≡ named t
+    container_of an_array (map named parts.items) ≡ named t
 node t parts is = named-parts shape_of parts.items t (ap shape_of is ∙ shape-node parts)
 
 pub returns-in-Leaf-clause-ok : goal.returns-in-Leaf-clause-ok

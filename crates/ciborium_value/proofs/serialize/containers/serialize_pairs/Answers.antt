@@ -3,13 +3,13 @@ use Rattle.std.proofs.{Common.{Some, ap, length, rules}, lemmas.Result.{on_ok_we
 use Rattle.ciborium_value.proofs.Writing.Progress.{exits, length-in_turn, on_err, owes_begin, owes_broken, owes_ready}
 use Rattle.ciborium_value.proofs.Writing.Progress.{owes_broken_begin, owes_broken_end, owes_can_end, owes_ends}
 use Rattle.ciborium_value.proofs.Writing.Progress.{owes_more, owes_no_pair, owes_owed, owes_pair}
-use Rattle.ciborium_value.specs.{Places.of_map, Sinks.{IsOwed, container_of, in_turn}}
+use Rattle.ciborium_value.specs.{Places.a_map, Sinks.{IsOwed, container_of, in_turn}}
 use Rattle.ciborium_value.proofs.serialize.containers.serialize_pairs.Goals as goal
 
 pub returns-in_err-begin_map-clause-err : goal.returns-in_err-begin_map-clause-err
 returns-in_err-begin_map-clause-err g c =
     let ps = c.args.pairs.now.items in
-    on_err _ (owes_broken_begin g.S.Sink.stands_at g.S.Sink.out of_map (Some (length ps))
+    on_err _ (owes_broken_begin g.S.Sink.stands_at g.S.Sink.out a_map (Some (length ps))
     (in_turn g.K.Serialize.written g.V.Serialize.written ps) c.args.sink.now _ (ap Some (search rules))
     (length-in_turn g.K.Serialize.written g.V.Serialize.written ps) c.in_err-begin_map.ensures.err)
 
@@ -27,7 +27,7 @@ serialize-requires g c = owes_ready c.requires
 pub returns-in_err-serialize-clause-cause : goal.returns-in_err-serialize-clause-cause
 returns-in_err-serialize-clause-cause g c =
     exits _ c.in_err-serialize.field-0.0 (λ e. IsOwed (g.S.Sink.cause e)
-    (container_of of_map (in_turn g.K.Serialize.written g.V.Serialize.written c.args.pairs.now.items)))
+    (container_of a_map (in_turn g.K.Serialize.written g.V.Serialize.written c.args.pairs.now.items)))
     c.from_residual-in_err-serialize.ensures.1 (owes_owed _ (owes_pair g.K.Serialize.written g.V.Serialize.written _ _
     c.loop-pair-test.true c.pair-item.is c.loop-pair.invariant) c.in_err-serialize.ensures.cause)
 
@@ -44,7 +44,7 @@ serialize-requires-in-loop-pair g c = owes_ready c.requires (owes_more
 pub returns-in_err-serialize-2-clause-cause : goal.returns-in_err-serialize-2-clause-cause
 returns-in_err-serialize-2-clause-cause g c =
     exits _ c.in_err-serialize-2.field-0.0 (λ e. IsOwed (g.S.Sink.cause e)
-    (container_of of_map (in_turn g.K.Serialize.written g.V.Serialize.written c.args.pairs.now.items)))
+    (container_of a_map (in_turn g.K.Serialize.written g.V.Serialize.written c.args.pairs.now.items)))
     c.from_residual-in_err-serialize-2.ensures.1 (owes_owed _ (owes_more (owes_pair g.K.Serialize.written
     g.V.Serialize.written _ _ c.loop-pair-test.true c.pair-item.is c.loop-pair.invariant) c.in_ok-serialize.ensures.ok)
     c.in_err-serialize-2.ensures.cause)

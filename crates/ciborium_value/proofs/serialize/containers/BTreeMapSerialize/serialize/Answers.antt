@@ -4,13 +4,13 @@ use Rattle.std.{proofs.lemmas.Result.{on_ok_weaker, on_err_weaker}, specs.Map.It
 use Rattle.ciborium_value.proofs.Writing.Progress.{exits, length-in_turn, on_err, owes_begin, owes_broken, owes_ready}
 use Rattle.ciborium_value.proofs.Writing.Progress.{owes_broken_begin, owes_broken_end, owes_can_end, owes_ends}
 use Rattle.ciborium_value.proofs.Writing.Progress.{owes_entry, owes_more, owes_no_entry, owes_owed}
-use Rattle.ciborium_value.specs.{Places.of_map, Sinks.{IsOwed, container_of, in_turn}}
+use Rattle.ciborium_value.specs.{Places.a_map, Sinks.{IsOwed, container_of, in_turn}}
 use Rattle.ciborium_value.proofs.serialize.containers.BTreeMapSerialize.serialize.Goals as goal
 
 pub returns-in_err-begin_map-clause-err : goal.returns-in_err-begin_map-clause-err
 returns-in_err-begin_map-clause-err g c =
     let es = c.args.self.now.entries in
-    on_err _ (owes_broken_begin g.S.Sink.stands_at g.S.Sink.out of_map (Some (length es))
+    on_err _ (owes_broken_begin g.S.Sink.stands_at g.S.Sink.out a_map (Some (length es))
     (in_turn g.K.Serialize.written g.V.Serialize.written es) c.args.sink.now _ (ap Some c.len.ensures.len)
     (length-in_turn g.K.Serialize.written g.V.Serialize.written es) c.in_err-begin_map.ensures.err)
 
@@ -29,7 +29,7 @@ serialize-requires g c = owes_ready c.requires
 pub returns-in_err-serialize-clause-cause : goal.returns-in_err-serialize-clause-cause
 returns-in_err-serialize-clause-cause g c =
     exits _ c.in_err-serialize.field-0.0 (λ e. IsOwed (g.S.Sink.cause e)
-    (container_of of_map (in_turn g.K.Serialize.written g.V.Serialize.written c.args.self.now.entries)))
+    (container_of a_map (in_turn g.K.Serialize.written g.V.Serialize.written c.args.self.now.entries)))
     c.from_residual-in_err-serialize.ensures.1 (owes_owed _ (owes_entry g.K.Serialize.written g.V.Serialize.written
     (rest_more deref_pair _ _ _ (c.in-Some.key, c.in-Some.value) c.in-Some.is c.next.ensures.steps)
     c.loop-key.invariant) c.in_err-serialize.ensures.cause)
@@ -47,7 +47,7 @@ serialize-requires-in-loop-key g c = owes_ready c.requires (owes_more
 pub returns-in_err-serialize-2-clause-cause : goal.returns-in_err-serialize-2-clause-cause
 returns-in_err-serialize-2-clause-cause g c =
     exits _ c.in_err-serialize-2.field-0.0 (λ e. IsOwed (g.S.Sink.cause e)
-    (container_of of_map (in_turn g.K.Serialize.written g.V.Serialize.written c.args.self.now.entries)))
+    (container_of a_map (in_turn g.K.Serialize.written g.V.Serialize.written c.args.self.now.entries)))
     c.from_residual-in_err-serialize-2.ensures.1 (owes_owed _ (owes_more (owes_entry g.K.Serialize.written
     g.V.Serialize.written (rest_more deref_pair _ _ _ (c.in-Some.key, c.in-Some.value) c.in-Some.is
     c.next.ensures.steps) c.loop-key.invariant) c.in_ok-serialize.ensures.ok) c.in_err-serialize-2.ensures.cause)

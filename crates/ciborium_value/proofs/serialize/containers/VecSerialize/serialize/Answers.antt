@@ -3,14 +3,14 @@ use Rattle.std.proofs.{Common.{Some, ap, map, length, rules}, lemmas.Result.{on_
 use Rattle.ciborium_value.proofs.Writing.Progress.{exits, length-map, on_err, owes_begin, owes_broken, owes_can_end}
 use Rattle.ciborium_value.proofs.Writing.Progress.{owes_broken_begin, owes_broken_end, owes_ends, owes_more}
 use Rattle.ciborium_value.proofs.Writing.Progress.{owes_no_part, owes_owed, owes_part, owes_ready}
-use Rattle.ciborium_value.specs.{Places.of_array}
+use Rattle.ciborium_value.specs.{Places.an_array}
 use Rattle.ciborium_value.specs.Sinks.{IsOwed, container_of}
 use Rattle.ciborium_value.proofs.serialize.containers.VecSerialize.serialize.Goals as goal
 
 pub returns-in_err-begin_array-clause-err : goal.returns-in_err-begin_array-clause-err
 returns-in_err-begin_array-clause-err g c =
     let xs = c.args.self.now.items in
-    on_err _ (owes_broken_begin g.S.Sink.stands_at g.S.Sink.out of_array (Some (length xs))
+    on_err _ (owes_broken_begin g.S.Sink.stands_at g.S.Sink.out an_array (Some (length xs))
     (map g.T.Serialize.written xs) c.args.sink.now _ (ap Some (search rules)) (length-map g.T.Serialize.written xs)
     c.in_err-begin_array.ensures.err)
 
@@ -28,7 +28,7 @@ serialize-requires g c = owes_ready c.requires
 pub returns-in_err-serialize-clause-cause : goal.returns-in_err-serialize-clause-cause
 returns-in_err-serialize-clause-cause g c =
     exits _ c.in_err-serialize.field-0.0 (λ e. IsOwed (g.S.Sink.cause e)
-    (container_of of_array (map g.T.Serialize.written c.args.self.now.items)))
+    (container_of an_array (map g.T.Serialize.written c.args.self.now.items)))
     c.from_residual-in_err-serialize.ensures.1
     (owes_owed _ (owes_part g.T.Serialize.written _ _ c.loop-item-test.true c.item-item.is c.loop-item.invariant)
     c.in_err-serialize.ensures.cause)
