@@ -8,3 +8,4 @@ pub mod Stacked
 pub mod MadeOfValues
 pub mod ProperValues
 pub mod Notations
+pub mod Copies
