@@ -4,7 +4,7 @@ use Rattle.ciborium_ll.{proofs.UniqueSpelling.one_item, specs.{Bytes.greatest_of
 use Rattle.ciborium_value.proofs.GoodItems.{GoodBytes.item_bytes, ProperMeanings.proper_meaning}
 use Rattle.ciborium_value.proofs.Writing.Written.{written_spells, IsProperItem-item_of}
 use Rattle.ciborium_value.specs.{DeterministicTrees.IsDeterministic, Encoding.item_of, Meaning.meaning, Nesting.nesting}
-use Rattle.ciborium_value.specs.{Nesting.{Limit, IsWithin}, Spelling.{Spelling, any, deterministic, IsReadAs}}
+use Rattle.ciborium_value.specs.{Nesting.{Limit, IsWithin}, Spelling.{any, deterministic, IsReadAs}}
 use Rattle.ciborium_value.specs.{Tree.Tree, declared.key_order.KeyOrder.KeyOrder, laws.RefusalLaws.DeterministicReading}
 
 -- what a spelling accepts is read in any

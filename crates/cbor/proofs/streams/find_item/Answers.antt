@@ -1,3 +1,4 @@
+use Rattle.std.proofs.{Common.arith, lemmas.Grind.common_steps}
 use Rattle.cbor.proofs.StreamedItems.{front-before}
 use Rattle.cbor.proofs.streams.find_item.Goals as goal
 
@@ -8,3 +9,6 @@ returns-in-Ok c =
 
 pub returns : goal.returns
 returns c = let (fits, item) = c.in-Ok-item_len.ensures in (fits, item, c.judge_item-item.ensures item)
+
+pub overflow_sub-result : goal.overflow_sub-result
+overflow_sub-result c = grind (arith, common_steps)

@@ -1,3 +1,4 @@
+use Rattle.std.proofs.{Common.arith, lemmas.Grind.common_steps}
 use Rattle.std.proofs.{Common.rules, lemmas.Result.err_from_is_err_and}
 use Rattle.ciborium_ll.proofs.CopiedItems.{more-copied, more-ended}
 use Rattle.ciborium_ll.proofs.item_bytes.copy_heads.Goals as goal
@@ -27,3 +28,9 @@ pieces-preserved g c = record {
   copied = more-copied _ _ _ _ _ _ c.pieces.invariant.copied c.in_ok-count.ensures.copied;
   some = search rules;
 }
+
+pub slice_bounds-find_missing-count : goal.slice_bounds-find_missing-count
+slice_bounds-find_missing-count g c = grind (arith, common_steps)
+
+pub slice_bounds-find_missing-start : goal.slice_bounds-find_missing-start
+slice_bounds-find_missing-start g c = grind (arith, common_steps)

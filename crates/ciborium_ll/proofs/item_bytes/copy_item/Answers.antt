@@ -1,3 +1,4 @@
+use Rattle.std.proofs.{Common.arith, lemmas.Grind.common_steps}
 use Rattle.std.proofs.{Common.{◌≡◌, List, ℕ, ◌++◌, IsTrue, [], rules, subst, ◌∙◌}, lemmas.List.drop_at}
 use Rattle.ciborium_ll.{proofs.{CopiedItems.taken-judged, HeadsRead.behind-bytes}, specs.ItemBytes.IsCopyOf}
 use Rattle.ciborium_ll.proofs.item_bytes.copy_item.Goals as goal
@@ -15,3 +16,9 @@ returns g c =
           (subst (λ x. (left : List ℕ) → (IsTrue is_end → left ≡ []) → IsCopyOf (x ++ left) x c.judge_copy.result) same
           c.judge_copy.ensures),
     )
+
+pub slice_bounds-judge_copy-count : goal.slice_bounds-judge_copy-count
+slice_bounds-judge_copy-count g c = grind (arith, common_steps)
+
+pub slice_bounds-judge_copy-start : goal.slice_bounds-judge_copy-start
+slice_bounds-judge_copy-start g c = grind (arith, common_steps)

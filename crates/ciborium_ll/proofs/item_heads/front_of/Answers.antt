@@ -1,3 +1,4 @@
+use Rattle.std.proofs.lemmas.Grind.{common_steps}
 use Rattle.std.proofs.Common.{◌≡◌, ℕ, ◌+◌, ◌≤◌, true, List, ◌∷◌, length, get_or, take, drop, slice_range}
 use Rattle.std.proofs.Common.{arith, subst, sym, ap, ◌∙◌, take-append-drop}
 use Rattle.ciborium_ll.proofs.{Cursors.are-bytes, HeldBytes.head-bytes, LevelMisfits.ill-more}
@@ -33,3 +34,6 @@ returns-then-is_empty-clause-bytes c = are-bytes c.args.held.now c.type_inv.held
 
 pub returns-then-held-size-clause-bytes : goal.returns-then-held-size-clause-bytes
 returns-then-held-size-clause-bytes c = are-bytes c.args.held.now c.type_inv.held
+
+pub returns-then-held-size-clause-front : goal.returns-then-held-size-clause-front
+returns-then-held-size-clause-front c = grind (arith, common_steps)

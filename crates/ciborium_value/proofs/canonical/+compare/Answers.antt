@@ -173,3 +173,6 @@ compare_pairs-returns-clause-decides t c =
     let other_beyond : length c.args.right.now.items ≤ c.loop-index.index =
     omega (arith, beyond, c.requires.as_many, c.args.left.now.ok.0, c.args.right.now.ok.0) in
     same_decides _ _ (pairs_all _ _ _ beyond other_beyond c.loop-index.invariant.same)
+
+pub compare-returns-in_default-6-clause-visits : goal.compare-returns-in_default-6-clause-visits
+compare-returns-in_default-6-clause-visits t c = search (rules, the_lemmas)

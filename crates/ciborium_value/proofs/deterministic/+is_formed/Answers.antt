@@ -1,3 +1,6 @@
+use Rattle.std.proofs.Common.{rules}
+use Rattle.ciborium_value.specs.declared.tree.Value.{the_lemmas}
+use Rattle.std.proofs.{Common.arith, lemmas.Grind.common_steps}
 use Rattle.std.proofs.Common.{subst, ap, sym, ◌∙◌, add-one}
 use Rattle.ciborium_value.proofs.Forms.FormedLists.{failed, AreFormed-more, formed_at, PairsAreFormed-more}
 use Rattle.ciborium_value.proofs.{Forms.FormedLists.pair_formed_at, Trees.{Elements.at, Views.tree_of-Map}}
@@ -48,3 +51,18 @@ pub pairs_are_formed-loop-pair-preserved : goal.pairs_are_formed-loop-pair-prese
 pairs_are_formed-loop-pair-preserved t c =
     rw add-one (PairsAreFormed-more c.args.order (at c.loop-pair-test.true c.pair-item.is) c.loop-pair.invariant
     (c.is_formed.ensures.0 c.if-not-is_formed.false) (c.is_formed-in-loop-pair.ensures.0 c.if-not-is_formed-2.false))
+
+pub pairs_are_formed-returns : goal.pairs_are_formed-returns
+pairs_are_formed-returns t c = grind (arith, common_steps)
+
+pub is_formed-returns-in-None : goal.is_formed-returns-in-None
+is_formed-returns-in-None t c = search (rules, the_lemmas)
+
+pub is_formed-returns-in-Array : goal.is_formed-returns-in-Array
+is_formed-returns-in-Array t c = search (rules, the_lemmas)
+
+pub is_formed-returns-in-Some : goal.is_formed-returns-in-Some
+is_formed-returns-in-Some t c = search (rules, the_lemmas)
+
+pub is_formed-returns-then-keys_rise : goal.is_formed-returns-then-keys_rise
+is_formed-returns-then-keys_rise t c = search (rules, the_lemmas)

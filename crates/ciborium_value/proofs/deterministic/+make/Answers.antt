@@ -182,3 +182,6 @@ make_pairs-returns t c = record {
   alike = pairs_alike c.args.pairs.now.len (made_weaker (λ p q r. (r.0.1, r.1.1)) c.loop-pair.invariant.so_far)
       c.args.pairs.now.ok.0;
 }
+
+pub make-returns-in-Array-clause-ok : goal.make-returns-in-Array-clause-ok
+make-returns-in-Array-clause-ok t c = search (rules, the_lemmas)

@@ -1,3 +1,4 @@
+use Rattle.std.proofs.{Common.arith, lemmas.Grind.common_steps}
 use Rattle.std.proofs.Common.{[], add-one, refl, rules, sym, ap, ◌∙◌}
 use Rattle.ciborium_value.proofs.Trees.Elements.{at}
 use Rattle.ciborium_value.specs.{Notation.notation_on, View.tree_of}
@@ -62,3 +63,9 @@ write_pairs-loop-pair-preserved g t c =
           (λ f. then (c.in_ok-write_str-2.ensures.styled f refl)
           (λ f. c.in_ok-write_value-2.ensures f refl)))))),
     )
+
+pub write_pairs-returns : goal.write_pairs-returns
+write_pairs-returns g t c = grind (arith, common_steps)
+
+pub write_items-returns : goal.write_items-returns
+write_items-returns g t c = grind (arith, common_steps)

@@ -1,3 +1,4 @@
+use Rattle.std.proofs.{Common.arith, lemmas.Grind.common_steps}
 use Rattle.std.proofs.Common.{ap, refl, subst, ◌-◌, ◌≡◌, ◌≤◌, true, take, length}
 use Rattle.ciborium_ll.proofs.HeadsRead.{behind-bytes, cut-inside-head, cut-inside-payload, ends-in-head}
 use Rattle.ciborium_ll.proofs.HeadsRead.{ends-in-payload, front-behind, head-read, malformed, misplaced, no-chunk}
@@ -101,3 +102,9 @@ returns c h =
         levels = c.in-Ok.ensures;
       },
     )
+
+pub overflow_add-self-2 : goal.overflow_add-self-2
+overflow_add-self-2 h = grind (arith, common_steps)
+
+pub overflow_sub-depth : goal.overflow_sub-depth
+overflow_sub-depth h = grind (arith, common_steps)

@@ -17,3 +17,9 @@ digits-preserved-in_ok-push c =
       c.push.ensures.group,
       grind (arith, common_steps),
     )
+
+pub digits-preserved : goal.digits-preserved
+digits-preserved c = grind (arith, common_steps)
+
+pub digits-preserved-in_default-push : goal.digits-preserved-in_default-push
+digits-preserved-in_default-push c = grind (arith, common_steps)

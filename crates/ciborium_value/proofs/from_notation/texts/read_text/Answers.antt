@@ -51,3 +51,6 @@ returns-in-34-clause-shorter c = IfOk-weaker c.end_text.result _ _ (λ p h. omeg
   ap length (whole_rest 1 c.in_ok-special.special.now),
   length-drop 1 c.in_ok-special.special.now,
 )) c.end_text.ensures.shorter
+
+pub returns-in_err-rest-in-92-clause-refused : goal.returns-in_err-rest-in-92-clause-refused
+returns-in_err-rest-in-92-clause-refused c = grind (arith, common_steps)

@@ -1,3 +1,5 @@
+use Rattle.std.proofs.Common.{arith}
+use Rattle.std.proofs.lemmas.Grind.{common_steps}
 use Rattle.std.proofs.Common.{rules, sym, ◌∙◌, ap}
 use Rattle.ciborium_value.{proofs.Trees.Stacked.still-placed, specs.{View.tree_of, inner.Stack.{filled_of, frame_of}}}
 use Rattle.ciborium_value.proofs.stack.Stack.place.Goals as goal
@@ -8,3 +10,9 @@ returns-in-None c =
     (search rules) (search rules) c.in-Some.ensures.value
     (ap (λ r. filled_of r (frame_of c.fill.new.frame)) (sym c.in-None.is) ∙ c.in_ok-fill.ensures) ∙
     c.loop-frame.invariant
+
+pub loop-frame-preserved : goal.loop-frame-preserved
+loop-frame-preserved c = grind (arith, common_steps)
+
+pub returns : goal.returns
+returns c = grind (arith, common_steps)

@@ -1,3 +1,4 @@
+use Rattle.std.proofs.lemmas.Grind.{common_steps}
 use Rattle.std.proofs.Common.{◌≡◌, ◌∙◌, ◌<◌, ◌-◌, suc, None, length, drop, sym, subst, arith, ap}
 use Rattle.std.proofs.lemmas.List.{get_or_default}
 use Rattle.ciborium_value.{proofs.Trees.LookedUp.last_found, specs.{Labels.is_label, Lookups.{last_with, tree_label}}}
@@ -15,3 +16,6 @@ returns-then-is_under g c = let i = c.loop-end.end - 1 in let ps = c.args.pairs.
       label = λ d. ap (λ q. is_label (tree_label (tree_of q.0)) l) (sym (get_or_default ps i p d h)) ∙ is_it;
       none_behind = none;
     }
+
+pub loop-end-preserved : goal.loop-end-preserved
+loop-end-preserved g c = grind (arith, common_steps)

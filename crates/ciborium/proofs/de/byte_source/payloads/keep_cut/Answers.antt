@@ -1,3 +1,4 @@
+use Rattle.std.proofs.lemmas.Grind.{common_steps}
 use Rattle.std.proofs.Common.{◌≡◌, ◌+◌, ◌-◌, ◌++◌, ◌∙◌, ℕ, List, ap, append-nil, arith, drop, length, length-drop, sym}
 use Rattle.std.proofs.{Common.{take, take-append-drop, take_all}, lemmas.List.Edits.take-paste, Math.Seq.paste}
 use Rattle.ciborium.proofs.de.byte_source.payloads.keep_cut.Goals as goal
@@ -28,3 +29,6 @@ returns-else-kept-gt0-clause-kept c =
       c.in_ok-whole.ensures.whole,
       sym (ap (λ k. take whole b ++ take k b) none ∙ append-nil (take whole b) ∙ all),
     )
+
+pub returns-then-kept-gt0-clause-cut : goal.returns-then-kept-gt0-clause-cut
+returns-then-kept-gt0-clause-cut c = grind (arith, common_steps)
