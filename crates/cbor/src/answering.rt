@@ -161,10 +161,13 @@ fn answer_canon(
     };
     match value.make_deterministic(order) {
         Ok(()) => {
-            write_encoding(&value, buffers)?;
+            let written = write_encoding(&value, buffers);
+            drop(value);
+            written?;
             Ok(true)
         }
         Err(kind) => {
+            drop(value);
             buffers.text.clear();
             buffers.text.extend_from_slice(name_want(kind))?;
             Ok(false)
@@ -188,7 +191,9 @@ fn answer_diag(
         return Ok(false);
     };
     buffers.text.clear();
-    push_notation(&value, layout, &mut buffers.text)?;
+    let pushed = push_notation(&value, layout, &mut buffers.text);
+    drop(value);
+    pushed?;
     Ok(true)
 }
 
@@ -207,7 +212,9 @@ fn answer_encoding(
         return Ok(false);
     };
     buffers.text.clear();
-    push_encoding(&value, &mut buffers.bytes, &mut buffers.text)?;
+    let pushed = push_encoding(&value, &mut buffers.bytes, &mut buffers.text);
+    drop(value);
+    pushed?;
     Ok(true)
 }
 
@@ -225,7 +232,9 @@ fn answer_item(
     let Some(value) = read_or_refuse(alloc, line, spelling, limit, buffers)? else {
         return Ok(false);
     };
-    write_encoding(&value, buffers)?;
+    let written = write_encoding(&value, buffers);
+    drop(value);
+    written?;
     Ok(true)
 }
 

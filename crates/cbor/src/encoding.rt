@@ -72,7 +72,9 @@ fn put_encodings<R: Read, W: Write>(
             write_refused_line(number, &buffer, message)?;
             return Ok(false);
         };
-        put_encoding(&value, &mut buffer, waiting, output)?;
+        let put = put_encoding(&value, &mut buffer, waiting, output);
+        drop(value);
+        put?;
     }
     // Unreachable in practice: no device gives so many lines.
     Err(Fault::Input)

@@ -63,6 +63,7 @@ fn read_bytes(
             let mut rest = bytes;
             let value = read_front(alloc, &mut rest, spelling, limit)?;
             if !rest.is_empty() {
+                drop(value);
                 return Err(LineRefusal::Trailing(rest.len()));
             }
             Ok(value)

@@ -41,7 +41,11 @@ pub fn answer_items(
             return Ok(true);
         }
         match read_front(alloc, &mut rest, Spelling::Any, RECURSION_LIMIT) {
-            Ok(value) => push_item(&value, buffer, text)?,
+            Ok(value) => {
+                let pushed = push_item(&value, buffer, text);
+                drop(value);
+                pushed?;
+            }
             Err(refusal) => {
                 write_refused_item(number, refusal, text)?;
                 return Ok(false);

@@ -252,6 +252,7 @@ fn read_behind<R: Read + Drop>(
         Ok((value, size)) => {
             // It nests deeper than 256 levels, and what was taken is only its beginning.
             if !whole.taken.is_empty() {
+                drop(value);
                 return Err(Fault::Input);
             }
             Ok((Next::Item(Ok(value), size), whole.reader))
@@ -417,11 +418,14 @@ fn write_judged(
     match item {
         Ok(mut value) => {
             if let Err(kind) = make_shown(&mut value, showing) {
+                drop(value);
                 write_formless_item(number, kind, line)?;
                 return Ok(false);
             }
             line.clear();
-            push_shown(&value, showing, buffer, line)?;
+            let pushed = push_shown(&value, showing, buffer, line);
+            drop(value);
+            pushed?;
             Ok(true)
         }
         Err(refusal) => {

@@ -56,7 +56,10 @@ pub(crate) fn copy_pairs(
     let mut copies = Vec::new(alloc);
     for pair in pairs {
         let key = copy(&pair.0)?;
-        let value = copy(&pair.1)?;
+        let Ok(value) = copy(&pair.1) else {
+            drop(key);
+            return Err(AllocError);
+        };
         copies.push((key, value))?;
     }
     Ok(copies)

@@ -34,7 +34,8 @@ impl Value {
             alloc,
         };
         value.serialize(&mut sink)?;
-        match sink.whole.take() {
+        let TreeSink { whole, .. } = sink;
+        match whole {
             Some(value) => Ok(value),
             None => unreachable!(),
         }

@@ -28,16 +28,14 @@ fn place<S: Rules>(
     ensures { IsPlacedInOrder S.spelling (frames_of stack.old) (tree_of value) end
         (frames_of stack.new) result }
 {
-    let placed = match stack.place(value) {
-        Ok(placed) => placed,
-        Err(AllocError) => return Err(Error::Memory),
-    };
-    if placed.is_none() {
-        if let Some(offset) = S::find_disorder(stack, end) {
-            return Err(Error::Semantic(Some(offset), Kind::KeyOrder));
-        }
+    match stack.place(value) {
+        Ok(None) => match S::find_disorder(stack, end) {
+            Some(offset) => Err(Error::Semantic(Some(offset), Kind::KeyOrder)),
+            None => Ok(None),
+        },
+        Ok(whole) => Ok(whole),
+        Err(AllocError) => Err(Error::Memory),
     }
-    Ok(placed)
 }
 
 // Reads one part, and answers the value where it is the last.

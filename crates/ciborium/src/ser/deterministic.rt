@@ -70,7 +70,10 @@ fn form_of<T: Serialize>(
     };
     match tree.make_deterministic(order) {
         Ok(()) => Ok(tree),
-        Err(kind) => Err(Error::Value(kind)),
+        Err(kind) => {
+            drop(tree);
+            Err(Error::Value(kind))
+        }
     }
 }
 

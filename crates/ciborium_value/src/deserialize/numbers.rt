@@ -55,8 +55,10 @@ impl Deserialize for u8 {
 
     #[inline(always)]
     fn deserialize<S: Source>(_alloc: Global, source: &mut S) -> Result<u8, S::Error> {
-        let number = unsigned(source, u128::from(u8::MAX))?;
-        Ok(number as u8)
+        match unsigned(source, u128::from(u8::MAX)) {
+            Ok(number) => Ok(number as u8),
+            Err(e) => Err(e),
+        }
     }
 }
 
@@ -73,8 +75,10 @@ impl Deserialize for u16 {
 
     #[inline(always)]
     fn deserialize<S: Source>(_alloc: Global, source: &mut S) -> Result<u16, S::Error> {
-        let number = unsigned(source, u128::from(u16::MAX))?;
-        Ok(number as u16)
+        match unsigned(source, u128::from(u16::MAX)) {
+            Ok(number) => Ok(number as u16),
+            Err(e) => Err(e),
+        }
     }
 }
 
@@ -91,8 +95,10 @@ impl Deserialize for u32 {
 
     #[inline(always)]
     fn deserialize<S: Source>(_alloc: Global, source: &mut S) -> Result<u32, S::Error> {
-        let number = unsigned(source, u128::from(u32::MAX))?;
-        Ok(number as u32)
+        match unsigned(source, u128::from(u32::MAX)) {
+            Ok(number) => Ok(number as u32),
+            Err(e) => Err(e),
+        }
     }
 }
 
@@ -109,8 +115,10 @@ impl Deserialize for u64 {
 
     #[inline(always)]
     fn deserialize<S: Source>(_alloc: Global, source: &mut S) -> Result<u64, S::Error> {
-        let number = unsigned(source, u128::from(u64::MAX))?;
-        Ok(number as u64)
+        match unsigned(source, u128::from(u64::MAX)) {
+            Ok(number) => Ok(number as u64),
+            Err(e) => Err(e),
+        }
     }
 }
 
@@ -127,8 +135,7 @@ impl Deserialize for u128 {
 
     #[inline(always)]
     fn deserialize<S: Source>(_alloc: Global, source: &mut S) -> Result<u128, S::Error> {
-        let number = unsigned(source, u128::MAX)?;
-        Ok(number)
+        unsigned(source, u128::MAX)
     }
 }
 
@@ -145,8 +152,10 @@ impl Deserialize for usize {
 
     #[inline(always)]
     fn deserialize<S: Source>(_alloc: Global, source: &mut S) -> Result<usize, S::Error> {
-        let number = unsigned(source, usize::MAX as u128)?;
-        Ok(number as usize)
+        match unsigned(source, usize::MAX as u128) {
+            Ok(number) => Ok(number as usize),
+            Err(e) => Err(e),
+        }
     }
 }
 
@@ -163,8 +172,10 @@ impl Deserialize for i8 {
 
     #[inline(always)]
     fn deserialize<S: Source>(_alloc: Global, source: &mut S) -> Result<i8, S::Error> {
-        let number = signed(source, i8::MAX as u128)?;
-        Ok(number as i8)
+        match signed(source, i8::MAX as u128) {
+            Ok(number) => Ok(number as i8),
+            Err(e) => Err(e),
+        }
     }
 }
 
@@ -181,8 +192,10 @@ impl Deserialize for i16 {
 
     #[inline(always)]
     fn deserialize<S: Source>(_alloc: Global, source: &mut S) -> Result<i16, S::Error> {
-        let number = signed(source, i16::MAX as u128)?;
-        Ok(number as i16)
+        match signed(source, i16::MAX as u128) {
+            Ok(number) => Ok(number as i16),
+            Err(e) => Err(e),
+        }
     }
 }
 
@@ -199,8 +212,10 @@ impl Deserialize for i32 {
 
     #[inline(always)]
     fn deserialize<S: Source>(_alloc: Global, source: &mut S) -> Result<i32, S::Error> {
-        let number = signed(source, i32::MAX as u128)?;
-        Ok(number as i32)
+        match signed(source, i32::MAX as u128) {
+            Ok(number) => Ok(number as i32),
+            Err(e) => Err(e),
+        }
     }
 }
 
@@ -217,8 +232,10 @@ impl Deserialize for i64 {
 
     #[inline(always)]
     fn deserialize<S: Source>(_alloc: Global, source: &mut S) -> Result<i64, S::Error> {
-        let number = signed(source, i64::MAX as u128)?;
-        Ok(number as i64)
+        match signed(source, i64::MAX as u128) {
+            Ok(number) => Ok(number as i64),
+            Err(e) => Err(e),
+        }
     }
 }
 
@@ -235,8 +252,7 @@ impl Deserialize for i128 {
 
     #[inline(always)]
     fn deserialize<S: Source>(_alloc: Global, source: &mut S) -> Result<i128, S::Error> {
-        let number = signed(source, i128::MAX as u128)?;
-        Ok(number)
+        signed(source, i128::MAX as u128)
     }
 }
 
@@ -253,8 +269,10 @@ impl Deserialize for isize {
 
     #[inline(always)]
     fn deserialize<S: Source>(_alloc: Global, source: &mut S) -> Result<isize, S::Error> {
-        let number = signed(source, isize::MAX as u128)?;
-        Ok(number as isize)
+        match signed(source, isize::MAX as u128) {
+            Ok(number) => Ok(number as isize),
+            Err(e) => Err(e),
+        }
     }
 }
 

@@ -68,7 +68,13 @@ fn fold_pairs(alloc: Global, pairs: &[(Value, Value)]) -> Result<Vec<(Value, Val
     let mut copies = Vec::new(alloc);
     for pair in pairs {
         let key = fold_value(alloc, &pair.0)?;
-        let value = fold_value(alloc, &pair.1)?;
+        let value = match fold_value(alloc, &pair.1) {
+            Ok(value) => value,
+            Err(e) => {
+                drop(key);
+                return Err(e);
+            }
+        };
         copies.push((key, value))?;
     }
     Ok(copies)

@@ -86,7 +86,10 @@ impl Levels {
         };
         match self.levels.last() {
             None => Ok(value),
-            Some(level) => Err(NotationError::At(0, fault_behind(level))),
+            Some(level) => {
+                drop(value);
+                Err(NotationError::At(0, fault_behind(level)))
+            }
         }
     }
 
@@ -176,6 +179,7 @@ impl Levels {
         ensures limit { self.new.limit ≡ self.old.limit }
     {
         let Some(level) = self.levels.pop() else {
+            drop(value);
             return Err(NotationError::At(place, NotationFault::End));
         };
         let step = match step_behind(self.alloc, level, value, token, place) {
@@ -229,7 +233,10 @@ fn step_behind_item(
             items.push(value)?;
             Ok(Step::End(Value::Array(items)))
         }
-        _ => Err(NotationError::At(place, NotationFault::ArrayEnd)),
+        _ => {
+            drop(value);
+            Err(NotationError::At(place, NotationFault::ArrayEnd))
+        }
     }
 }
 
@@ -245,7 +252,10 @@ fn step_behind_key(
 {
     match token {
         Token::Colon => Ok(Step::More(Level::Values(pairs, value))),
-        _ => Err(NotationError::At(place, NotationFault::Colon)),
+        _ => {
+            drop(value);
+            Err(NotationError::At(place, NotationFault::Colon))
+        }
     }
 }
 
@@ -268,7 +278,10 @@ fn step_behind_value(
             pairs.push(pair)?;
             Ok(Step::End(Value::Map(pairs)))
         }
-        _ => Err(NotationError::At(place, NotationFault::MapEnd)),
+        _ => {
+            drop(pair);
+            Err(NotationError::At(place, NotationFault::MapEnd))
+        }
     }
 }
 
@@ -284,7 +297,10 @@ fn step_behind_content(
 {
     match token {
         Token::EndTag => Ok(Step::End(Value::Tag(tag, Box::new(alloc, value)?))),
-        _ => Err(NotationError::At(place, NotationFault::TagEnd)),
+        _ => {
+            drop(value);
+            Err(NotationError::At(place, NotationFault::TagEnd))
+        }
     }
 }
 

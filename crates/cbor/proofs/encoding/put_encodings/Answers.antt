@@ -19,4 +19,4 @@ returns-in_default g c b w e f =
 pub lines-preserved : goal.lines-preserved
 lines-preserved g c b w e f = one-more-encoded c.args.limit b w c.lines.number _ _ _ _ _ _ (c.lines.invariant b w e f)
     c.in_ok-next_line.ensures.read c.in_ok-next_line.ensures.kept _ _ _ c.if-not-branch.false c.deref.ensures.value
-    (rw c.in-Some.is at c.in_ok-value.ensures.value) c.in_ok-put_encoding.ensures
+    (rw c.in-Some.is at c.in_ok-value.ensures.value) c.in_ok-put.ensures

@@ -16,5 +16,5 @@ returns-in-Err c =
 
 pub items-preserved : goal.items-preserved
 items-preserved c = one-more-item c.args.bytes.now c.items.rest.now c.read_front.new.rest.now c.items.text.items
-    c.push_item.new.text.items c.items.number (tree_of c.in-Ok.value)
-    c.items.invariant c.in-Ok.ensures.item c.in_ok-push_item-in-Ok.ensures
+    c.push_item-pushed.new.text.items c.items.number (tree_of c.in-Ok.value)
+    c.items.invariant c.in-Ok.ensures.item c.in_ok-pushed-in-Ok.ensures

@@ -28,8 +28,8 @@ copy_values-returns t c = trees_copied c.args.values.now c.loop-value.copies.ite
 pub copy_pairs-loop-pair-preserved : goal.copy_pairs-loop-pair-preserved
 copy_pairs-loop-pair-preserved t c = rw c.in_ok-push.ensures.items
     (all_zip_more ArePairsCopied c.args.pairs.now c.loop-pair.copies.items c.loop-pair.pair-index c.pair-item.result
-    (c.in_ok-key.key, c.in_ok-value.value) c.loop-pair-test.true c.pair-item.is c.loop-pair.invariant
-    (c.in_ok-key.ensures, c.in_ok-value.ensures))
+    (c.in_ok-key.key, c.in-Ok.value) c.loop-pair-test.true c.pair-item.is c.loop-pair.invariant
+    (c.in_ok-key.ensures, c.in-Ok.ensures))
 
 pub copy_pairs-returns : goal.copy_pairs-returns
 copy_pairs-returns t c = tree_pairs_copied c.args.pairs.now c.loop-pair.copies.items

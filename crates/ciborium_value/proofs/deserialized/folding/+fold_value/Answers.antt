@@ -50,8 +50,8 @@ fold_values-returns-clause-ok t c = all_folded c.args.values.now c.loop-value.co
 pub fold_pairs-loop-pair-preserved : goal.fold_pairs-loop-pair-preserved
 fold_pairs-loop-pair-preserved t c = rw c.in_ok-push.ensures.items
     (all_zip_more IsFoldedPair c.args.pairs.now c.loop-pair.copies.items c.loop-pair.pair-index
-    c.pair-item.result (c.in_ok-key.key, c.in_ok-value.value) c.loop-pair-test.true c.pair-item.is c.loop-pair.invariant
-    (c.in_ok-key.ensures.ok, c.in_ok-value.ensures.ok))
+    c.pair-item.result (c.in_ok-key.key, c.in-Ok.value) c.loop-pair-test.true c.pair-item.is c.loop-pair.invariant
+    (c.in_ok-key.ensures.ok, c.in-Ok.ensures.ok))
 
 pub fold_pairs-returns-in_err-key-clause-refused : goal.fold_pairs-returns-in_err-key-clause-refused
 fold_pairs-returns-in_err-key-clause-refused t c =
@@ -60,13 +60,10 @@ fold_pairs-returns-in_err-key-clause-refused t c =
     (refused_as e (λ none. one_pair_unfolded c.args.pairs.now c.loop-pair.pair-index c.pair-item.result
     c.loop-pair-test.true (inl (rw (sym c.pair-item.is) none))) c.in_err-key.ensures.refused)
 
-pub fold_pairs-returns-in_err-value-clause-refused : goal.fold_pairs-returns-in_err-value-clause-refused
-fold_pairs-returns-in_err-value-clause-refused t c =
-    let e = c.in_err-value.field-0.0 in
-    exits _ e (λ x. IsUnfolded x (tree_pairs_folded (tree_pairs_of c.args.pairs.now)))
-    c.from_residual-in_err-value.ensures.1
-    (refused_as e (λ none. one_pair_unfolded c.args.pairs.now c.loop-pair.pair-index c.pair-item.result
-    c.loop-pair-test.true (inr (rw (sym c.pair-item.is) none))) c.in_err-value.ensures.refused)
+pub fold_pairs-returns-in-Err-clause-refused : goal.fold_pairs-returns-in-Err-clause-refused
+fold_pairs-returns-in-Err-clause-refused t c =
+    refused_as c.in-Err.e (λ none. one_pair_unfolded c.args.pairs.now c.loop-pair.pair-index c.pair-item.result
+    c.loop-pair-test.true (inr (rw (sym c.pair-item.is) none))) c.in-Err.ensures.refused
 
 pub fold_pairs-returns-clause-ok : goal.fold_pairs-returns-clause-ok
 fold_pairs-returns-clause-ok t c = all_pairs_folded c.args.pairs.now c.loop-pair.copies.items

@@ -13,7 +13,7 @@ unreachable-requires g c =
     let sink : TreeSink = record { stack = c.new.result; whole = None; alloc = c.args.alloc } in
     let k = ends_whole sink c.serialize.new.sink (g.T.Serialize.written c.args.value.now) refl c.new.ensures
     c.in_ok-serialize.ensures.ok in
-    let e : None ≡ Some k.0 = sym c.in-None.is ∙ (c.take.ensures.value ∙ k.1) in cc
+    let e : None ≡ Some k.0 = sym c.in-None.is ∙ k.1 in cc
 
 pub returns-clause-ok : goal.returns-clause-ok
 returns-clause-ok g c =
@@ -21,4 +21,4 @@ returns-clause-ok g c =
     let k = ends_whole sink c.serialize.new.sink (g.T.Serialize.written c.args.value.now) refl c.new.ensures
     c.in_ok-serialize.ensures.ok in
     subst (IsTreeOf (g.T.Serialize.written c.args.value.now))
-    (some_is k.0 c.in-Some.value (sym k.1 ∙ (sym c.take.ensures.value ∙ c.in-Some.is))) k.2
+    (some_is k.0 c.in-Some.value (sym k.1 ∙ c.in-Some.is)) k.2
