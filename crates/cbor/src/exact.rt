@@ -364,16 +364,17 @@ fn push_opening(
 fn push_simple(n: u8, text: &mut Vec<u8>) -> Result<(), AllocError>
     ensures { OnOk result (text.new.items ≡ text.old.items ++ simple_text n) }
 {
-    match n {
-        20 => text.extend_from_slice(b"false"),
-        21 => text.extend_from_slice(b"true"),
-        22 => text.extend_from_slice(b"null"),
-        23 => text.extend_from_slice(b"undefined"),
+    let end: &[u8] = match n {
+        20 => b"false",
+        21 => b"true",
+        22 => b"null",
+        23 => b"undefined",
         _ => {
             push_number(b"simple(", u128::from(n), text)?;
-            text.extend_from_slice(b")")
+            b")"
         }
-    }
+    };
+    text.extend_from_slice(end)
 }
 
 // Appends a float by the bytes behind its initial one.

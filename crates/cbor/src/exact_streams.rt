@@ -52,40 +52,42 @@ pub fn show_exactly<R: Read, W: Write>(
     ensures { (b w : List ℕ) → R.remaining input.old ≡ Some b → W.contents output.old ≡ Some w →
         IfOk result (λ all. IsShownExactly place.now b w all (W.contents output.new)) }
 {
-    let Ok(reader) = BufReader::new(alloc, Retrying::new(input)) else {
+    let Ok(mut reader) = BufReader::new(alloc, Retrying::new(input)) else {
         return Err(Fault::Memory);
     };
+    let mut line = Vec::new(alloc);
     let mut waiting = Vec::new(alloc);
-    let shown = show_stream(alloc, reader, place, &mut waiting, output);
+    let shown = show_stream(alloc, &mut reader, place, &mut line, &mut waiting, output);
     send_lines(&mut waiting, output)?;
     shown
 }
 
-// Shows the items that a reader has left, by lines behind the texts that wait.
-fn show_stream<R: Read + Drop, W: Write>(
+// Shows the items that a reader has left, by lines behind the texts that wait. `line` is a buffer
+// for a line.
+fn show_stream<R: Read, W: Write>(
     alloc: Global,
-    mut reader: BufReader<R>,
+    reader: &mut BufReader<R>,
     place: &[u8],
+    line: &mut Vec<u8>,
     waiting: &mut Vec<u8>,
     output: &mut W,
 ) -> Result<bool, Fault>
-    ensures { (b w : List ℕ) → reader_remaining R.remaining reader ≡ Some b →
+    ensures { (b w : List ℕ) → reader_remaining R.remaining reader.old ≡ Some b →
         append_known (W.contents output.old) waiting.old.items ≡ Some w →
         IfOk result (λ all. IsShownExactly place.now b w all
         (append_known (W.contents output.new) waiting.new.items)) }
 {
-    let mut line = Vec::new(alloc);
     let mut offset: usize = 0;
     'items: for number in 1..u64::MAX {
-        match next_item(alloc, &mut reader, &mut line, waiting, output)? {
+        match next_item(alloc, reader, line, waiting, output)? {
             Next::End => return Ok(true),
             Next::Item(size) => {
-                put_line(&mut line, waiting, output)?;
+                put_line(line, waiting, output)?;
                 // It fits in practice: no device gives so many bytes.
                 offset = offset.checked_add(size).ok_or(Fault::Input)?;
             }
             Next::NoItem(reason) => {
-                show_reason(place, number, offset, reason, &mut line, waiting, output)?;
+                show_reason(place, number, offset, reason, line, waiting, output)?;
                 return Ok(false);
             }
         }

@@ -175,39 +175,19 @@ fn perform<R: Read, W: Write, E: Write>(
         IfOk result (λ all. IsDone command (R.remaining input.old) w all
         (W.contents output.new)) }
 {
-    match command {
-        Command::Answer(reading) => {
-            let answered = answer_lines(alloc, input, reading, output);
-            finish(answered, output)
-        }
-        Command::Sort(order) => {
-            let sorted = sort_lines(alloc, input, order, RECURSION_LIMIT, output);
-            finish(sorted, output)
-        }
-        Command::Show(showing, limit) => {
-            let shown = show_items(alloc, input, b"", showing, limit, output);
-            finish(shown, output)
-        }
-        Command::ShowExactly => {
-            let shown = show_exactly(alloc, input, b"", output);
-            finish(shown, output)
-        }
-        Command::Dump => {
-            let dumped = dump_input(alloc, input, output);
-            finish(dumped, output)
-        }
-        Command::Encode(limit) => {
-            let mut message = Vec::new(alloc);
-            let encoded = encode_lines(alloc, input, limit, &mut message, output);
-            let done = finish(encoded, output);
-            tell_refused(&message, errors);
-            done
-        }
-        Command::Tell(topic) => {
-            let told = tell(topic, output);
-            finish(told, output)
-        }
-    }
+    let mut message = Vec::new(alloc);
+    let performed = match command {
+        Command::Answer(reading) => answer_lines(alloc, input, reading, output),
+        Command::Sort(order) => sort_lines(alloc, input, order, RECURSION_LIMIT, output),
+        Command::Show(showing, limit) => show_items(alloc, input, b"", showing, limit, output),
+        Command::ShowExactly => show_exactly(alloc, input, b"", output),
+        Command::Dump => dump_input(alloc, input, output),
+        Command::Encode(limit) => encode_lines(alloc, input, limit, &mut message, output),
+        Command::Tell(topic) => tell(topic, output),
+    };
+    let done = finish(performed, output);
+    tell_refused(&message, errors);
+    done
 }
 
 // Shows the files of these names, and flushes the output, as `perform` does for its input.

@@ -392,13 +392,12 @@ fn show_judged<W: Write>(
         × IsItemLine place.now showing limit number offset s shown line
         × (append_known (W.contents output.new) waiting.new.items ≡ Some (w ++ line))) }
 {
-    if write_judged(item, showing, number, offset, buffer, line)? {
-        put_line(line, waiting, output)?;
-        return Ok(true);
+    let is_shown = write_judged(item, showing, number, offset, buffer, line)?;
+    if !is_shown {
+        put_text(place, waiting, output)?;
     }
-    put_text(place, waiting, output)?;
     put_line(line, waiting, output)?;
-    Ok(false)
+    Ok(is_shown)
 }
 
 // Makes `line` show an item that was judged, or say why it is not shown, and says whether it is.

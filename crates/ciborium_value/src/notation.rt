@@ -309,17 +309,18 @@ fn needs_escape(byte: u8) -> bool
 fn write_escape<W: fmt::Write>(byte: u8, f: &mut fmt::Formatter<W>) -> fmt::Result
     ensures { WritesStyledOnOk W.write_str_gives f.old result (escape byte) f.new }
 {
-    match byte {
-        b'"' => f.write_str("\\\""),
-        b'\\' => f.write_str("\\\\"),
-        0x08 => f.write_str("\\b"),
-        b'\t' => f.write_str("\\t"),
-        b'\n' => f.write_str("\\n"),
-        0x0c => f.write_str("\\f"),
-        b'\r' => f.write_str("\\r"),
+    let escape = match byte {
+        b'"' => "\\\"",
+        b'\\' => "\\\\",
+        0x08 => "\\b",
+        b'\t' => "\\t",
+        b'\n' => "\\n",
+        0x0c => "\\f",
+        b'\r' => "\\r",
         _ => {
             f.write_str("\\u00")?;
-            write_digits(&[byte], f)
+            return write_digits(&[byte], f);
         }
-    }
+    };
+    f.write_str(escape)
 }

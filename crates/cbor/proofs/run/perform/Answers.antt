@@ -1,45 +1,31 @@
-use Rattle.std.proofs.Common.{[], List, ℕ}
-use Rattle.cbor.specs.{EncodedLines.AreEncoded, ExactStreams.IsShownExactly, Lines.AreAnswered}
+use Rattle.std.proofs.Common.{[], List, ℕ, IfOk}
+use Rattle.cbor.specs.{Done.IsDone, EncodedLines.AreEncoded, ExactStreams.IsShownExactly, Lines.AreAnswered}
 use Rattle.cbor.specs.{SortedLines.AreSortedOrRefused, Streams.{IsDumpedBehind, IsStreamShown}}
 use Rattle.cbor.proofs.{DoneCommands.{done-flushed, of-known}, EncodedLines.encoded-told}
 use Rattle.cbor.proofs.run.perform.Goals as goal
+use Rattle.cbor.proofs.run.perform.Goals.{in-Answer, in-Sort, in-Show, in-ShowExactly, in-Dump, in-Encode, in-Tell}
 
-pub returns-in-Answer : goal.returns-in-Answer
-returns-in-Answer g c w f = done-flushed c.args.command _ w _ _ _ _ c.finish.ensures.same c.finish.ensures.kept
-    (rw c.in-Answer.is (of-known _ _ (λ b all. AreAnswered c.in-Answer.reading b w all _)
-    (λ b e. c.answer_lines-answered.ensures b w e f)))
-
-pub returns-in-Sort : goal.returns-in-Sort
-returns-in-Sort g c w f = let finish = c.finish-in-Sort in
-    done-flushed c.args.command _ w _ _ _ _ finish.ensures.same finish.ensures.kept
-    (rw c.in-Sort.is (of-known _ _ (λ b all. AreSortedOrRefused c.in-Sort.order b 256 w all _)
-    (λ b e. c.sort_lines-sorted.ensures b w e f)))
-
-pub returns-in-Show : goal.returns-in-Show
-returns-in-Show g c w f = let finish = c.finish-in-Show in
-    done-flushed c.args.command _ w _ _ _ _ finish.ensures.same finish.ensures.kept
-    (rw c.in-Show.is (of-known _ _ (λ b all. IsStreamShown [] c.in-Show.showing b c.in-Show.limit w all _)
-    (λ b e. c.show_items-shown.ensures b w e f)))
-
-pub returns-in-ShowExactly : goal.returns-in-ShowExactly
-returns-in-ShowExactly g c w f = let finish = c.finish-in-ShowExactly in
-    done-flushed c.args.command _ w _ _ _ _ finish.ensures.same finish.ensures.kept
-    (rw c.in-ShowExactly.is (of-known _ _ (λ b all. IsShownExactly [] b w all _)
-    (λ b e. c.show_exactly-shown.ensures b w e f)))
-
-pub returns-in-Dump : goal.returns-in-Dump
-returns-in-Dump g c w f = let finish = c.finish-in-Dump in
-    done-flushed c.args.command _ w _ _ _ _ finish.ensures.same finish.ensures.kept
-    (rw c.in-Dump.is (of-known _ _ (λ b all. IsDumpedBehind b w all _) (λ b e. c.dump_input-dumped.ensures b w e f)))
-
-pub returns-in-Encode : goal.returns-in-Encode
-returns-in-Encode g c w f = let finish = c.finish-done in
-    done-flushed c.args.command _ w _ _ _ _ finish.ensures.same finish.ensures.kept
-    (rw c.in-Encode.is (of-known _ _ (λ b all. (told : List ℕ) × AreEncoded c.in-Encode.limit b w all _ told)
-    (λ b e. encoded-told c.in-Encode.limit b w c.encode_lines-encoded.result _ _
-    (c.encode_lines-encoded.ensures b w e f))))
-
-pub returns-in-Tell : goal.returns-in-Tell
-returns-in-Tell g c w f = let finish = c.finish-in-Tell in
-    done-flushed c.args.command _ w _ _ _ _ finish.ensures.same finish.ensures.kept
-    (rw c.in-Tell.is (c.tell-told.ensures w f))
+pub returns : goal.returns
+returns g c w f =
+    let done = c.match-command.performed in
+    let performed : IfOk done
+        (λ all. IsDone c.args.command _ w all (g.W.Write.contents c.match-command.output)) =
+    elim c.match-command.branch [
+      | in-Answer a ↦ rw (a.in-Answer.is, a.performed-is, a.output-is) (of-known _ _
+          (λ b all. AreAnswered a.in-Answer.reading b w all _) (λ b e. a.answer_lines-performed.ensures b w e f))
+      | in-Sort a ↦ rw (a.in-Sort.is, a.performed-is, a.output-is) (of-known _ _
+          (λ b all. AreSortedOrRefused a.in-Sort.order b 256 w all _) (λ b e. a.sort_lines-performed.ensures b w e f))
+      | in-Show a ↦ rw (a.in-Show.is, a.performed-is, a.output-is) (of-known _ _
+          (λ b all. IsStreamShown [] a.in-Show.showing b a.in-Show.limit w all _)
+          (λ b e. a.show_items-performed.ensures b w e f))
+      | in-ShowExactly a ↦ rw (a.in-ShowExactly.is, a.performed-is, a.output-is) (of-known _ _
+          (λ b all. IsShownExactly [] b w all _) (λ b e. a.show_exactly-performed.ensures b w e f))
+      | in-Dump a ↦ rw (a.in-Dump.is, a.performed-is, a.output-is) (of-known _ _
+          (λ b all. IsDumpedBehind b w all _) (λ b e. a.dump_input-performed.ensures b w e f))
+      | in-Encode a ↦ rw (a.in-Encode.is, a.performed-is, a.output-is) (of-known _ _
+          (λ b all. (told : List ℕ) × AreEncoded a.in-Encode.limit b w all _ told)
+          (λ b e. encoded-told a.in-Encode.limit b w a.encode_lines-performed.result _ _
+          (a.encode_lines-performed.ensures b w e f)))
+      | in-Tell a ↦ rw (a.in-Tell.is, a.performed-is, a.output-is) (a.tell-performed.ensures w f)
+    ] in
+    done-flushed c.args.command _ w _ _ done _ c.finish-done.ensures.same c.finish-done.ensures.kept performed

@@ -82,8 +82,7 @@ impl<'a, R, A: Access<R>> ByteSource<'a, R, A> {
             (λ e. DeniesItem (IsUnread A.remaining) (end_at A.remaining) self.old
             (fault_at A.can_fail A.remaining self.new e)) }
     {
-        let bare = self.behind_tags(numbers)?;
-        Ok(bare)
+        self.behind_tags(numbers)
     }
 
     /// The head behind any number of tags, and its offset. Where numbers are wanted, the tag of a
@@ -107,8 +106,7 @@ impl<'a, R, A: Access<R>> ByteSource<'a, R, A> {
                 if is_end_tag(numbers, tag) {
                     return Ok((header, offset));
                 }
-                let bare = self.skip_tags(numbers)?;
-                Ok(bare)
+                self.skip_tags(numbers)
             }
             Header::Break => Err(Error::Semantic(Some(offset), Kind::Break)),
             _ => Ok((header, offset)),

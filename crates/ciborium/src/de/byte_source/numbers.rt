@@ -172,10 +172,7 @@ impl<'a, R, A: Access<R>> ByteSource<'a, R, A> {
         let negative = is_negative(header);
         match header {
             Header::Positive(n) | Header::Negative(n) => { Ok(((negative, u128::from(n)), offset)) }
-            Header::Tag(tag) => {
-                let number = self.read_tagged(tag, offset)?;
-                Ok(number)
-            }
+            Header::Tag(tag) => self.read_tagged(tag, offset),
             _ => Err(Error::Semantic(Some(offset), Kind::Integer)),
         }
     }

@@ -1,4 +1,4 @@
-use Rattle.std.proofs.Common.{subst, refl}
+use Rattle.std.proofs.{Common.{subst, refl}, lemmas.Result.{IfErr-weaker, IfOk-weaker}}
 use Rattle.ciborium_value.specs.Sources.{of_kind}
 use Rattle.ciborium.proofs.{Exits.passed_on, Items.SkippedTags.{bare-head, bare-behind, skips-none, skips-more}}
 use Rattle.ciborium.proofs.Items.{SkippedTags.{denies-item, denies-break, denies-behind}, TakenOnly.same-end}
@@ -22,29 +22,28 @@ returns-then-is_end_tag-clause-head g c =
     (header.Tag c.in-Tag.tag) (subst (TakesHead (IsUnread g.A.Access.remaining) c.args.self.now c.next_head.new.self)
     c.in-Tag.is c.in_ok-header.ensures.head)
 
-pub returns-in_err-bare-in-Tag-clause-denied : goal.returns-in_err-bare-in-Tag-clause-denied
-returns-in_err-bare-in-Tag-clause-denied g c =
+pub returns-else-is_end_tag-clause-denied : goal.returns-else-is_end_tag-clause-denied
+returns-else-is_end_tag-clause-denied g c =
     let I = IsUnread g.A.Access.remaining in
+    let end = end_at g.A.Access.remaining in
     let one = skips-more I c.args.self.now c.args.self.now c.next_head.new.self c.args.numbers c.in-Tag.tag
     (subst (IsEndTag c.args.numbers c.in-Tag.tag) c.if-is_end_tag.false c.is_end_tag.ensures)
     (skips-none I c.args.self.now c.args.numbers) (subst (TakesHead I c.args.self.now c.next_head.new.self) c.in-Tag.is
     c.in_ok-header.ensures.head) in
-    rw (passed_on c.from_residual-in_err-bare-in-Tag.result _ c.from_residual-in_err-bare-in-Tag.ensures.1)
-    (denies-behind I (end_at g.A.Access.remaining) c.args.self.now c.next_head.new.self
-    c.args.numbers
-    (fault_at g.A.Access.can_fail g.A.Access.remaining c.skip_tags.new.self c.in_err-bare-in-Tag.field-0.0)
-    (same-end g.A.Access.remaining c.args.self.now c.next_head.new.self
-    c.in_ok-header.ensures.keeps.only) one c.in_err-bare-in-Tag.ensures.denied)
+    IfErr-weaker c.skip_tags.result _ _ (λ e. denies-behind I end c.args.self.now c.next_head.new.self c.args.numbers
+    (fault_at g.A.Access.can_fail g.A.Access.remaining c.skip_tags.new.self e)
+    (same-end g.A.Access.remaining c.args.self.now c.next_head.new.self c.in_ok-header.ensures.keeps.only) one)
+    c.skip_tags.ensures.denied
 
-pub returns-in_ok-bare-in-Tag-clause-head : goal.returns-in_ok-bare-in-Tag-clause-head
-returns-in_ok-bare-in-Tag-clause-head g c =
+pub returns-else-is_end_tag-clause-head : goal.returns-else-is_end_tag-clause-head
+returns-else-is_end_tag-clause-head g c =
     let I = IsUnread g.A.Access.remaining in
     let one = skips-more I c.args.self.now c.args.self.now c.next_head.new.self c.args.numbers c.in-Tag.tag
     (subst (IsEndTag c.args.numbers c.in-Tag.tag) c.if-is_end_tag.false c.is_end_tag.ensures)
     (skips-none I c.args.self.now c.args.numbers) (subst (TakesHead I c.args.self.now c.next_head.new.self) c.in-Tag.is
     c.in_ok-header.ensures.head) in
-    bare-behind I c.args.self.now c.next_head.new.self c.skip_tags.new.self c.args.numbers c.in_ok-bare-in-Tag.bare.0
-    one c.in_ok-bare-in-Tag.ensures.head
+    IfOk-weaker c.skip_tags.result _ _ (λ h. bare-behind I c.args.self.now c.next_head.new.self c.skip_tags.new.self
+    c.args.numbers h.0 one) c.skip_tags.ensures.head
 
 pub returns-in-Break-clause-denied : goal.returns-in-Break-clause-denied
 returns-in-Break-clause-denied g c =

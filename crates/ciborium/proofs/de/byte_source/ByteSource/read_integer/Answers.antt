@@ -1,4 +1,5 @@
-use Rattle.std.proofs.Common.{◌≡◌, ◌⊎◌, Bool, Ok, ℕ, inl, inr, sym, ap, ◌∙◌, subst, Some, true, ◌==◌}
+use Rattle.std.proofs.Common.{◌≡◌, ◌⊎◌, Bool, Err, IfOk, MatchResult, Ok, Result, ℕ, inl, inr, sym, ap, ◌∙◌, subst}
+use Rattle.std.proofs.Common.{Some, true, ◌==◌}
 use Rattle.ciborium_ll.specs.{Item.{unsigned, negative}, declared.header.Header.Header}
 use Rattle.ciborium_value.specs.{Given.given_integer, Sources.of_kind}
 use Rattle.ciborium.proofs.{Exits.passed_on, Items.{BareHeads.head-denied, BareScalars.{integer-gives, integer-other}}}
@@ -38,33 +39,29 @@ returns-in-Positive-clause-answer g c =
     (integer-gives l (negative n) v (ap (λ s. Ok (s, n)) (sym (c.is_negative-negative.ensures.negative n is)) ∙
     ap (λ m. Ok (c.is_negative-negative.result, m)) (sym c.from.ensures))))
 
-pub returns-in_ok-number-in-Tag-clause-answer : goal.returns-in_ok-number-in-Tag-clause-answer
-returns-in_ok-number-in-Tag-clause-answer g c =
-    let l = Some c.args.self.now.levels in
-    let t = c.in-Tag.tag in
-    let bare : IsBare true (header.Tag t) = subst (IsBare true) c.in-Tag.is c.in_ok-header.ensures.reads.bare in
-    let v = c.in_ok-number-in-Tag.number.0 in
-    subst (λ negative. Reads (IsUnread g.A.Access.remaining) c.args.self.now c.read_tagged.new.self l given_integer
-    (negative, v.1)) (sym c.in_ok-number-in-Tag.ensures.sign)
-    (reads-bare (IsUnread g.A.Access.remaining) true (header.Tag t) l given_integer c.args.self.now c.bare_head.new.self
-    c.read_tagged.new.self (t == 3, v.1)
-    (subst (TakesBare (IsUnread g.A.Access.remaining) c.args.self.now c.bare_head.new.self true) c.in-Tag.is
-    c.in_ok-header.ensures.head)
-    (bignum-behind (IsUnread g.A.Access.remaining) t l bare.1 c.bare_head.new.self c.read_tagged.new.self v.1
-    c.in_ok-number-in-Tag.ensures.answer))
+-- what holds of a value and of an error, where something else is known of the value
+each-way : {T E : Type 0} {K P R : T → Type 0} {D F : E → Type 0} (r : Result T E) →
+    ((v : T) → K v → P v → R v) → ((e : E) → D e → F e) → IfOk r K → MatchResult r P D → MatchResult r R F
+each-way (Ok v) f h k p = f v k p
+each-way (Err e) f h k d = h e d
 
-pub returns-in_err-number-in-Tag-clause-answer : goal.returns-in_err-number-in-Tag-clause-answer
-returns-in_err-number-in-Tag-clause-answer g c =
+pub returns-in-Tag-clause-answer : goal.returns-in-Tag-clause-answer
+returns-in-Tag-clause-answer g c =
+    let U = IsUnread g.A.Access.remaining in
     let l = Some c.args.self.now.levels in
     let t = c.in-Tag.tag in
+    let mid = c.bare_head.new.self in
+    let new = c.read_tagged.new.self in
     let bare : IsBare true (header.Tag t) = subst (IsBare true) c.in-Tag.is c.in_ok-header.ensures.reads.bare in
-    rw (passed_on c.from_residual-in_err-number-in-Tag.result _ c.from_residual-in_err-number-in-Tag.ensures.1)
-    (bignum-denied (IsUnread g.A.Access.remaining) t l bare.1 (end_at g.A.Access.remaining)
-    c.args.self.now c.bare_head.new.self (fault_at g.A.Access.can_fail g.A.Access.remaining c.read_tagged.new.self
-    c.in_err-number-in-Tag.field-0.0)
-    (same-end g.A.Access.remaining c.args.self.now c.bare_head.new.self c.in_ok-header.ensures.reads.kept.only)
-    (subst (TakesBare (IsUnread g.A.Access.remaining) c.args.self.now c.bare_head.new.self true) c.in-Tag.is
-    c.in_ok-header.ensures.head) c.in_err-number-in-Tag.ensures.answer)
+    let head = subst (TakesBare U c.args.self.now mid true) c.in-Tag.is c.in_ok-header.ensures.head in
+    each-way c.read_tagged.result
+    (λ v sign given. subst (λ negative. Reads U c.args.self.now new l given_integer (negative, v.0.1)) (sym sign)
+    (reads-bare U true (header.Tag t) l given_integer c.args.self.now mid new (t == 3, v.0.1) head
+    (bignum-behind U t l bare.1 mid new v.0.1 given)))
+    (λ e. bignum-denied U t l bare.1 (end_at g.A.Access.remaining) c.args.self.now mid
+    (fault_at g.A.Access.can_fail g.A.Access.remaining new e)
+    (same-end g.A.Access.remaining c.args.self.now mid c.in_ok-header.ensures.reads.kept.only) head)
+    c.read_tagged.ensures.sign c.read_tagged.ensures.answer
 
 pub returns-in_default-clause-answer : goal.returns-in_default-clause-answer
 returns-in_default-clause-answer g c =
