@@ -97,8 +97,7 @@ impl<'a, R, A: Access<R>> Source for ByteSource<'a, R, A> {
                     let mut buffer = [0u8; GREATEST_CHARACTER_SIZE];
                     let payload = &mut buffer[..n];
                     self.fill(payload)?;
-                    let character = only_character(payload, offset)?;
-                    Ok(character)
+                    only_character(payload, offset)
                 }
                 None => Err(Error::Semantic(Some(offset), Kind::Char)),
             },
@@ -208,14 +207,8 @@ impl<'a, R, A: Access<R>> Source for ByteSource<'a, R, A> {
     fn begin_seq(&mut self, alloc: Global) -> Result<ByteSeq, BareReadError> {
         let (header, offset) = self.bare_head(false)?;
         match header {
-            Header::Array(count) => {
-                let seq = self.enter(count, offset)?;
-                Ok(seq)
-            }
-            Header::Bytes(len) => {
-                let seq = self.enter_bytes(alloc, len, offset)?;
-                Ok(seq)
-            }
+            Header::Array(count) => self.enter(count, offset),
+            Header::Bytes(len) => self.enter_bytes(alloc, len, offset),
             _ => Err(Error::Semantic(Some(offset), Kind::Array)),
         }
     }
@@ -226,8 +219,7 @@ impl<'a, R, A: Access<R>> Source for ByteSource<'a, R, A> {
         let Header::Map(count) = header else {
             return Err(Error::Semantic(Some(offset), Kind::Map));
         };
-        let seq = self.enter(count, offset)?;
-        Ok(seq)
+        self.enter(count, offset)
     }
 
     #[inline(always)]

@@ -4,7 +4,8 @@ use Rattle.ciborium_ll.specs.{Accesses.left_at_failure, declared.strings.StringT
 use Rattle.ciborium_value.{specs.Given.{given_character}}
 use Rattle.ciborium_value.specs.{Sources.of_kind}
 use Rattle.ciborium.proofs.Containers.ByteItems.{bare-refused, behind-refused, head-refused, other-refuses}
-use Rattle.ciborium.proofs.{Containers.ByteItems.{refuses-denied, string-given, string-refuses}, Exits.passed_on}
+use Rattle.ciborium.proofs.Containers.ByteItems.{TakesOne, refuses-denied, string-given, string-refuses}
+use Rattle.ciborium.proofs.Exits.{both, by-cases, passed_on}
 use Rattle.ciborium.proofs.Payloads.ShortNames.{just-denied}
 use Rattle.ciborium.specs.inner.StringContents.{DeniesJust}
 use Rattle.ciborium.proofs.{Items.{TakenOnly.same-end}, Payloads.LoneCharacters.character-given}
@@ -34,18 +35,32 @@ returns-then-n-gt-GREATEST_CHARACTER_SIZE-clause-takes g c =
     c.in_ok-header.ensures.head) (same-end g.A.Access.remaining old mid c.in_ok-header.ensures.reads.kept.only)
     c.if-n-gt-GREATEST_CHARACTER_SIZE.true))
 
-pub returns-in_ok-character-in-Some-clause-takes : goal.returns-in_ok-character-in-Some-clause-takes
-returns-in_ok-character-in-Some-clause-takes g c =
+pub returns-in_ok-fill-in-Some-clause-takes : goal.returns-in_ok-fill-in-Some-clause-takes
+returns-in_ok-fill-in-Some-clause-takes g c =
+    let old = c.args.self.now in
     let n = c.in-Some.n in
+    let mid = c.bare_head.new.self in
+    let new = c.fill.new.self in
     let payload = c.fill.new.buffer in
     let size : length payload ≡ n = c.fill.auto.buffer ∙ short n c.if-n-gt-GREATEST_CHARACTER_SIZE.false in
     let content = c.in_ok-fill-in-Some.ensures in
-    string-given c.in_ok-header.ensures.reads c.in_ok-header.ensures.head StringType.Text (Some n)
-    (c.in-Text.is ∙ ap header.Text c.in-Some.is) content.keeps payload (payload-taken (IsUnread g.A.Access.remaining
-    c.bare_head.new.self)
-    (IsUnread g.A.Access.remaining c.fill.new.self) n payload size c.in_ok-character-in-Some.ensures.utf8 content.ok)
-    (character-given (Some c.args.self.now.levels) payload c.in_ok-character-in-Some.character
-    c.in_ok-character-in-Some.ensures.ok)
+    let read = c.only_character.ensures in
+    let is = c.in-Text.is ∙ ap header.Text c.in-Some.is in
+    let fault = fault_at g.A.Access.can_fail g.A.Access.remaining new in
+    by-cases c.only_character.result _ _
+    (TakesOne g.A.Access.can_fail g.A.Access.remaining old new given_character (λ v. v)) (both _ _ _ read.utf8 read.ok) read.refused
+    (λ v t. let (utf8, ok) = t in
+    string-given c.in_ok-header.ensures.reads c.in_ok-header.ensures.head StringType.Text (Some n) is content.keeps
+    payload (payload-taken (IsUnread g.A.Access.remaining mid) (IsUnread g.A.Access.remaining new) n payload size utf8
+    content.ok) (character-given (Some old.levels) payload v ok))
+    (λ e refused. behind-refused c.in_ok-header.ensures.reads content.keeps.only content.keeps.no_more
+    (refuses-denied g.A.Access.remaining old given_character (fault e)
+    (text-denied (IsUnread g.A.Access.remaining) (end_at g.A.Access.remaining) (Some old.levels) old mid n
+    (subst (TakesBare (IsUnread g.A.Access.remaining) old mid false) is c.in_ok-header.ensures.head) (fault e)
+    (same-end g.A.Access.remaining old mid c.in_ok-header.ensures.reads.kept.only)
+    (payload-denied (end_at g.A.Access.remaining mid) (IsUnread g.A.Access.remaining mid)
+    (IsUnread g.A.Access.remaining new) n payload (fault e) size
+    (refused (left_at_failure g.A.Access.can_fail (g.A.Access.remaining new.decoder.reader.now))) content.ok))))
 
 pub returns-in_err-fill-in-Some-clause-takes : goal.returns-in_err-fill-in-Some-clause-takes
 returns-in_err-fill-in-Some-clause-takes g c =
@@ -59,26 +74,6 @@ returns-in_err-fill-in-Some-clause-takes g c =
     (string-refuses given_character c.in_ok-header.ensures.reads c.in_ok-header.ensures.head fault StringType.Text
     (Some n) (c.in-Text.is ∙ ap header.Text c.in-Some.is) (just-denied P end n fault StringType.Text
     (subst (λ k. DeniesJust P end k fault) (short n c.if-n-gt-GREATEST_CHARACTER_SIZE.false) refusal.outside))))
-
-pub returns-in_err-character-in-Some-clause-takes : goal.returns-in_err-character-in-Some-clause-takes
-returns-in_err-character-in-Some-clause-takes g c =
-    let old = c.args.self.now in
-    let n = c.in-Some.n in
-    let mid = c.bare_head.new.self in
-    let new = c.fill.new.self in
-    let payload = c.fill.new.buffer in
-    let size : length payload ≡ n = c.fill.auto.buffer ∙ short n c.if-n-gt-GREATEST_CHARACTER_SIZE.false in
-    let fault = fault_at g.A.Access.can_fail g.A.Access.remaining new c.in_err-character-in-Some.field-0.0 in
-    let content = c.in_ok-fill-in-Some.ensures in
-    rw (passed_on c.from_residual-in_err-character-in-Some.result _ c.from_residual-in_err-character-in-Some.ensures.1)
-    (behind-refused c.in_ok-header.ensures.reads content.keeps.only content.keeps.no_more
-    (refuses-denied g.A.Access.remaining old given_character fault
-    (text-denied (IsUnread g.A.Access.remaining) (end_at g.A.Access.remaining) (Some old.levels) old mid n
-    (subst (TakesBare (IsUnread g.A.Access.remaining) old mid false) (c.in-Text.is ∙ ap header.Text c.in-Some.is)
-    c.in_ok-header.ensures.head) fault (same-end g.A.Access.remaining old mid c.in_ok-header.ensures.reads.kept.only)
-    (payload-denied (end_at g.A.Access.remaining mid) (IsUnread g.A.Access.remaining mid)
-    (IsUnread g.A.Access.remaining new) n payload fault size (c.in_err-character-in-Some.ensures.refused
-    (left_at_failure g.A.Access.can_fail (g.A.Access.remaining new.decoder.reader.now))) content.ok))))
 
 pub returns-in-None-clause-takes : goal.returns-in-None-clause-takes
 returns-in-None-clause-takes g c = bare-refused c.in_ok-header.ensures.reads
