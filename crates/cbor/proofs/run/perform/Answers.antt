@@ -9,7 +9,7 @@ pub returns : goal.returns
 returns g c w f =
     let done = c.match-command.performed in
     let performed : IfOk done
-        (λ all. IsDone c.args.command _ w all (g.W.Write.contents c.match-command.output)) =
+    (λ all. IsDone c.args.command _ w all (g.W.Write.contents c.match-command.output)) =
     elim c.match-command.branch [
       | in-Answer a ↦ rw (a.in-Answer.is, a.performed-is, a.output-is) (of-known _ _
           (λ b all. AreAnswered a.in-Answer.reading b w all _) (λ b e. a.answer_lines-performed.ensures b w e f))
