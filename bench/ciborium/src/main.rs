@@ -1,5 +1,6 @@
-//! `ciborium_0_2_2_bench value ROUNDS FILE [CALL]` reads a document as a `Value` with ciborium 0.2.2, writes and drops it, and
-//! prints the best of so many rounds of each call, in nanoseconds; with a fourth word only of that one.
+//! `ciborium_0_2_2_bench value ROUNDS FILE [CALL]` reads a document as a `Value` with ciborium
+//! 0.2.2, writes and drops it, and prints the best of so many rounds of each call, in nanoseconds;
+//! with a fourth word only of that one.
 
 use ciborium::value::Value;
 use std::hint::black_box;

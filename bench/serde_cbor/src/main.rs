@@ -1,5 +1,6 @@
-//! `serde_cbor_bench KIND ROUNDS FILE [CALL]` reads a document as its type in each way, writes and drops it, and prints the
-//! best of so many rounds of each call, in nanoseconds; with a fourth word only of that one.
+//! `serde_cbor_bench KIND ROUNDS FILE [CALL]` reads a document as its type in each way, writes and
+//! drops it, and prints the best of so many rounds of each call, in nanoseconds; with a fourth word
+//! only of that one.
 
 use serde::{de::DeserializeOwned, Deserialize, Serialize};
 use serde_cbor::Value;
@@ -102,10 +103,16 @@ fn measure_each(run: &Run, messages: &[&[u8]], call: &str, read: impl Fn(&[u8]))
 
 fn measure_messages(run: &Run) {
     let messages = cut(&run.bytes);
-    measure_each(run, &messages, "typed", |message| drop(black_box(from_reader::<Record>(message))));
+    measure_each(run, &messages, "typed", |message| {
+        drop(black_box(from_reader::<Record>(message)))
+    });
     measure_each(run, &messages, "value", |message| drop(black_box(from_reader::<Value>(message))));
-    measure_each(run, &messages, "typed_slice", |message| drop(black_box(from_slice::<Record>(message))));
-    measure_each(run, &messages, "value_slice", |message| drop(black_box(from_slice::<Value>(message))));
+    measure_each(run, &messages, "typed_slice", |message| {
+        drop(black_box(from_slice::<Record>(message)))
+    });
+    measure_each(run, &messages, "value_slice", |message| {
+        drop(black_box(from_slice::<Value>(message)))
+    });
 }
 
 fn main() {

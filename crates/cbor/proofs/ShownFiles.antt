@@ -4,7 +4,7 @@ use Rattle.std.proofs.Common.{drop, Option, Some, None, refl, sym, subst, ◌∙
 use Rattle.std.proofs.lemmas.List.{get_or-map, take_more}
 use Rattle.cbor.specs.Files.{AreFilesShown, AreInputs, AreInputsShown, Input, IsInputShown, given_by, is_input, left_by}
 use Rattle.cbor.specs.{Files.{next, none}, declared.command.Command.Command}
-use Rattle.cbor.specs.declared.command.Command.TheVariants.{Answer, Dump, Encode, Show, ShowExactly, Sort, Tell}
+use Rattle.cbor.specs.declared.command.Command.TheVariants.{Dump, Show, ShowExactly}
 
 -- of the inputs so many are shown behind w, and the others are left
 abbrev pub AreShownSoFar : Command → (List ℕ → Option (List ℕ)) → List Input → ℕ → List ℕ → Bool →

@@ -1,6 +1,6 @@
 -- The status that a run ends with.
 use Rattle.std.specs.Prelude.{◌≡◌, ◌⊎◌, ℕ, ◌≤◌, Bool, true, false, if◌then◌else◌, Result, Ok, Err}
-use Rattle.cbor.specs.declared.command.Command.{Command, TheVariants.{Answer, Sort, Show, ShowExactly, Dump, Encode}}
+use Rattle.cbor.specs.declared.command.Command.{Command, TheVariants.{Answer, Sort}}
 use Rattle.cbor.specs.declared.{command.Command.TheVariants.Tell, fault.Fault.Fault}
 use Rattle.cbor.specs.declared.fault.Fault.TheVariants as faults
 use Rattle.cbor.specs.declared.reading.Reading.TheVariants as readings

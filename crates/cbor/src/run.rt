@@ -1,7 +1,7 @@
 //! The command line: what is done for which words, and the status.
 
-ghost use Rattle.std.specs.Prelude.{◌≡◌, ◌≤◌, ◌++◌, ◌↔◌, ℕ, IfOk, IsTrue, List, OnOk, Ok, Some};
-ghost use Rattle.std.specs.Prelude.{[], map, string_bytes, true};
+ghost use Rattle.std.specs.Prelude.{◌≡◌, ◌++◌, ◌↔◌, ℕ, IfOk, IsTrue, List, OnOk, Ok, Some};
+ghost use Rattle.std.specs.Prelude.{map, string_bytes, true};
 ghost use Rattle.std.specs.Io.KnownBytes.{Appends, Keeps};
 ghost use Rattle.cbor.specs.Done.{IsDone};
 ghost use Rattle.cbor.specs.Ends.{IsStatusOf, end_status, fault_status};

@@ -1,6 +1,6 @@
 //! Streams of items: sequences as bytes, not in hex (RFC 8742).
 
-ghost use Rattle.std.specs.Prelude.{◌≡◌, ◌<◌, ◌⊎◌, ◌++◌, ℕ, IfOk, IfSome, IsTrue, List};
+ghost use Rattle.std.specs.Prelude.{◌≡◌, ◌<◌, ◌⊎◌, ◌++◌, ℕ, IfOk, IfSome, List};
 ghost use Rattle.std.specs.Prelude.{MatchOption, None, OnOk, Some, [], drop, false};
 ghost use Rattle.std.specs.Prelude.{if◌then◌else◌, length};
 ghost use Rattle.std.specs.Bool.{MatchBool};
@@ -9,7 +9,6 @@ ghost use Rattle.std.specs.Io.KnownBytes.{Keeps, append_known, prepend_known};
 ghost use Rattle.ciborium_ll.specs.ItemLengths.{IsNoItem};
 ghost use Rattle.ciborium_ll.specs.Levels.{AreItem};
 ghost use Rattle.ciborium_ll.specs.declared.item_heads.NoItem.{NoItem};
-ghost use Rattle.ciborium_value.specs.View.{tree_of};
 ghost use Rattle.ciborium.specs.ValueAnswers.{IsRefusedBy};
 ghost use Rattle.cbor.specs.Answer.{IsFrontRefused, refusal_behind, refused_text, wants_memory};
 ghost use Rattle.cbor.specs.Lines.{text_line};

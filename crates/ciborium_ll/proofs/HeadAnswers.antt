@@ -143,8 +143,8 @@ pub record Facts (m a : ℕ) (b : List ℕ) (announced : ℕ) : Type 0 where
   pub size : length b ≡ argument_length a
 
 -- the bytes of a head begin so
-abbrev pub Begins : List ℕ → ℕ → Type 0
-Begins b announced = (m : ℕ) × (a : ℕ) × (c : List ℕ) × (b ≡ initial_byte m a ∷ c) × Facts m a c announced
+abbrev pub BeginsHead : List ℕ → ℕ → Type 0
+BeginsHead b announced = (m : ℕ) × (a : ℕ) × (c : List ℕ) × (b ≡ initial_byte m a ∷ c) × Facts m a c announced
 
 argument-whole : (w : Width) (n : ℕ) → n < capacity w →
     Rattle.ciborium_ll.specs.Refusal.argument (information w n) (argument_bytes w n) ≡ n
@@ -152,7 +152,7 @@ argument-whole w n h = ap (Rattle.ciborium_ll.specs.Refusal.argument (informatio
     (sym (append-nil (argument_bytes w n))) ∙ argument-information w n [] h
 
 plain-begins : (b : List ℕ) (m n : ℕ) → m < 7 → ((a : ℕ) (c : List ℕ) → payload_length m a c ≡ 0) → IsHead b m n →
-    Begins b 0
+    BeginsHead b 0
 plain-begins b m n lt none (w, h, e) =
     let i = information-below w n h in (
       m,
@@ -168,7 +168,7 @@ plain-begins b m n lt none (w, h, e) =
       },
     )
 
-string-begins : (b : List ℕ) (m n : ℕ) → (m ≡ 2) ⊎ (m ≡ 3) → IsHead b m n → Begins b n
+string-begins : (b : List ℕ) (m n : ℕ) → (m ≡ 2) ⊎ (m ≡ 3) → IsHead b m n → BeginsHead b n
 string-begins b m n kind (w, h, e) =
     let i = information-below w n h in
     let lt : m < 7 = less kind in (
@@ -190,7 +190,7 @@ string-begins b m n kind (w, h, e) =
     less (inr e) = omega arith
 
 open-begins : (b : List ℕ) (m : ℕ) → m < 7 → is_reserved m 31 ≡ false → payload_length m 31 [] ≡ 0 →
-    b ≡ initial_byte m 31 ∷ [] → Begins b 0
+    b ≡ initial_byte m 31 ∷ [] → BeginsHead b 0
 open-begins b m lt fair none e = (
   m,
   31,
@@ -204,7 +204,7 @@ not_low-float : (x : ℕ) (b : List ℕ) → 248 < x → is_low_simple x b ≡ f
 not_low-float x [] h = refl
 not_low-float x (y ∷ b) h = ap (λ t. t && ltb y 32) (ne_eqb x 248 (λ e. omega arith))
 
-pub header-begins : (b : List ℕ) (h : Header) → SpellsHeader b h → Begins b (announced_length h)
+pub header-begins : (b : List ℕ) (h : Header) → SpellsHeader b h → BeginsHead b (announced_length h)
 header-begins b (Positive n) s = plain-begins b 0 n (omega arith) (λ a c. refl) s
 header-begins b (Negative n) s = plain-begins b 1 n (omega arith) (λ a c. refl) s
 header-begins b (Bytes (Some n)) s = string-begins b 2 n (inl refl) s
@@ -306,7 +306,7 @@ facts-answer m a n p c f len room =
     pass _ _ _ (le-ltb (length c) (argument_length a) (omega arith)) ∙
     ap (λ k. cond (ltb greatest_offset (p + 1 + argument_length a + k)) (Some too_long) None) f.payload
 
-begins-answer : (x : ℕ) (b : List ℕ) (n p : ℕ) → Begins (x ∷ b) n → length b ≡ argument_length (x % 32) →
+begins-answer : (x : ℕ) (b : List ℕ) (n p : ℕ) → BeginsHead (x ∷ b) n → length b ≡ argument_length (x % 32) →
     p + 1 + argument_length (x % 32) ≤ greatest_offset →
     head_refusal (x ∷ b) p ≡ cond (ltb greatest_offset (p + 1 + length b + n)) (Some too_long) None
 begins-answer x b n p (m, a, c, e, f) len room =
@@ -344,7 +344,7 @@ pub header-fits : {E : Type 0} (b : List ℕ) (p : ℕ) (h : Header) → IsHeadT
     p + length b + announced_length h ≤ greatest_offset
 header-fits b p h taken = by (header-begins b h taken.answers.0) taken.answers.1
   where
-    by : Begins b (announced_length h) → IsUsable b p → p + length b + announced_length h ≤ greatest_offset
+    by : BeginsHead b (announced_length h) → IsUsable b p → p + length b + announced_length h ≤ greatest_offset
     by (m, a, c, e, f) usable =
         let x : ℕ = initial_byte m a in
         let u = usable-fits x c p (subst (λ l. IsUsable l p) e usable) in

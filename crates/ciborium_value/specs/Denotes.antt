@@ -20,32 +20,32 @@ IsSeparated true t s = IsToken t comma s
 mutual
   -- the text t begins with the notation of a tree, whose arrays, maps and tags nest within so many
   -- levels, and r follows it
-  pub data Begins : ℕ → List ℕ → Tree → List ℕ → Type 0 where
-    alone : (l : ℕ) (v : Tree) (t r : List ℕ) → IsToken t (leaf v) r → Begins l t v r
+  pub data BeginsTree : ℕ → List ℕ → Tree → List ℕ → Type 0 where
+    alone : (l : ℕ) (v : Tree) (t r : List ℕ) → IsToken t (leaf v) r → BeginsTree l t v r
     tagged : (l n : ℕ) (v : Tree) (t s u r : List ℕ) → IsToken t (begin_tag n) s →
-        Begins l s v u → IsToken u end_tag r → Begins (suc l) t (trees.tag n v) r
+        BeginsTree l s v u → IsToken u end_tag r → BeginsTree (suc l) t (trees.tag n v) r
     listed : (l : ℕ) (vs : Trees) (t s r : List ℕ) → IsToken t begin_array s →
-        BeginsItems l false s vs r → Begins (suc l) t (trees.array vs) r
+        BeginsItems l false s vs r → BeginsTree (suc l) t (trees.array vs) r
     mapped : (l : ℕ) (ps : TreePairs) (t s r : List ℕ) → IsToken t begin_map s →
-        BeginsPairs l false s ps r → Begins (suc l) t (trees.map ps) r
+        BeginsPairs l false s ps r → BeginsTree (suc l) t (trees.map ps) r
 
   -- items and the end of their array, with commas between them, where one is due before the first
   -- or none
   pub data BeginsItems : ℕ → Bool → List ℕ → Trees → List ℕ → Type 0 where
     no_item : (l : ℕ) (due : Bool) (t r : List ℕ) → IsToken t end_array r → BeginsItems l due t trees.no_trees r
     item : (l : ℕ) (due : Bool) (v : Tree) (vs : Trees) (t s u r : List ℕ) → IsSeparated due t s →
-        Begins l s v u → BeginsItems l true u vs r → BeginsItems l due t (trees.tree v vs) r
+        BeginsTree l s v u → BeginsItems l true u vs r → BeginsItems l due t (trees.tree v vs) r
 
   -- pairs and the end of their map, a colon between each key and its value
   pub data BeginsPairs : ℕ → Bool → List ℕ → TreePairs → List ℕ → Type 0 where
     no_pair : (l : ℕ) (due : Bool) (t r : List ℕ) → IsToken t end_map r → BeginsPairs l due t trees.no_tree_pairs r
     pair : (l : ℕ) (due : Bool) (k v : Tree) (ps : TreePairs) (t s u w x r : List ℕ) →
-        IsSeparated due t s → Begins l s k u → IsToken u colon w → Begins l w v x →
+        IsSeparated due t s → BeginsTree l s k u → IsToken u colon w → BeginsTree l w v x →
         BeginsPairs l true x ps r → BeginsPairs l due t (trees.tree_pair k v ps) r
 
 -- the text denotes the tree within so many levels: but for blanks nothing follows it
 abbrev pub DenotesWithin : ℕ → List ℕ → Tree → Type 0
-DenotesWithin l t v = (r : List ℕ) × Begins l t v r × (behind_blanks r ≡ Some [])
+DenotesWithin l t v = (r : List ℕ) × BeginsTree l t v r × (behind_blanks r ≡ Some [])
 
 abbrev pub Denotes : List ℕ → Tree → Type 0
 Denotes t v = (l : ℕ) × DenotesWithin l t v

@@ -28,7 +28,7 @@ use parts::{
 
 impl Value {
     /// A value of another type, read from the item of this one as `from_reader` reads it from
-    /// bytes, but without a limit on how deep it nests.
+    /// bytes, but without a limit on how deep it nests. Reading a `Value` recurses as deep.
     ///
     /// # Errors
     ///

@@ -2,7 +2,7 @@
 
 ghost use Rattle.std.specs.Prelude.{◌≡◌, ◌∷◌, IfErr, IfOk, OnOk};
 ghost use Rattle.ciborium_value.specs.inner.Frames.{placed};
-ghost use Rattle.ciborium_value.specs.Sinks.{Cause, IsOwed, memory};
+ghost use Rattle.ciborium_value.specs.Sinks.{IsOwed, memory};
 ghost use Rattle.ciborium_value.specs.inner.Stack.{begun_frame, frames_of};
 ghost use Rattle.ciborium_value.specs.inner.TreeSinks.{IsBuiltAt, no_out, nothing_shown, state_of};
 ghost use Rattle.ciborium_value.specs.TreeAnswers.{IsTreeOf, tree_cause};

@@ -3,7 +3,7 @@ use Rattle.std.proofs.Common.{◌≡◌, Ok, ◌<◌, ◌+◌, ◌≢◌, ℕ, z
 use Rattle.std.proofs.Common.{Option, Some, None, refl, sym, ap, ◌∙◌, subst, append_assoc, append-nil, arith, ◌≤◌}
 use Rattle.std.specs.Vec.Iter.{into_iter_items}
 use Rattle.ciborium_ll.{proofs.UniqueSpelling.one_at_front, specs.{Head.{IsHead, break_byte}, Header.SpellsHeader}}
-use Rattle.ciborium_ll.specs.Item.{Item, Items, Pairs, unsigned, negative, bytes, text, array, tag, simple, float}
+use Rattle.ciborium_ll.specs.Item.{Item, Items, unsigned, bytes, array}
 use Rattle.ciborium_ll.specs.{Spells.Spells, declared.{header.Header.Header, strings.StringType.StringType}}
 use Rattle.ciborium_value.specs.Ahead.{Span, Rest, item, inside, of_bytes, takes_level}
 use Rattle.ciborium_value.specs.Given.{Outcome, Steps, Given, deeper, give, gives, nests, outcome, refuses, untagged}

@@ -3,7 +3,7 @@ use Rattle.std.proofs.Common.{◌≡◌, ◌≢◌, ℕ, Bool, false, List, [], 
 use Rattle.std.proofs.Common.{subst, append_assoc, append-nil, arith, inl, length-append}
 use Rattle.std.{proofs.lemmas.Str.is_utf8-from_IsUtf8, specs.Str.{is_utf8, IsUtf8}}
 use Rattle.ciborium_ll.{proofs.UniqueSpelling.one_at_front, specs.Header.SpellsHeader}
-use Rattle.ciborium_ll.specs.Item.{Item, unsigned, negative, bytes, text, array, tag, simple, float, Pairs, no_pairs}
+use Rattle.ciborium_ll.specs.Item.{Item, bytes, text, simple, Pairs, no_pairs}
 use Rattle.ciborium_ll.specs.{Item.{pair, pairs_count}, Spells.Spells, declared.decoder.Decoder.Decoder}
 use Rattle.ciborium_ll.specs.declared.{header.Header.Header, strings.StringType.StringType}
 use Rattle.ciborium_value.{proofs.Sources.{Sequences.fault_map, TreeLevels.utf8_not}, specs.Given.{gives, refuses}}

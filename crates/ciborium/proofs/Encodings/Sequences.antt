@@ -1,6 +1,6 @@
 -- Sequences of items: no bytes are two of them.
 use Rattle.std.proofs.Common.{◌≡◌, ℕ, List, [], ◌∷◌, ◌++◌, inl, refl, sym, ap, ◌∙◌, subst, arith}
-use Rattle.ciborium_ll.specs.{Item.{Item, Items}, Spells.{Spells, SpellsItems}}
+use Rattle.ciborium_ll.specs.{Item.Item, Spells.{Spells, SpellsItems}}
 use Rattle.ciborium_ll.proofs.{UniqueSpelling.{none_begins_another, one_at_front}, FirstHeads.nothing-in}
 use Rattle.ciborium.specs.ItemSequences.{OneSequence}
 use Rattle.ciborium_ll.specs.Item as items

@@ -7,7 +7,7 @@ use Rattle.std.proofs.Common.{◌≡◌, ℕ, suc, ◌+◌, ◌-◌, ◌*◌, ad
 use Rattle.std.proofs.Common.{false, ◌&&◌, List, [], ◌∷◌, ◌++◌, length, Option, Some, None, refl, sym, ap, ◌∙◌, subst}
 use Rattle.std.proofs.Common.{arith, ne_eqb, ◌⊎◌, inl, inr, length-append, ltb-true, ltb-false, le-ltb, Err}
 use Rattle.std.proofs.lemmas.Nat.{div-mul-add, mod-mul-add}
-use Rattle.ciborium_ll.proofs.HeadAnswers.{header-begins, header-fits, Begins, Facts, head-some}
+use Rattle.ciborium_ll.proofs.HeadAnswers.{header-begins, header-fits, BeginsHead, Facts, head-some}
 use Rattle.ciborium_ll.proofs.{MoreBytes.payload_length-more, OneHeader.one_header_at_front, UsableHeads.and_false}
 use Rattle.ciborium_ll.specs.{Accesses.{HasEnded, IsUsedUp, left_at_failure}, Bytes.greatest_offset, Decoding.IsAhead}
 use Rattle.ciborium_ll.specs.{Decoding.{IsAheadBy, PullsTo, Takes, left_of}, Head.initial_byte, Header.SpellsHeader}
@@ -46,7 +46,7 @@ pub only-long : (x y : List ℕ) (h : Header) (p : ℕ) (e : Refusal) → Spells
     e ≡ too_long
 only-long x y h p e s r = by (header-begins x h s)
   where
-    by : Begins x (announced_length h) → e ≡ too_long
+    by : BeginsHead x (announced_length h) → e ≡ too_long
     by (m, a, c, g, f) =
         let i : ℕ = initial_byte m a in
         let t : head_refusal (i ∷ (c ++ y)) p ≡ Some e = ap (λ (z : List ℕ). head_refusal (z ++ y) p) (sym g) ∙ r in
@@ -79,7 +79,7 @@ pub head-passes : (x y : List ℕ) (h : Header) (p : ℕ) → SpellsHeader x h �
     greatest_offset < p + length x + announced_length h
 head-passes x y h p s r = by (header-begins x h s)
   where
-    by : Begins x (announced_length h) → greatest_offset < p + length x + announced_length h
+    by : BeginsHead x (announced_length h) → greatest_offset < p + length x + announced_length h
     by (m, a, c, e, f) =
         let i : ℕ = initial_byte m a in
         let one : length x ≡ suc (length c) = ap length e in

@@ -2,8 +2,7 @@
 use Rattle.std.proofs.Common.{◌≡◌, ℕ, suc, ◌≤◌, List, [], ◌∷◌, ◌++◌, length, Option, Some, None, true, false, refl, sym}
 use Rattle.std.proofs.Common.{ap, ◌∙◌, subst, append_assoc, arith, ◌-◌}
 use Rattle.ciborium_ll.proofs.LevelFronts.{AreUnfinished, FirstOf, of_item, of_part, of_break, first-of}
-use Rattle.ciborium_ll.{proofs.OneHeader.one_header_at_front, specs.{Header.SpellsHeader, Item.{Item, unsigned}}}
-use Rattle.ciborium_ll.specs.Item.{negative, bytes, text, array, tag, simple, float, items_count, pairs_count}
+use Rattle.ciborium_ll.{proofs.OneHeader.one_header_at_front, specs.{Header.SpellsHeader, Item.{Item, array, tag}}}
 use Rattle.ciborium_ll.specs.{Spells.Spells, declared.{header.Header.Header, levels.Level.Level}}
 use Rattle.ciborium_ll.specs.declared.strings.StringType.{StringType}
 use Rattle.ciborium_value.specs.{Meaning.{folding_bytes, is_bignum_tag}, Nesting.{Limit, IsWithin, nesting}}

@@ -7,7 +7,7 @@ use Rattle.ciborium_ll.specs.{Bytes.greatest_offset, Head.{IsHead, within, one_b
 use Rattle.ciborium_ll.specs.{Head.{eight_bytes, open_byte, break_byte}, Header.SpellsHeader, Item.{Item, Items, Pairs}}
 use Rattle.ciborium_ll.specs.Item.{no_items, item, no_pairs, pair, unsigned, negative, bytes, text, array, tag, simple}
 use Rattle.ciborium_ll.specs.{Item.{float, items_count, pairs_count}, Refusal.{Refusal, io, syntax, too_long, semantic}}
-use Rattle.ciborium_ll.specs.Refusal.{recursion_limit_exceeded, HeadRefuses, IsUsable, HasHead, IsAtFront, head_refusal}
+use Rattle.ciborium_ll.specs.Refusal.{recursion_limit_exceeded, HeadRefuses, IsUsable, HasHead, head_refusal}
 use Rattle.ciborium_ll.specs.{Spells.{Spells, SpellsItems, SpellsPairs}, StringRefusal.{string_major, StringRefuses}}
 use Rattle.ciborium_ll.specs.{StringRefusal.{ChunksRefuse, OpenStringRefuses}, declared.header.Header.Header}
 use Rattle.ciborium_ll.specs.declared.strings.StringType.{StringType}

@@ -6,13 +6,13 @@ use Rattle.std.specs.{List.Sorted.IsStrictlySortedBy, Map.keys_of, declared.io.E
 use Rattle.ciborium_ll.{proofs.UniqueSpelling.one_at_front, specs.{Bytes.greatest_offset, Item.Item}}
 use Rattle.ciborium_value.proofs.{GoodItems.Accepted.{accepted, written-item}, Writing.ReadBack.written_spells_item}
 use Rattle.ciborium_value.{proofs.Writing.ReadBack.written_tree_is_proper, specs.Canonical.key_order}
-use Rattle.ciborium_value.specs.Deterministic.{AreRising, HasRisingKeys, PairsHaveRisingKeys}
+use Rattle.ciborium_value.specs.Deterministic.{AreRising, PairsHaveRisingKeys}
 use Rattle.ciborium_value.specs.{DeterministicTrees.IsDeterministicTree, Encoding.{encoding, item_of, pairs_of}}
 use Rattle.ciborium_value.specs.{Encoding.written_bytes, Folded.{folded, tree_pairs_folded}, Given.{gives, outcome}}
 use Rattle.ciborium_value.specs.{Meaning.tree_pairs_more, OrderedValues.ordered_value_cmp, Places.a_map}
 use Rattle.ciborium_value.specs.{Places.pairs_from, Readings.Reading, ReadsBack.{IsPlainlyReadBack, by_bytes}}
 use Rattle.ciborium_value.specs.Sinks.{Named, all_named, and_then, contained, container_of, in_turn, named_value}
-use Rattle.ciborium_value.specs.{Spelling.deterministic, Tree.{Tree, TreePairs}, ValueLists.tree_pairs_of, View.tree_of}
+use Rattle.ciborium_value.specs.{Spelling.deterministic, Tree.Tree, ValueLists.tree_pairs_of, View.tree_of}
 use Rattle.ciborium_value.specs.{WrittenItems.IsWritten, declared.{key_order.KeyOrder.KeyOrder, tree.Value.Value}}
 use Rattle.ciborium.proofs.{Encodings.RisingKeys.keys-rise, ReadBack.RoundTrips.one-content}
 use Rattle.ciborium.specs.{ValueAnswers.{AnswersGoodItem, GivesTree}, ValueClauses.TakesValue, Writes.IsNamedWritten}

@@ -6,7 +6,7 @@ use Rattle.std.specs.Io.KnownBytes.{Consumes, IsAtEnd}
 use Rattle.ciborium_ll.{proofs.{Decoders.begun-left, Unread.reads-head}, specs.Accesses.{HasEnded, left_at_failure}}
 use Rattle.ciborium_ll.specs.{Bytes.greatest_offset, Decoding.{HasBegun, HasSameReader, IsAheadBy, Takes, left_of}}
 use Rattle.ciborium_ll.specs.{Decoding.{next_offset, offset_of, with_left}, FirstHeads.{IsEndOrFault, IsFirstTaken}}
-use Rattle.ciborium_ll.specs.{ReaderSteps.{Advances, IsHeadTaken}, Refusal.{HeadRefuses, IsUsable}}
+use Rattle.ciborium_ll.specs.{ReaderSteps.IsHeadTaken, Refusal.{HeadRefuses, IsUsable}}
 use Rattle.ciborium_ll.specs.declared.{decoder.Decoder.Decoder, header.{Error.Error as LlError, Header.Header}}
 use Rattle.ciborium_value.{proofs.{GoodItems.Spelled.spells-pos, Sources.Sequences.fault_outside}, specs.Given.Given}
 use Rattle.ciborium_value.specs.{Given.outcome, Readings.Reading, Refuses.Refuses, Sources.IsGrantedFault}

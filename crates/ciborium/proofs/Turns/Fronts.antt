@@ -27,7 +27,7 @@ front-of remaining d h k xs p e a = record { spelled = subst (SpellsHeader a.0) 
 pub front-fits : {xs : List ℕ} {p : ℕ} {h : Header} {b r : List ℕ} → Front xs p h b r → p + length b ≤ greatest_offset
 front-fits {xs} {p} {h} {b} {r} u = by (header-begins b h u.spelled)
   where
-    by : answers.Begins b (announced_length h) → p + length b ≤ greatest_offset
+    by : answers.BeginsHead b (announced_length h) → p + length b ≤ greatest_offset
     by (m, a, c, i, f) =
         let x : ℕ = initial_byte m a in
         let whole : xs ≡ x ∷ (c ++ r) = u.split ∙ ap (λ (z : List ℕ). z ++ r) i in

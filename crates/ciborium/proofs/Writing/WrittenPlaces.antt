@@ -1,6 +1,6 @@
 -- Places whose items can be written.
 use Rattle.std.proofs.Common.{ℕ, ◌≤◌, List, [], ◌∷◌, ◌++◌, Option, Some, None, sym, ◌∙◌, subst}
-use Rattle.ciborium_ll.specs.{Bytes.greatest_offset, Item.{Item, items_count, pairs_count}}
+use Rattle.ciborium_ll.specs.{Bytes.greatest_offset, Item.{Item, items_count}}
 use Rattle.ciborium_value.specs.Places.{ContainerType, an_array, a_map, items_from, pairs_from, container, is_open}
 use Rattle.ciborium_value.specs.Places.{Place, top, within, tagged, added, IsFull, Fits, IsWrittenPlace}
 use Rattle.ciborium_value.specs.WrittenItems.{IsWritten, AreWritten, PairsAreWritten}

@@ -2,7 +2,6 @@
 
 ghost use Rattle.std.specs.Prelude.{◌≡◌, ℕ};
 ghost use Rattle.std.specs.declared.cmp.Ordering.TheVariants.{Less};
-ghost use Rattle.ciborium_value.specs.Canonical.{key_order};
 ghost use Rattle.ciborium_value.specs.View.{result_map, tree_of};
 ghost use Rattle.ciborium_value.specs.declared.key_order.KeyOrder.TheVariants as orders;
 ghost use Rattle.ciborium.specs.ValueClauses.{ReadsWhole};

@@ -9,7 +9,7 @@ use Rattle.std.specs.{Fmt.signed_decimal, List.{flat_map, repeat}, Str.Parse.{Al
 use Rattle.std.specs.Str.Parse.{digits_value}
 use Rattle.hex.specs.Hex.{encode_lower, encode_with, lower_digits}
 use Rattle.ciborium_value.proofs.Denoting.{OneTree.one_tree_is_denoted, Texts.{plain_byte, unit_character, utf8_token}}
-use Rattle.ciborium_value.specs.{Counts.{tree_pairs_count, trees_count}, Denotes.{Begins, BeginsItems, BeginsPairs}}
+use Rattle.ciborium_value.specs.{Counts.{tree_pairs_count, trees_count}, Denotes.{BeginsTree, BeginsItems, BeginsPairs}}
 use Rattle.ciborium_value.specs.Denotes.{DenotesWithin, IsSeparated, IsToken, alone, depth, depth_of_items}
 use Rattle.ciborium_value.specs.Denotes.{depth_of_pairs, item, listed, mapped, no_item, no_pair, pair, tagged}
 use Rattle.ciborium_value.specs.Notation.{comma as comma_text, escape, escaped, last_break, line_break, needs_escape}
@@ -337,7 +337,7 @@ at : (s r : List ℕ) (k : Token) → behind_blanks s ≡ Some s → token_at s 
 at s r k b e = (s, b, e)
 
 -- the same behind other blanks
-past : (l : ℕ) (t x r : List ℕ) (v : Tree) → behind_blanks t ≡ behind_blanks x → Begins l x v r → Begins l t v r
+past : (l : ℕ) (t x r : List ℕ) (v : Tree) → behind_blanks t ≡ behind_blanks x → BeginsTree l x v r → BeginsTree l t v r
 past l t x r v b (alone _ _ _ _ (s, c, e)) = alone l v t r (s, b ∙ c, e)
 past l t x r v b (tagged m n u _ s w _ (y, c, e) d end) = tagged m n u t s w r (y, b ∙ c, e) d end
 past l t x r v b (listed m vs _ s _ (y, c, e) d) = listed m vs t s r (y, b ∙ c, e) d
@@ -367,8 +367,8 @@ between false lines = []
 between true lines = comma_text lines
 
 -- what stands behind it, past blanks
-separated : (l : ℕ) (due : Bool) (lines : Option ℕ) (x r : List ℕ) (v : Tree) → Begins l x v r →
-    (s : List ℕ) × IsSeparated due (between due lines ++ (line_break lines ++ x)) s × Begins l s v r
+separated : (l : ℕ) (due : Bool) (lines : Option ℕ) (x r : List ℕ) (v : Tree) → BeginsTree l x v r →
+    (s : List ℕ) × IsSeparated due (between due lines ++ (line_break lines ++ x)) s × BeginsTree l s v r
 separated l false lines x r v d = (line_break lines ++ x, refl, past l (line_break lines ++ x) x r v (breaks lines x) d)
 separated l true None x r v d = (32 ∷ x, at (44 ∷ 32 ∷ x) (32 ∷ x) comma refl refl, past l (32 ∷ x) x r v refl d)
 separated l true (Some level) x r v d = (
@@ -400,7 +400,7 @@ last-follows (Some level) (suc n) b x f =
 
 mutual
   printed : (l : ℕ) (lines : Option ℕ) (v : Tree) (r : List ℕ) → depth v ≤ l → IsProperTree v → Follows r →
-      Begins l (notation_on lines v ++ r) v r
+      BeginsTree l (notation_on lines v ++ r) v r
   printed l lines (trees.integer z) r _ h f = alone l _ _ r
       (at (signed_decimal z ++ r) r (leaf (trees.integer z)) (number-not-blank z r h) (number-token z r h f))
   printed l lines (trees.bytes b) r _ h f = simp append_assoc
@@ -470,7 +470,7 @@ mutual
 on-lines : (lines : Option ℕ) (v : Tree) → IsProperTree v → DenotesWithin (depth v) (notation_on lines v) v
 on-lines lines v h = (
   [],
-  subst (λ (t : List ℕ). Begins (depth v) t v []) (append-nil (notation_on lines v))
+  subst (λ (t : List ℕ). BeginsTree (depth v) t v []) (append-nil (notation_on lines v))
       (printed (depth v) lines v [] (omega arith) h tt),
   refl,
 )

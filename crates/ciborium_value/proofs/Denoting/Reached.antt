@@ -1,8 +1,9 @@
 -- How far a text is read.
 use Rattle.std.proofs.Common.{◌≡◌, ◌≢◌, ℕ, List, [], ◌∷◌, Some, None, IfErr, IfOk, Ok, Err, Result, refl, sym, ap}
 use Rattle.std.proofs.Common.{arith, inl, inr, length, subst}
-use Rattle.ciborium_value.{proofs.Denoting.Steps.front, specs.Denotes.{At, Begins, Denotes, DenotesWithin, MayRefuse}}
-use Rattle.ciborium_value.specs.{Denotes.Memory, Tokens.{Token, behind_blanks, token_at}, Tree.Tree, View.tree_of}
+use Rattle.ciborium_value.{proofs.Denoting.Steps.front, specs.Denotes.{At, BeginsTree, Denotes, DenotesWithin}}
+use Rattle.ciborium_value.specs.{Denotes.{Memory, MayRefuse}, Tokens.{Token, behind_blanks, token_at}}
+use Rattle.ciborium_value.specs.{Tree.Tree, View.tree_of}
 use Rattle.ciborium_value.specs.declared.{from_notation.error.NotationError.NotationError, tree.Value.Value}
 use Rattle.ciborium_value.specs.inner.ReadTokens.{Around, Await, Completes, IsMisplaced, IsReached, IsRoom, Leads}
 use Rattle.ciborium_value.specs.inner.ReadTokens.{behind, item}
@@ -11,7 +12,7 @@ pub reached-first : (text : List ℕ) (limit : ℕ) → IsReached text limit [] 
 reached-first text limit = record {
   on = λ l v (r, d, none). (l, omega arith, v, r, d, (none, refl));
   back = λ v (m, i, w, r, d, (none, e)).
-      (r, subst (λ k. Begins k text v r) (omega (arith, i)) (subst (λ x. Begins m text x r) (sym e) d), none);
+      (r, subst (λ k. BeginsTree k text v r) (omega (arith, i)) (subst (λ x. BeginsTree m text x r) (sym e) d), none);
 }
 
 pub reached-next : (text : List ℕ) (limit : ℕ) (levels more : List Around) (due next : Await) (t s rest : List ℕ)

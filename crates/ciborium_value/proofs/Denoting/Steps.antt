@@ -1,10 +1,11 @@
 -- What each token makes of what is unfinished and due.
 use Rattle.std.proofs.Common.{◌≡◌, ◌≢◌, ℕ, zero, suc, ◌+◌, ◌<◌, Bool, true, false, List, [], ◌∷◌, ◌++◌, length, Some}
 use Rattle.std.proofs.Common.{◌⊎◌, inl, inr, refl, sym, ap, ◌∙◌, subst, arith}
-use Rattle.ciborium_value.specs.Denotes.{Begins, BeginsItems, BeginsPairs, IsSeparated, IsToken, alone, listed, mapped}
-use Rattle.ciborium_value.specs.{Denotes.{no_item, no_pair, pair, tagged}, Tokens.{Token, behind_blanks, token_at}}
-use Rattle.ciborium_value.specs.Tokens.{leaf, begin_tag, end_tag, begin_array, end_array, begin_map, end_map, comma}
-use Rattle.ciborium_value.specs.{Tokens.colon, Tree.{Tree, Trees, TreePairs}, View.{trees_from, tree_pairs_from}}
+use Rattle.ciborium_value.specs.Denotes.{BeginsTree, BeginsItems, BeginsPairs, IsSeparated, IsToken, alone, listed}
+use Rattle.ciborium_value.specs.{Denotes.{mapped, no_item, no_pair, pair, tagged}, Tokens.{behind_blanks, token_at}}
+use Rattle.ciborium_value.specs.Tokens.{Token, leaf, begin_tag, end_tag, begin_array, end_array, begin_map, end_map}
+use Rattle.ciborium_value.specs.{Tokens.{colon, comma}, Tree.{Tree, Trees, TreePairs}}
+use Rattle.ciborium_value.specs.View.{trees_from, tree_pairs_from}
 use Rattle.ciborium_value.specs.inner.ReadTokens.{Around, Complete, Completes, Leads, array_part, behind, in_array}
 use Rattle.ciborium_value.specs.inner.ReadTokens.{in_keys, in_tag, in_values, item, map_part, enters, pairs_before}
 use Rattle.ciborium_value.specs.inner.ReadTokens.{trees_before}
@@ -49,18 +50,18 @@ no-token t k r b (s, c, e) = let nil : s ≡ [] = cc (b, c) in absurd (cc (e, ap
 abbrev pub Begun : Token → ℕ → List ℕ → Tree → List ℕ → Type 0
 Begun (leaf v) l r w z = (w ≡ v) × (z ≡ r)
 Begun (begin_tag n) l r w z = (m : ℕ) × (l ≡ suc m) × (u : Tree) × (s : List ℕ) × (w ≡ trees.tag n u) ×
-    Begins m r u s × IsToken s end_tag z
+    BeginsTree m r u s × IsToken s end_tag z
 Begun begin_array l r w z = (m : ℕ) × (l ≡ suc m) × (vs : Trees) × (w ≡ trees.array vs) × BeginsItems m false r vs z
 Begun begin_map l r w z = (m : ℕ) × (l ≡ suc m) × (ps : TreePairs) × (w ≡ trees.map ps) × BeginsPairs m false r ps z
 Begun _ l r w z = ⊥
 
-pub begun : (k : Token) (l : ℕ) (t r z : List ℕ) (w : Tree) → IsToken t k r → Begins l t w z → Begun k l r w z
+pub begun : (k : Token) (l : ℕ) (t r z : List ℕ) (w : Tree) → IsToken t k r → BeginsTree l t w z → Begun k l r w z
 begun k l t r z w at (alone _ v _ _ is) =
     let (e, f) = one-token t k (leaf v) r z at is in subst (λ h. Begun h l r v z) (sym e) (refl, sym f)
 begun k l t r z w at (tagged m n v _ s u _ is d end) =
     let (e, f) = one-token t k (begin_tag n) r s at is in
     subst (λ h. Begun h (suc m) r (trees.tag n v) z) (sym e)
-    (m, refl, v, u, refl, subst (λ x. Begins m x v u) (sym f) d, end)
+    (m, refl, v, u, refl, subst (λ x. BeginsTree m x v u) (sym f) d, end)
 begun k l t r z w at (listed m vs _ s _ is b) =
     let (e, f) = one-token t k begin_array r s at is in
     subst (λ h. Begun h (suc m) r (trees.array vs) z) (sym e)
@@ -80,19 +81,19 @@ items-end l true t r z vs at (denotes.item _ _ v us _ s u _ is d m) =
 
 -- an item that its row begins with, and the others
 abbrev Row : ℕ → List ℕ → Trees → List ℕ → Type 0
-Row l t vs z = (v : Tree) × (us : Trees) × (u : List ℕ) × (vs ≡ trees.tree v us) × Begins l t v u ×
+Row l t vs z = (v : Tree) × (us : Trees) × (u : List ℕ) × (vs ≡ trees.tree v us) × BeginsTree l t v u ×
     BeginsItems l true u us z
 
 item-first : (l : ℕ) (k : Token) (t r z : List ℕ) (vs : Trees) → k ≢ end_array → IsToken t k r →
     BeginsItems l false t vs z → Row l t vs z
 item-first l k t r z vs other at (no_item _ _ _ _ is) = absurd (other (one-token t k end_array r z at is).0)
 item-first l k t r z vs other at (denotes.item _ _ v us _ s u _ e d m) =
-    (v, us, u, refl, subst (λ x. Begins l x v u) e d, m)
+    (v, us, u, refl, subst (λ x. BeginsTree l x v u) e d, m)
 
 pub item-comma : (l : ℕ) (t r z : List ℕ) (vs : Trees) → IsToken t comma r → BeginsItems l true t vs z → Row l r vs z
 item-comma l t r z vs at (no_item _ _ _ _ is) = absurd (cc (one-token t comma end_array r z at is).0)
 item-comma l t r z vs at (denotes.item _ _ v us _ s u _ is d m) =
-    (v, us, u, refl, subst (λ x. Begins l x v u) (sym (one-token t comma comma r s at is).1) d, m)
+    (v, us, u, refl, subst (λ x. BeginsTree l x v u) (sym (one-token t comma comma r s at is).1) d, m)
 
 pub other-behind-item : (l : ℕ) (k : Token) (t r z : List ℕ) (vs : Trees) → k ≢ end_array → k ≢ comma → IsToken t k r →
     BeginsItems l true t vs z → ⊥
@@ -110,19 +111,20 @@ pairs-end l true t r z ps at (pair _ _ k v qs _ s u w x _ sep d is f m) =
 -- a pair that its row begins with, and the others
 abbrev PairRow : ℕ → List ℕ → TreePairs → List ℕ → Type 0
 PairRow l t ps z = (k : Tree) × (v : Tree) × (qs : TreePairs) × (u : List ℕ) × (w : List ℕ) × (x : List ℕ) ×
-    (ps ≡ trees.tree_pair k v qs) × Begins l t k u × IsToken u colon w × Begins l w v x × BeginsPairs l true x qs z
+    (ps ≡ trees.tree_pair k v qs) × BeginsTree l t k u × IsToken u colon w × BeginsTree l w v x ×
+    BeginsPairs l true x qs z
 
 pair-first : (l : ℕ) (h : Token) (t r z : List ℕ) (ps : TreePairs) → h ≢ end_map → IsToken t h r →
     BeginsPairs l false t ps z → PairRow l t ps z
 pair-first l h t r z ps other at (no_pair _ _ _ _ is) = absurd (other (one-token t h end_map r z at is).0)
 pair-first l h t r z ps other at (pair _ _ k v qs _ s u w x _ e d is f m) =
-    (k, v, qs, u, w, x, refl, subst (λ y. Begins l y k u) e d, is, f, m)
+    (k, v, qs, u, w, x, refl, subst (λ y. BeginsTree l y k u) e d, is, f, m)
 
 pub pair-comma : (l : ℕ) (t r z : List ℕ) (ps : TreePairs) → IsToken t comma r → BeginsPairs l true t ps z →
     PairRow l r ps z
 pair-comma l t r z ps at (no_pair _ _ _ _ is) = absurd (cc (one-token t comma end_map r z at is).0)
 pair-comma l t r z ps at (pair _ _ k v qs _ s u w x _ sep d is f m) =
-    (k, v, qs, u, w, x, refl, subst (λ y. Begins l y k u) (sym (one-token t comma comma r s at sep).1) d, is, f, m)
+    (k, v, qs, u, w, x, refl, subst (λ y. BeginsTree l y k u) (sym (one-token t comma comma r s at sep).1) d, is, f, m)
 
 pub other-behind-value : (l : ℕ) (h : Token) (t r z : List ℕ) (ps : TreePairs) → h ≢ end_map → h ≢ comma →
     IsToken t h r → BeginsPairs l true t ps z → ⊥
@@ -260,7 +262,7 @@ pub leads-value : (levels : List Around) (qs : List (Tree × Tree)) (w : Tree) �
     Leads (in_keys qs ∷ levels) (behind w) colon (in_values qs w ∷ levels) item
 leads-value levels qs w = record {
   on = λ l t r x at (m, i, (y, s, u, ps, z, is, d, b, c)).
-      (m, i, y, u, subst (λ q. Begins m q y u) (sym (one-token t colon colon r s at is).1) d, (ps, z, b, c));
+      (m, i, y, u, subst (λ q. BeginsTree m q y u) (sym (one-token t colon colon r s at is).1) d, (ps, z, b, c));
   back = λ l t r x _ at (m, i, y, u, d, (ps, z, b, c)). (m, i, (y, r, u, ps, z, at, d, b, c));
 }
 
@@ -307,14 +309,15 @@ leads-tag-end levels n w = record {
 abbrev HasToken : List ℕ → Type 0
 HasToken t = (k : Token) × (r : List ℕ) × IsToken t k r
 
-begins-token : (l : ℕ) (t r : List ℕ) (v : Tree) → Begins l t v r → HasToken t
+begins-token : (l : ℕ) (t r : List ℕ) (v : Tree) → BeginsTree l t v r → HasToken t
 begins-token l t r v (alone _ _ _ _ is) = (leaf v, r, is)
 begins-token l t r v (tagged _ n _ _ s _ _ is d end) = (begin_tag n, s, is)
 begins-token l t r v (listed _ _ _ s _ is m) = (begin_array, s, is)
 begins-token l t r v (mapped _ _ _ s _ is m) = (begin_map, s, is)
 
-separated-token : (l : ℕ) (due : Bool) (t s r : List ℕ) (v : Tree) → IsSeparated due t s → Begins l s v r → HasToken t
-separated-token l false t s r v e d = begins-token l t r v (subst (λ x. Begins l x v r) e d)
+separated-token : (l : ℕ) (due : Bool) (t s r : List ℕ) (v : Tree) → IsSeparated due t s → BeginsTree l s v r →
+    HasToken t
+separated-token l false t s r v e d = begins-token l t r v (subst (λ x. BeginsTree l x v r) e d)
 separated-token l true t s r v is d = (comma, s, is)
 
 items-token : (l : ℕ) (due : Bool) (t r : List ℕ) (vs : Trees) → BeginsItems l due t vs r → HasToken t

@@ -9,7 +9,8 @@ use Rattle.ciborium_value.specs.Given.{refuses, of_meaning, outcome, outcome_map
 use Rattle.ciborium_value.specs.{Given.{given_items, given_tree_pairs}, Meaning.{tag_meaning, trees_more}}
 use Rattle.ciborium_value.specs.{Meaning.{tree_pairs_more, simple_meaning}, Tree.{Tree, Trees, TreePairs}}
 use Rattle.ciborium_value.specs.{TreeAnswers.IsErrorOf, ValueLists.{trees_of, tree_pairs_of}, View.tree_of}
-use Rattle.ciborium_value.specs.{declared.error.Error.Error, declared.tree.Value.Value, inner.FoldedCopies.IsUnfolded}
+use Rattle.ciborium_value.specs.inner.FoldedCopies.{RefusesFolding}
+use Rattle.ciborium_value.specs.{declared.error.Error.Error, declared.tree.Value.Value}
 use Rattle.ciborium_value.proofs.Trees.Views.{tree_of-Bool, tree_of-Bytes, tree_of-Integer, tree_of-Null, tree_of-Text}
 use Rattle.ciborium_value.specs.declared.tree.Value.{the_lemmas, TheOpen.Value-F, TheViews.{out-Value, roll-Value}}
 use Rattle.ciborium_value.specs.lemmas.GivenOutcomes.{pair_first, tree_first}
@@ -73,12 +74,13 @@ mutual
 -- ---- why a copy is refused
 
 -- a part that does not fold, and so the whole
-pub refused_as : {A B : Type 0} (e : Error) {o : Option A} {p : Option B} → (o ≡ None → p ≡ None) → IsUnfolded e o →
-    IsUnfolded e p
+pub refused_as : {A B : Type 0} (e : Error) {o : Option A} {p : Option B} → (o ≡ None → p ≡ None) → RefusesFolding e o →
+    RefusesFolding e p
 refused_as (error.Custom k) f h = (h.0, f h.1)
 refused_as error.Memory f h = tt
 
-pub error_as : (t : Tree) (e : Error) → IsUnfolded e (folded t) → IsErrorOf e (outcome None (given_value (item_of t)))
+pub error_as : (t : Tree) (e : Error) → RefusesFolding e (folded t) →
+    IsErrorOf e (outcome None (given_value (item_of t)))
 error_as t (error.Custom k) h = given-folded t ∙ ap (of_meaning kinds.TooLarge) h.1 ∙ ap refuses (sym h.0)
 error_as t error.Memory h = tt
 

@@ -7,7 +7,7 @@ use Rattle.ciborium_value.proofs.Forms.SortedPairs.{NeverFall, sorted-exchanged,
 use Rattle.ciborium_value.proofs.Forms.SortedPairs.{inserted-Greater, less_where_greater}
 use Rattle.ciborium_value.{proofs.Orders.TotalOrders.key_order_total, specs.Canonical.key_order}
 use Rattle.ciborium_value.specs.{Deterministic.{AreRising, keys_of}, DeterministicForms.{inserted, sorted_pairs}}
-use Rattle.ciborium_value.specs.{Given.{gives, then_take}, SameContents.{IsAlike, PairsAreAlike, no_pairs, more_pairs}}
+use Rattle.ciborium_value.specs.{Given.{gives, then_take}, SameContents.{PairsAreAlike, no_pairs, more_pairs}}
 use Rattle.ciborium_value.specs.{SameContents.{exchanged, one_after_another}, Tree.{Tree, TreePairs, no_tree_pairs}}
 use Rattle.ciborium_value.specs.{Tree.tree_pair, ValueLists.tree_pairs_of, View.tree_of}
 use Rattle.ciborium_value.specs.declared.{key_order.KeyOrder.KeyOrder, tree.Value.Value}

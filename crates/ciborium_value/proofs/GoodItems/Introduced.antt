@@ -3,7 +3,7 @@ use Rattle.std.proofs.Common.{◌≡◌, ℕ, zero, suc, ◌+◌, ◌*◌, ◌<�
 use Rattle.std.proofs.Common.{◌++◌, length, Option, Some, None, option_map, pos, negsuc, refl, sym, ap, ◌∙◌, subst}
 use Rattle.std.proofs.Common.{arith, inl, inr, length-append, append_assoc, eqb-true}
 use Rattle.ciborium_ll.specs.{Bytes.{AreBytes, greatest_offset}, Head.{IsHead, IsSimple, shortest_head, open_byte}}
-use Rattle.ciborium_ll.specs.{Head.break_byte, Item.Item, Refusal.HasHead, Spells.{AreChunks, joined, Spells}}
+use Rattle.ciborium_ll.specs.{Head.break_byte, Refusal.HasHead, Spells.{AreChunks, joined, Spells}}
 use Rattle.ciborium_ll.specs.{StringRefusal.{string_major, IsAllowed}, declared.kind.Kind.TheVariants.NotShortest}
 use Rattle.ciborium_ll.specs.declared.{kind.Kind.TheVariants.Open, strings.StringType.StringType}
 use Rattle.ciborium_value.proofs.GoodItems.{Bignums.whole-kept, Faults.{fault-short, fault-open, fault-undefined}}

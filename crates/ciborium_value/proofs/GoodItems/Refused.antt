@@ -9,7 +9,7 @@ use Rattle.ciborium_ll.{proofs.UsableHeads.{stands-length, pass}, specs.Bytes.{A
 use Rattle.ciborium_ll.specs.{Head.IsSimple, Refusal.{Refusal, syntax, semantic, IsUsable, HasHead, IsAtFront}}
 use Rattle.ciborium_ll.specs.StringRefusal.{string_major, IsAllowed, PayloadRefuses, StringRefuses, ChunkRefuses}
 use Rattle.ciborium_ll.specs.{StringRefusal.{OpenStringRefuses, HasStringHead}, declared.kind.Kind.TheVariants.Float}
-use Rattle.ciborium_ll.specs.declared.kind.Kind.TheVariants.{Simple, Break, TooLarge, NotFolded}
+use Rattle.ciborium_ll.specs.declared.kind.Kind.TheVariants.{Simple, TooLarge}
 use Rattle.ciborium_ll.specs.declared.strings.StringType.{StringType}
 use Rattle.ciborium_value.proofs.GoodItems.{Answered.{kind_ok, rest-bytes}, Bignums.{foldable-small, foldable-is}}
 use Rattle.ciborium_value.proofs.GoodItems.{Bignums.{is-foldable, large-none}, Faults.{fault-break, fault-float}}

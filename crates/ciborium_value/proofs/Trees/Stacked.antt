@@ -3,7 +3,7 @@ use Rattle.std.proofs.Common.{◌≡◌, ℕ, suc, ◌-◌, ◌<◌, List, [], �
 use Rattle.std.proofs.Common.{reverse, Bool, true, Option, None, Some, refl, sym, ap, ◌∙◌, arith, length-append}
 use Rattle.std.proofs.lemmas.List.{map-append, reverse-append, reverse-reverse}
 use Rattle.ciborium_value.specs.{Tree.Tree, ValueLists.pair_trees, View.tree_of, declared.stack.Frame.Frame}
-use Rattle.ciborium_value.specs.{declared.tree.Value.Value, inner.Frames.{Filled, Placed, fill, fill_map, placed, more}}
+use Rattle.ciborium_value.specs.{declared.tree.Value.Value, inner.Frames.{Filled, fill, fill_map, placed, more}}
 use Rattle.ciborium_value.specs.inner.{Frames.{still, waiting_keys, whole, with_last}, Stack.{frame_of, map_frame}}
 use Rattle.ciborium_value.specs.inner.Stack.{tree_frames}
 use Rattle.ciborium_value.specs.inner.Frames as frames

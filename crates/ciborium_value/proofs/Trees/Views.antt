@@ -1,7 +1,7 @@
 -- The tree of a value, variant by variant and along its lists.
 use Rattle.std.proofs.Common.{◌≡◌, ℕ, suc, List, [], ◌∷◌, length, string_bytes, String, Vec, Box, Global, ℤ, Bool}
 use Rattle.std.proofs.Common.{rules, refl, ap}
-use Rattle.ciborium_value.specs.{Counts.{trees_count, tree_pairs_count}, Tree.{Tree, TreePairs, Trees}}
+use Rattle.ciborium_value.specs.Counts.{trees_count, tree_pairs_count}
 use Rattle.ciborium_value.specs.{ValueLists.{trees_of, tree_pairs_of}, View.tree_of, declared.tree.Value.Value}
 use Rattle.ciborium_value.specs.declared.tree.Value.{the_lemmas}
 use Rattle.ciborium_value.specs.Tree as trees

@@ -6,7 +6,7 @@ use Rattle.ciborium_value.specs.Places.{ContainerType, an_array, a_map, size_of,
 use Rattle.ciborium_value.specs.Places.{Place, top, within, tagged, HasRoom, added, IsFull}
 use Rattle.ciborium_value.specs.{Tree.Tree, View.trees_from}
 use Rattle.ciborium_value.specs.{View.tree_pairs_from, WrittenTrees.{written_tree, written_trees, written_pairs}}
-use Rattle.ciborium_value.specs.inner.Frames.{TreeFrame, Placed, done, more, placed, tree_ended, closed}
+use Rattle.ciborium_value.specs.inner.Frames.{TreeFrame, Placed, more, placed, tree_ended}
 use Rattle.ciborium_value.specs.inner.TreeSinks.{put_tree, put_items, begun, tagged_by, built, IsSound}
 use Rattle.ciborium_ll.specs.Item as item
 use Rattle.ciborium_value.specs.inner.Frames as frames

@@ -2,7 +2,7 @@
 use Rattle.std.proofs.Common.{Bool, true, false, cond, nat_lt, lit<, ◌≡◌, ℕ, zero, suc, ◌+◌, List, [], ◌∷◌, ◌++◌}
 use Rattle.std.proofs.Common.{length, ◌<◌, Option, Some, None, refl, sym, ◌∙◌, ap, subst, append_assoc, append-nil}
 use Rattle.std.{proofs.Common.arith, specs.Borrow.GName}
-use Rattle.ciborium_ll.specs.{Head.{shortest_head, open_byte, break_byte}, Item.{Item, Items, Pairs, items_count}}
+use Rattle.ciborium_ll.specs.{Head.{shortest_head, open_byte, break_byte}, Item.{Item, items_count}}
 use Rattle.ciborium_ll.specs.Item.{pairs_count}
 use Rattle.ciborium_value.specs.Encoding.{written_bytes, items_bytes, pairs_bytes, enclosed, written_string}
 use Rattle.ciborium_value.specs.Places.{ContainerType, an_array, a_map, items_from, pairs_from, container, begin_bytes}

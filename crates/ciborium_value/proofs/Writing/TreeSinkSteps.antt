@@ -5,7 +5,7 @@ use Rattle.std.proofs.lemmas.Result.{on_ok_weaker}
 use Rattle.ciborium_ll.specs.Item.{Item}
 use Rattle.ciborium_value.proofs.Writing.Growing.{still_unfinished, built-added, sound-added, built-ended, built-broken}
 use Rattle.ciborium_value.{proofs.Writing.Standing.writer_at-added, specs.{Encoding.boolean_item, Number.number_tree}}
-use Rattle.ciborium_value.specs.{Number.shortest_bytes, Places.{ContainerType, an_array, a_map, Place, top, within}}
+use Rattle.ciborium_value.specs.{Number.shortest_bytes, Places.{ContainerType, Place, top, within}}
 use Rattle.ciborium_value.specs.{Places.{HasRoom, added, container, IsComplete, writer_at}, Sinks.{Named, number_item}}
 use Rattle.ciborium_value.specs.{Sinks.{Adds, Begins, Ends, AddsNamed}, Tree.Tree, TreeAnswers.IsTreeOf, View.tree_of}
 use Rattle.ciborium_value.specs.{WrittenTrees.written_tree, declared.{serialized.TreeSink.TreeSink, tree.Value.Value}}

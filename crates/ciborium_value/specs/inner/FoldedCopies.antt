@@ -4,6 +4,6 @@ use Rattle.ciborium_value.specs.declared.error.Error.{Error, TheVariants.{Custom
 use Rattle.ciborium_ll.specs.declared.kind.Kind.TheVariants as kinds
 
 -- as too large where it does not fold, or for want of memory
-abbrev pub IsUnfolded : {A : Type 0} → Error → Option A → Type 0
-IsUnfolded (Custom k) o = (k ≡ kinds.TooLarge) × (o ≡ None)
-IsUnfolded Memory o = Unit {0}
+abbrev pub RefusesFolding : {A : Type 0} → Error → Option A → Type 0
+RefusesFolding (Custom k) o = (k ≡ kinds.TooLarge) × (o ≡ None)
+RefusesFolding Memory o = Unit {0}

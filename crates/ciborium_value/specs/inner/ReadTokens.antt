@@ -1,7 +1,7 @@
 -- What reading diagnostic notation keeps between two tokens, and what it promises of them.
 use Rattle.std.specs.Prelude.{◌≡◌, ℕ, suc, ◌^◌, ◌+◌, ◌≤◌, ◌<◌, List, [], ◌∷◌, length, Option, Some, None, ◌==◌}
 use Rattle.std.specs.Prelude.{if◌then◌else◌, true, Bool, false, map, reverse, Result, Ok, Err}
-use Rattle.ciborium_value.specs.Denotes.{Begins, BeginsItems, BeginsPairs, DenotesWithin, IsToken, MayRefuse}
+use Rattle.ciborium_value.specs.Denotes.{BeginsTree, BeginsItems, BeginsPairs, DenotesWithin, IsToken, MayRefuse}
 use Rattle.ciborium_value.specs.{Notation.needs_escape, Tokens.{Token, behind_blanks}, Tree.{Tree, Trees, TreePairs}}
 use Rattle.ciborium_value.specs.{ValueLists.pair_trees, View.tree_of, declared.from_notation.byte_strings.Group.Group}
 use Rattle.ciborium_value.specs.declared.from_notation.{error.NotationError.NotationError, levels.Due.Due}
@@ -120,7 +120,7 @@ Complete m [] w t v = (behind_blanks t ≡ Some []) × (v ≡ w)
 Complete m (in_array ws ∷ levels) w t v = (vs : Trees) × (r : List ℕ) ×
     BeginsItems m true t vs r × Complete (suc m) levels (trees.array (trees_before ws (trees.tree w vs))) r v
 Complete m (in_keys qs ∷ levels) w t v = (x : Tree) ×
-    (s : List ℕ) × (u : List ℕ) × (ps : TreePairs) × (r : List ℕ) × IsToken t tokens.colon s × Begins m s x u ×
+    (s : List ℕ) × (u : List ℕ) × (ps : TreePairs) × (r : List ℕ) × IsToken t tokens.colon s × BeginsTree m s x u ×
     BeginsPairs m true u ps r × Complete (suc m) levels (trees.map (pairs_before qs (trees.tree_pair w x ps))) r v
 Complete m (in_values qs k ∷ levels) w t v = (ps : TreePairs) × (r : List ℕ) ×
     BeginsPairs m true t ps r × Complete (suc m) levels (trees.map (pairs_before qs (trees.tree_pair k w ps))) r v
@@ -130,7 +130,7 @@ Complete m (in_tag n ∷ levels) w t v = (r : List ℕ) × IsToken t tokens.end_
 -- where this is due in these levels, the text t completes the tree v within l levels
 abbrev pub Completes : ℕ → List Around → Await → List ℕ → Tree → Type 0
 Completes l levels item t v = (m : ℕ) × (l ≡ m + length levels) × (w : Tree) × (r : List ℕ) ×
-    Begins m t w r × Complete m levels w r v
+    BeginsTree m t w r × Complete m levels w r v
 Completes l levels array_part t v = (m : ℕ) × (l ≡ suc m + length levels) × (vs : Trees) ×
     (r : List ℕ) × BeginsItems m false t vs r × Complete (suc m) levels (trees.array vs) r v
 Completes l levels map_part t v = (m : ℕ) × (l ≡ suc m + length levels) × (ps : TreePairs) ×

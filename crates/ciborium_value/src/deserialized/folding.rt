@@ -5,7 +5,7 @@ ghost use Rattle.ciborium_value.specs.Folded.{folded, tree_pairs_folded, trees_f
 ghost use Rattle.ciborium_value.specs.Tree as trees;
 ghost use Rattle.ciborium_value.specs.ValueLists.{tree_pairs_of, trees_of};
 ghost use Rattle.ciborium_value.specs.View.{tree_of};
-ghost use Rattle.ciborium_value.specs.inner.FoldedCopies.{IsUnfolded};
+ghost use Rattle.ciborium_value.specs.inner.FoldedCopies.{RefusesFolding};
 
 use crate::bignum::{find_folding, fold};
 use crate::error::Error;
@@ -16,7 +16,7 @@ use std::alloc::Global;
 #[cycle(fold_value)]
 pub(super) fn fold_value(alloc: Global, value: &Value) -> Result<Value, Error>
     ensures ok { IfOk result (λ v. folded (tree_of value.now) ≡ Some (tree_of v)) }
-    ensures refused { IfErr result (λ e. IsUnfolded e (folded (tree_of value.now))) }
+    ensures refused { IfErr result (λ e. RefusesFolding e (folded (tree_of value.now))) }
 {
     match value {
         Value::Tag(tag, content) => fold_tag(alloc, *tag, content),
@@ -32,7 +32,7 @@ fn fold_tag(alloc: Global, tag: u64, content: &Value) -> Result<Value, Error>
     ensures ok { IfOk result (λ v.
         folded (trees.tag tag (tree_of content.now)) ≡ Some (tree_of v)) }
     ensures refused { IfErr result
-        (λ e. IsUnfolded e (folded (trees.tag tag (tree_of content.now)))) }
+        (λ e. RefusesFolding e (folded (trees.tag tag (tree_of content.now)))) }
 {
     match find_folding(tag, content) {
         Some(bytes) => fold(alloc, tag, bytes),
@@ -48,7 +48,7 @@ fn fold_tag(alloc: Global, tag: u64, content: &Value) -> Result<Value, Error>
 fn fold_values(alloc: Global, values: &[Value]) -> Result<Vec<Value>, Error>
     ensures ok { IfOk result (λ copies.
         trees_folded (trees_of values.now) ≡ Some (trees_of copies.items)) }
-    ensures refused { IfErr result (λ e. IsUnfolded e (trees_folded (trees_of values.now))) }
+    ensures refused { IfErr result (λ e. RefusesFolding e (trees_folded (trees_of values.now))) }
 {
     let mut copies = Vec::new(alloc);
     for value in values {
@@ -63,7 +63,7 @@ fn fold_pairs(alloc: Global, pairs: &[(Value, Value)]) -> Result<Vec<(Value, Val
     ensures ok { IfOk result (λ copies.
         tree_pairs_folded (tree_pairs_of pairs.now) ≡ Some (tree_pairs_of copies.items)) }
     ensures refused { IfErr result
-        (λ e. IsUnfolded e (tree_pairs_folded (tree_pairs_of pairs.now))) }
+        (λ e. RefusesFolding e (tree_pairs_folded (tree_pairs_of pairs.now))) }
 {
     let mut copies = Vec::new(alloc);
     for pair in pairs {

@@ -1,5 +1,4 @@
-use Rattle.std.proofs.Common.{◌≡◌, ◌++◌, append_assoc}
-use Rattle.cbor.specs.Lines.{text_line}
+use Rattle.std.proofs.Common.{◌++◌, append_assoc}
 use Rattle.cbor.proofs.streams.show_judged.Goals as goal
 use Rattle.cbor.proofs.streams.show_judged.Goals.{then-not-is_shown+in_ok-put_text, else-not-is_shown}
 

@@ -3,7 +3,7 @@ use Rattle.ciborium_value.proofs.FoldedTrees.FoldedCopies.{IsFoldedCopy, IsFolde
 use Rattle.ciborium_value.proofs.FoldedTrees.FoldedCopies.{leaf_folded, one_pair_unfolded, one_unfolded, refused_as}
 use Rattle.ciborium_value.{proofs.Trees.Views.tree_of-Map, proofs.Writing.Progress.exits, specs.Folded.folded}
 use Rattle.ciborium_value.specs.{Folded.{tree_pairs_folded, trees_folded}, View.tree_of}
-use Rattle.ciborium_value.specs.{ValueLists.{tree_pairs_of, trees_of}, inner.FoldedCopies.IsUnfolded}
+use Rattle.ciborium_value.specs.{ValueLists.{tree_pairs_of, trees_of}, inner.FoldedCopies.RefusesFolding}
 use Rattle.ciborium_value.specs.Tree as trees
 use Rattle.ciborium_value.proofs.deserialized.folding.+fold_value.Goals as goal
 
@@ -24,7 +24,7 @@ pub fold_value-returns-in_err-fold_pairs-in-Map-clause-refused :
     goal.fold_value-returns-in_err-fold_pairs-in-Map-clause-refused
 fold_value-returns-in_err-fold_pairs-in-Map-clause-refused t c =
     let e = c.in_err-fold_pairs-in-Map.field-0.0 in
-    exits _ e (λ x. IsUnfolded x (folded (tree_of c.args.value.now)))
+    exits _ e (λ x. RefusesFolding x (folded (tree_of c.args.value.now)))
     c.from_residual-in_err-fold_pairs-in-Map.ensures.1
     (refused_as e (λ none. ap (λ v. folded (tree_of v)) c.in-Map.is ∙ ap folded (tree_of-Map _) ∙
     ap (option_map trees.map) none)
@@ -39,7 +39,7 @@ fold_values-loop-value-preserved t c = rw c.in_ok-push.ensures.items
 pub fold_values-returns-in_err-fold_value-clause-refused : goal.fold_values-returns-in_err-fold_value-clause-refused
 fold_values-returns-in_err-fold_value-clause-refused t c =
     let e = c.in_err-fold_value.field-0.0 in
-    exits _ e (λ x. IsUnfolded x (trees_folded (trees_of c.args.values.now))) c.from_residual.ensures.1
+    exits _ e (λ x. RefusesFolding x (trees_folded (trees_of c.args.values.now))) c.from_residual.ensures.1
     (refused_as e (λ none. one_unfolded c.args.values.now c.loop-value.value-index c.value-item.result
     c.loop-value-test.true (rw (sym c.value-item.is) none)) c.in_err-fold_value.ensures.refused)
 
@@ -56,7 +56,7 @@ fold_pairs-loop-pair-preserved t c = rw c.in_ok-push.ensures.items
 pub fold_pairs-returns-in_err-key-clause-refused : goal.fold_pairs-returns-in_err-key-clause-refused
 fold_pairs-returns-in_err-key-clause-refused t c =
     let e = c.in_err-key.field-0.0 in
-    exits _ e (λ x. IsUnfolded x (tree_pairs_folded (tree_pairs_of c.args.pairs.now))) c.from_residual.ensures.1
+    exits _ e (λ x. RefusesFolding x (tree_pairs_folded (tree_pairs_of c.args.pairs.now))) c.from_residual.ensures.1
     (refused_as e (λ none. one_pair_unfolded c.args.pairs.now c.loop-pair.pair-index c.pair-item.result
     c.loop-pair-test.true (inl (rw (sym c.pair-item.is) none))) c.in_err-key.ensures.refused)
 

@@ -48,7 +48,8 @@ returns-in_ok-fill-in-Some-clause-takes g c =
     let is = c.in-Text.is ∙ ap header.Text c.in-Some.is in
     let fault = fault_at g.A.Access.can_fail g.A.Access.remaining new in
     by-cases c.only_character.result _ _
-    (TakesOne g.A.Access.can_fail g.A.Access.remaining old new given_character (λ v. v)) (both _ _ _ read.utf8 read.ok) read.refused
+    (TakesOne g.A.Access.can_fail g.A.Access.remaining old new given_character (λ v. v))
+    (both _ _ _ read.utf8 read.ok) read.refused
     (λ v t. let (utf8, ok) = t in
     string-given c.in_ok-header.ensures.reads c.in_ok-header.ensures.head StringType.Text (Some n) is content.keeps
     payload (payload-taken (IsUnread g.A.Access.remaining mid) (IsUnread g.A.Access.remaining new) n payload size utf8
